@@ -1,0 +1,145 @@
+-- Systems with states of any type, exploring and numbering them (document 01, "Numbering and result"). Assumes nothing: these are definitions.
+use mathlib.Core.Path.{_≡_}
+use mathlib.Core.Bool.{Bool, true, false, _&&_, _||_, cond}
+use mathlib.Core.List.{List, [], _∷_, _++_}
+use Prim.Native.Nat.{ℕ, zero, suc, _+_, _≤_, _<_}
+use lib.Dec.{ltb, leb, eqb}
+use lib.ListN.{length, getD, take}
+use Rattle.automata.specs.Automaton.{Automaton}
+
+-- a system: its initial states and the successors of a state on a letter, each in order
+pub record System (X : Type 0) : Type 0 where
+  pub letters : ℕ
+  pub starts : List X
+  pub nexts : X → (letter : ℕ) → List X
+  pub accepting : X → Bool
+  -- the decided equality of states
+  pub same : X → X → Bool
+  -- what stands where a list of states has ended
+  pub blank : X
+
+pub record Decides {X : Type 0} (s : System X) : Type 0 where
+  pub same-eq : (x y : X) → s .same x y ≡ true → x ≡ y
+  pub same-self : (x : X) → s .same x x ≡ true
+
+pub data Member {X : Type 0} (x : X) : List X → Type 0 where
+  here : {ys : List X} → Member x (x ∷ ys)
+  there : {y : X} {ys : List X} → Member x ys → Member x (y ∷ ys)
+
+-- the states that some word leads to from an initial state
+pub data Reached {X : Type 0} (s : System X) : X → Type 0 where
+  at-start : {x : X} → Member x (s .starts) → Reached s x
+  onward : {x y : X} (c : ℕ) → Reached s x → c < s .letters → Member y (s .nexts x c) → Reached s y
+
+-- NUMBERING: edges with their states' numbers
+pub record Edge : Type 0 where
+  pub source : ℕ
+  pub letter : ℕ
+  pub target : ℕ
+
+unfoldable pub an-edge : (source letter target : ℕ) → Edge
+an-edge i c j = record { source = i; letter = c; target = j }
+
+-- what has been found so far: states by number, edges by record number (less one)
+pub record Built (X : Type 0) : Type 0 where
+  pub states : List X
+  pub edges : List Edge
+
+unfoldable pub built : {X : Type 0} → List X → List Edge → Built X
+built xs es = record { states = xs; edges = es }
+
+-- the place of the first state equal to x in a list, or the list's length
+unfoldable pub number-of : {X : Type 0} → System X → X → List X → ℕ
+number-of s x [] = 0
+number-of s x (y ∷ ys) = cond (s .same x y) 0 (suc (number-of s x ys))
+
+-- a state not met before gets the next number
+unfoldable pub with-state : {X : Type 0} → System X → X → List X → List X
+with-state s x ys = cond (ltb (number-of s x ys) (length ys)) ys (ys ++ (x ∷ []))
+
+unfoldable pub with-states : {X : Type 0} → System X → List X → List X → List X
+with-states s [] ys = ys
+with-states s (x ∷ xs) ys = with-states s xs (with-state s x ys)
+
+-- the successors of a state on one letter, in order: an edge to each
+unfoldable pub add-all : {X : Type 0} → System X → (source letter : ℕ) → List X → Built X → Built X
+add-all s i c [] b = b
+add-all s i c (y ∷ ys) b =
+    add-all s i c ys
+    (built (with-state s y (b .states)) (b .edges ++ (an-edge i c (number-of s y (b .states)) ∷ [])))
+
+-- then the letters below the limit, in rising order
+unfoldable pub by-letters : {X : Type 0} → System X → (limit source : ℕ) → X → Built X → Built X
+by-letters s zero i x b = b
+by-letters s (suc c) i x b = add-all s i c (s .nexts x c) (by-letters s c i x b)
+
+unfoldable pub state-at : {X : Type 0} → System X → List X → ℕ → X
+state-at s xs i = getD xs i (s .blank)
+
+-- then the states in number order
+unfoldable pub explore-from : {X : Type 0} → (fuel : ℕ) → System X → (number : ℕ) → Built X → Built X
+explore-from zero s i b = b
+explore-from (suc f) s i b =
+    elim (leb (length (b .states)) i) [
+      | true ↦ b
+      | false ↦ explore-from f s (suc i) (by-letters s (s .letters) i (state-at s (b .states) i) b)
+    ]
+
+-- initial states come first
+unfoldable pub explore : {X : Type 0} → (fuel : ℕ) → System X → Built X
+explore f s = explore-from f s 0 (built (with-states s (s .starts) []) [])
+
+-- THE EDGES IN CLOSED FORM, given all states: by source, letter and successor
+unfoldable pub edges-to : {X : Type 0} → System X → (all : List X) → (source letter : ℕ) → List X → List Edge
+edges-to s all i c [] = []
+edges-to s all i c (y ∷ ys) = an-edge i c (number-of s y all) ∷ edges-to s all i c ys
+
+unfoldable pub edges-on : {X : Type 0} → System X → (all : List X) → (limit source : ℕ) → X → List Edge
+edges-on s all zero i x = []
+edges-on s all (suc c) i x = edges-on s all c i x ++ edges-to s all i c (s .nexts x c)
+
+unfoldable pub edges-of : {X : Type 0} → System X → (all : List X) → (limit : ℕ) → List Edge
+edges-of s all zero = []
+edges-of s all (suc i) = edges-of s all i ++ edges-on s all (s .letters) i (state-at s all i)
+
+unfoldable pub edge-at : List Edge → ℕ → Edge
+edge-at es r = getD es r (an-edge 0 0 0)
+
+-- THE SECOND DEMAND of a system and of what was found of it
+pub record Exactly {X : Type 0} (s : System X) (b : Built X) : Type 0 where
+  -- every listed state is reached, and every reached state is listed, once
+  pub reached : (i : ℕ) → i < length (b .states) → Reached s (state-at s (b .states) i)
+  pub found : (x : X) → Reached s x → (i : ℕ) × (i < length (b .states)) × (state-at s (b .states) i ≡ x)
+  pub once :
+      (i j : ℕ) → i < length (b .states) → j < length (b .states) →
+      state-at s (b .states) i ≡ state-at s (b .states) j → i ≡ j
+  -- initial states come first, in order
+  pub starts : take (length (s .starts)) (b .states) ≡ s .starts
+  -- every edge and no other, in record order
+  pub edges : b .edges ≡ edges-of s (b .states) (length (b .states))
+  -- each further state gets its number where an edge first leads to it: all targets before are smaller
+  pub discovery :
+      (i : ℕ) → length (s .starts) ≤ i → i < length (b .states) →
+      (r : ℕ) × (r < length (b .edges)) × (edge-at (b .edges) r .target ≡ i)
+      × ((q : ℕ) → q < r → edge-at (b .edges) q .target < i)
+
+-- THE NUMBERED AUTOMATON
+unfoldable pub listed : (source letter target : ℕ) → List Edge → Bool
+listed i c j [] = false
+listed i c j (e ∷ es) = (eqb (e .source) i && (eqb (e .letter) c && eqb (e .target) j)) || listed i c j es
+
+unfoldable pub numbered : {X : Type 0} → System X → Built X → Automaton
+numbered s b =
+    record {
+      states = length (b .states);
+      letters = s .letters;
+      initial = λ i. ltb i (length (s .starts));
+      accepting = λ i. ltb i (length (b .states)) && s .accepting (state-at s (b .states) i);
+      edge = λ i c j. listed i c j (b .edges);
+    }
+
+-- an accepting run of the system itself
+pub record System-run {X : Type 0} (s : System X) (w : ℕ → ℕ) (run : ℕ → X) : Type 0 where
+  pub begins : Member (run 0) (s .starts)
+  pub goes-on : (i : ℕ) → Member (run (suc i)) (s .nexts (run i) (w i))
+  pub accepting : (i : ℕ) → (j : ℕ) × (i ≤ j) × (s .accepting (run j) ≡ true)

@@ -1,0 +1,184 @@
+-- Laws of tests over all numbers below a limit, of counting them, and two pigeonholes. Assumes nothing.
+use mathlib.Core.Path.{_≡_, refl, sym, _∙_, ap}
+use mathlib.Core.Bool.{Bool, true, false, _&&_, _||_, not, cond}
+use mathlib.Core.Logic.{_⊎_, inl, inr, _↔_}
+use Prim.Native.Nat.{ℕ, zero, suc, _+_, _-_, _≤_, _<_}
+use native.Mathlib.Omega.{arith}
+use lib.Dec.{ltb, leb, eqb}
+use Rattle.basics.specs.Bounded.{each, any, count}
+use Rattle.basics.proofs.Booleans.{either, clash, and-l, and-r, and-make, or-l, or-r, or-true, or-false, or-false-l, or-false-r, eqb-eq, eq-eqb, ltb-lt, ltb-ge, eqb-ne}
+
+-- what holds of each number below the limit
+pub each-all : (k : ℕ) (f : ℕ → Bool) → each k f ≡ true → (i : ℕ) → i < k → f i ≡ true
+unfolding each
+each-all zero f h i l = absurd (omega arith)
+each-all (suc k) f h i l =
+    elim (either (eqb i k)) [
+      | inl e ↦ rw (eqb-eq i k e) (and-r (each k f) h)
+      | inr e ↦ let ne = eqb-ne i k e in each-all k f (and-l (f k) h) i (omega arith)
+    ]
+
+pub each-make : (k : ℕ) (f : ℕ → Bool) → ((i : ℕ) → i < k → f i ≡ true) → each k f ≡ true
+unfolding each
+each-make zero f h = refl
+each-make (suc k) f h = and-make (each-make k f (λ i l. h i (omega arith))) (h k (omega arith))
+
+-- search: a number below the limit of which the test holds, or none
+pub search-to : (k : ℕ) (f : ℕ → Bool) → ((i : ℕ) × (i < k) × (f i ≡ true)) ⊎ ((i : ℕ) → i < k → f i ≡ false)
+search-to zero f = inr (λ i l. absurd (omega arith))
+search-to (suc k) f = go (search-to k f) (either (f k))
+  where
+    go :
+        ((i : ℕ) × (i < k) × (f i ≡ true)) ⊎ ((i : ℕ) → i < k → f i ≡ false) → (f k ≡ true) ⊎ (f k ≡ false) →
+        ((i : ℕ) × (i < suc k) × (f i ≡ true)) ⊎ ((i : ℕ) → i < suc k → f i ≡ false)
+    go (inl r) e = inl (r .0, (let l = r .1 in omega arith), r .2)
+    go (inr none) (inl e) = inl (k, (omega arith), e)
+    go (inr none) (inr e) =
+        inr
+        (λ i l.
+        elim (either (eqb i k)) [
+          | inl q ↦ rw (eqb-eq i k q) e
+          | inr q ↦ let ne = eqb-ne i k q in none i (omega arith)
+        ])
+
+pub any-make : (k : ℕ) (f : ℕ → Bool) (i : ℕ) → i < k → f i ≡ true → any k f ≡ true
+unfolding any
+any-make zero f i l e = absurd (omega arith)
+any-make (suc k) f i l e =
+    elim (either (eqb i k)) [
+      | inl q ↦ or-r (any k f) (rw (eqb-eq i k q) at e)
+      | inr q ↦ let ne = eqb-ne i k q in or-l (f k) (any-make k f i (omega arith) e)
+    ]
+
+pub any-none : (k : ℕ) (f : ℕ → Bool) → ((i : ℕ) → i < k → f i ≡ false) → any k f ≡ false
+unfolding any
+any-none zero f h = refl
+any-none (suc k) f h = or-false (any-none k f (λ i l. h i (omega arith))) (h k (omega arith))
+
+pub any-find : (k : ℕ) (f : ℕ → Bool) → any k f ≡ true → (i : ℕ) × (i < k) × (f i ≡ true)
+any-find k f h = go (search-to k f)
+  where
+    go : ((i : ℕ) × (i < k) × (f i ≡ true)) ⊎ ((i : ℕ) → i < k → f i ≡ false) → (i : ℕ) × (i < k) × (f i ≡ true)
+    go (inl r) = r
+    go (inr none) = absurd (clash h (any-none k f none))
+
+pub any-no : (k : ℕ) (f : ℕ → Bool) → any k f ≡ false → (i : ℕ) → i < k → f i ≡ false
+any-no k f h i l = elim (either (f i)) [ inl e ↦ absurd (clash (any-make k f i l e) h) | inr e ↦ e ]
+
+-- tests that agree below the limit
+pub each-same : (k : ℕ) (f g : ℕ → Bool) → ((i : ℕ) → i < k → f i ≡ g i) → each k f ≡ each k g
+unfolding each
+each-same zero f g h = refl
+each-same (suc k) f g h = let a = each-same k f g (λ i l. h i (omega arith)) in let b = h k (omega arith) in cc
+
+pub any-same : (k : ℕ) (f g : ℕ → Bool) → ((i : ℕ) → i < k → f i ≡ g i) → any k f ≡ any k g
+unfolding any
+any-same zero f g h = refl
+any-same (suc k) f g h = let a = any-same k f g (λ i l. h i (omega arith)) in let b = h k (omega arith) in cc
+
+pub count-same : (k : ℕ) (f g : ℕ → Bool) → ((i : ℕ) → i < k → f i ≡ g i) → count k f ≡ count k g
+unfolding count
+count-same zero f g h = refl
+count-same (suc k) f g h = let a = count-same k f g (λ i l. h i (omega arith)) in let b = h k (omega arith) in cc
+
+-- counting
+pub count-le : (k : ℕ) (f : ℕ → Bool) → count k f ≤ k
+unfolding count
+count-le zero f = omega arith
+count-le (suc k) f =
+    let h = count-le k f in
+    elim (either (f k)) [ inl e ↦ rw e (omega arith) | inr e ↦ rw e (omega arith) ]
+
+-- where every hit of f is one of g, there are no more of them
+pub count-mono : (k : ℕ) (f g : ℕ → Bool) → ((i : ℕ) → i < k → f i ≡ true → g i ≡ true) → count k f ≤ count k g
+unfolding count
+count-mono zero f g h = omega arith
+count-mono (suc k) f g h =
+    let r = count-mono k f g (λ i l. h i (omega arith)) in
+    elim (either (f k)) [
+      | inl e ↦ let e′ = h k (omega arith) e in rw (e, e′) (omega arith)
+      | inr e ↦ rw e (omega arith)
+    ]
+
+-- and fewer, where g has a hit that f has not
+pub count-less :
+    (k : ℕ) (f g : ℕ → Bool) → ((i : ℕ) → i < k → f i ≡ true → g i ≡ true) → (j : ℕ) → j < k → f j ≡ false → g j ≡ true →
+    count k f < count k g
+unfolding count
+count-less zero f g h j l n y = absurd (omega arith)
+count-less (suc k) f g h j l n y =
+    elim (either (eqb j k)) [
+      | inl q ↦
+          let e = eqb-eq j k q in
+          let n′ : f k ≡ false = rw e at n in
+          let y′ : g k ≡ true = rw e at y in
+          let r = count-mono k f g (λ i l. h i (omega arith)) in rw (n′, y′) (omega arith)
+      | inr q ↦
+          let ne = eqb-ne j k q in
+          let r = count-less k f g (λ i l. h i (omega arith)) j (omega arith) n y in
+          elim (either (f k)) [
+            | inl e ↦ let e′ = h k (omega arith) e in rw (e, e′) (omega arith)
+            | inr e ↦ rw e (omega arith)
+          ]
+    ]
+
+-- the pigeonhole: among n + 1 values below n two are the same
+pub pigeonhole :
+    (n : ℕ) (f : ℕ → ℕ) → ((i : ℕ) → i ≤ n → f i < n) → (a : ℕ) × (b : ℕ) × (a < b) × (b ≤ n) × (f a ≡ f b)
+pigeonhole zero f h = absurd (let l = h 0 (omega arith) in omega arith)
+pigeonhole (suc n) f h = go (λ g k. pigeonhole n g k) (search-to (suc n) (λ i. eqb (f i) (f (suc n))))
+  where
+    -- the last value squeezed out of the others
+    squeezed : ℕ → ℕ
+    squeezed i = cond (ltb (f (suc n)) (f i)) (f i - 1) (f i)
+
+    back :
+        (i j : ℕ) → (f i ≡ f (suc n) → ⊥) → (f j ≡ f (suc n) → ⊥) → squeezed i ≡ squeezed j → f i ≡ f j
+    back i j ni nj e =
+        elim (either (ltb (f (suc n)) (f i))) [
+          | inl p ↦
+              elim (either (ltb (f (suc n)) (f j))) [
+                | inl q ↦
+                    let e′ : f i - 1 ≡ f j - 1 = rw (p, q) at e in
+                    let lp = ltb-lt (f (suc n)) (f i) p in let lq = ltb-lt (f (suc n)) (f j) q in omega arith
+                | inr q ↦
+                    let e′ : f i - 1 ≡ f j = rw (p, q) at e in
+                    let lp = ltb-lt (f (suc n)) (f i) p in let lq = ltb-ge (f (suc n)) (f j) q in absurd (nj (omega arith))
+              ]
+          | inr p ↦
+              elim (either (ltb (f (suc n)) (f j))) [
+                | inl q ↦
+                    let e′ : f i ≡ f j - 1 = rw (p, q) at e in
+                    let lp = ltb-ge (f (suc n)) (f i) p in let lq = ltb-lt (f (suc n)) (f j) q in absurd (ni (omega arith))
+                | inr q ↦ rw (p, q) at e
+              ]
+        ]
+
+    small : ((i : ℕ) → i < suc n → eqb (f i) (f (suc n)) ≡ false) → (i : ℕ) → i ≤ n → squeezed i < n
+    small none i l =
+        let li = h i (omega arith) in
+        let ln = h (suc n) (omega arith) in
+        let ne = eqb-ne (f i) (f (suc n)) (none i (omega arith)) in
+        elim (either (ltb (f (suc n)) (f i))) [
+          | inl p ↦ let lp = ltb-lt (f (suc n)) (f i) p in rw p (omega arith)
+          | inr p ↦ let lp = ltb-ge (f (suc n)) (f i) p in rw p (omega arith)
+        ]
+
+    lift :
+        ((i : ℕ) → i < suc n → eqb (f i) (f (suc n)) ≡ false) →
+        (a : ℕ) × (b : ℕ) × (a < b) × (b ≤ n) × (squeezed a ≡ squeezed b) →
+        (a : ℕ) × (b : ℕ) × (a < b) × (b ≤ suc n) × (f a ≡ f b)
+    lift none (a, b, l, m, e) = (
+      a,
+      b,
+      l,
+      (omega arith),
+      back a b (eqb-ne (f a) (f (suc n)) (none a (omega arith))) (eqb-ne (f b) (f (suc n)) (none b (omega arith))) e,
+    )
+
+    go :
+        ((g : ℕ → ℕ) → ((i : ℕ) → i ≤ n → g i < n) → (a : ℕ) × (b : ℕ) × (a < b) × (b ≤ n) × (g a ≡ g b)) →
+        ((i : ℕ) × (i < suc n) × (eqb (f i) (f (suc n)) ≡ true)) ⊎ ((i : ℕ) → i < suc n → eqb (f i) (f (suc n)) ≡ false) →
+        (a : ℕ) × (b : ℕ) × (a < b) × (b ≤ suc n) × (f a ≡ f b)
+    go smaller (inl r) = (r .0, suc n, r .1, (omega arith), eqb-eq (f (r .0)) (f (suc n)) (r .2))
+    go smaller (inr none) = lift none (smaller squeezed (small none))

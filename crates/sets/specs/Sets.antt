@@ -1,0 +1,35 @@
+-- Sets of states, written as numbers: state q adds 2^q (document 01, "The quadruple and its step"). Assumes nothing: these are definitions.
+-- Meet and join of two sets are the numbers' bitAnd and bitOr.
+use mathlib.Core.Bool.{Bool, true, false, cond}
+use mathlib.Core.List.{List, [], _∷_, _++_, map}
+use Prim.Native.Nat.{ℕ, zero, suc, _+_, _-_, _/_, _%_, _^_}
+use lib.Dec.{eqb}
+use lib.Bits.{bitAnd, bitOr}
+use Rattle.basics.specs.Bounded.{count}
+
+-- state q is in the set
+unfoldable pub has : (set q : ℕ) → Bool
+has s q = eqb (s / 2 ^ q % 2) 1
+
+-- how many of the states below the limit are in the set
+unfoldable pub size : (limit set : ℕ) → ℕ
+size k s = count k (has s)
+
+-- what is in a and not in b
+unfoldable pub without : (a b : ℕ) → ℕ
+without a b = a - bitAnd a b
+
+-- the set of the states below the limit of which a test holds
+unfoldable pub set-of : (limit : ℕ) → (ℕ → Bool) → ℕ
+set-of zero f = 0
+set-of (suc k) f = set-of k f + cond (f k) (2 ^ k) 0
+
+-- the rows of the members below the limit, joined
+unfoldable pub union : (limit set : ℕ) → (row : ℕ → ℕ) → ℕ
+union zero s row = 0
+union (suc q) s row = let r = union q s row in cond (has s q) (bitOr r (row q)) r
+
+-- the parts of a set of states below the limit, by rising number
+unfoldable pub subsets : (limit set : ℕ) → List ℕ
+subsets zero s = 0 ∷ []
+subsets (suc q) s = let r = subsets q s in cond (has s q) (r ++ map (λ x. 2 ^ q + x) r) r

@@ -1,0 +1,111 @@
+-- Chained tables and refusals 2 to 9 (document 01, "The chained table" and "Refusals"). Assumes nothing: these are definitions.
+use mathlib.Core.Bool.{Bool, true, false, _&&_, _||_, not, cond}
+use mathlib.Core.List.{List}
+use Prim.Native.Nat.{ℕ, zero, suc, _+_, _*_, _-_, _/_, _%_}
+use lib.Dec.{ltb, leb, eqb}
+use lib.ListN.{length, getD}
+use Rattle.basics.specs.Bounded.{each, count}
+use Rattle.automata.specs.Automaton.{Automaton}
+
+-- THE TWO RANGES of one form
+pub record Limits : Type 0 where
+  pub states : ℕ
+  pub records : ℕ
+
+-- a pattern has 1 to 32 states and 0 to 4,096 records
+unfoldable pub pattern-range : Limits
+pattern-range = record { states = 32; records = 4096 }
+
+-- a wide table has 1 to 65,535 states and 0 to 65,535 records
+unfoldable pub wide-range : Limits
+wide-range = record { states = 65535; records = 65535 }
+
+-- WORDS: n, k, m; flags and head of each state; letter, target and next of each record
+unfoldable pub n-of : List ℕ → ℕ
+n-of t = getD t 0 0
+
+unfoldable pub k-of : List ℕ → ℕ
+k-of t = getD t 1 0
+
+unfoldable pub m-of : List ℕ → ℕ
+m-of t = getD t 2 0
+
+unfoldable pub flags-of : List ℕ → (state : ℕ) → ℕ
+flags-of t q = getD t (3 + 2 * q) 0
+
+unfoldable pub head-of : List ℕ → (state : ℕ) → ℕ
+head-of t q = getD t (4 + 2 * q) 0
+
+-- where a record's words begin; records are numbered from 1
+unfoldable pub record-at : List ℕ → (number : ℕ) → ℕ
+record-at t r = 3 + 2 * n-of t + 3 * (r - 1)
+
+unfoldable pub letter-of : List ℕ → (number : ℕ) → ℕ
+letter-of t r = getD t (record-at t r) 0
+
+unfoldable pub target-of : List ℕ → (number : ℕ) → ℕ
+target-of t r = getD t (record-at t r + 1) 0
+
+unfoldable pub next-of : List ℕ → (number : ℕ) → ℕ
+next-of t r = getD t (record-at t r + 2) 0
+
+-- flags: 1 initial, 2 accepting, 3 both
+unfoldable pub is-initial : List ℕ → (state : ℕ) → Bool
+is-initial t q = eqb (flags-of t q % 2) 1
+
+unfoldable pub is-accepting : List ℕ → (state : ℕ) → Bool
+is-accepting t q = leb 2 (flags-of t q)
+
+-- a chain from record r on has a record with this letter and target; zero ends the chain
+unfoldable pub chain-has : (fuel : ℕ) → List ℕ → (r letter target : ℕ) → Bool
+chain-has zero t r c q = false
+chain-has (suc f) t r c q =
+    not (eqb r 0) && ((eqb (letter-of t r) c && eqb (target-of t r) q) || chain-has f t (next-of t r) c q)
+
+-- the records of a state's chain are its edges
+unfoldable pub edge : List ℕ → (source letter target : ℕ) → Bool
+edge t p c q = chain-has (m-of t) t (head-of t p) c q
+
+-- WHAT A TABLE MEANS, at any width; only numbers below n are states
+unfoldable pub meaning : List ℕ → Automaton
+meaning t =
+    record {
+      states = n-of t;
+      letters = k-of t;
+      initial = λ q. ltb q (n-of t) && is-initial t q;
+      accepting = λ q. ltb q (n-of t) && is-accepting t q;
+      edge = λ p c q. (ltb p (n-of t) && ltb q (n-of t)) && edge t p c q;
+    }
+
+-- REFUSALS 2 TO 9: each test covers the whole table
+unfoldable pub flags-good : List ℕ → Bool
+flags-good t = each (n-of t) (λ q. leb (flags-of t q) 3)
+
+unfoldable pub records-good : List ℕ → Bool
+records-good t = each (m-of t) (λ i. ltb (letter-of t (suc i)) (k-of t) && ltb (target-of t (suc i)) (n-of t))
+
+-- how often a record is named among all heads and nexts
+unfoldable pub named : List ℕ → (r : ℕ) → ℕ
+named t r = count (n-of t) (λ q. eqb (head-of t q) r) + count (m-of t) (λ i. eqb (next-of t (suc i)) r)
+
+-- 9: links within m, nexts zero or forward, each record named exactly once
+unfoldable pub heads-good : List ℕ → Bool
+heads-good t = each (n-of t) (λ q. leb (head-of t q) (m-of t))
+
+unfoldable pub nexts-good : List ℕ → Bool
+nexts-good t =
+    each (m-of t) (λ i. leb (next-of t (suc i)) (m-of t) && (eqb (next-of t (suc i)) 0 || ltb (suc i) (next-of t (suc i))))
+
+unfoldable pub chains-good : List ℕ → Bool
+chains-good t = heads-good t && (nexts-good t && each (m-of t) (λ i. eqb (named t (suc i)) 1))
+
+unfoldable pub table-refusal : Limits → List ℕ → ℕ
+table-refusal r t =
+    cond (ltb (length t) 3) 2
+    (cond (not (leb 1 (n-of t) && leb (n-of t) (r .states))) 3
+    (cond (not (leb 1 (k-of t) && leb (k-of t) 16)) 4
+    (cond (ltb (r .records) (m-of t)) 5
+    (cond (not (eqb (length t) (3 + 2 * n-of t + 3 * m-of t))) 6
+    (cond (not (flags-good t)) 7
+    (cond (not (records-good t)) 8
+    (cond (not (chains-good t)) 9 0)))))))
