@@ -1,0 +1,4 @@
+pub mod Bound
+pub mod Moves
+pub mod Step
+pub mod Successors
