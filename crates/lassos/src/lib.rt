@@ -1,0 +1,8 @@
+// The lasso decision: whether a table takes the word of a prefix and a loop.
+
+// What the decision answers: taken, not taken, or the number of the refusal.
+pub enum Decision {
+    Taken,
+    NotTaken,
+    Refused(u32),
+}
