@@ -1,0 +1,254 @@
+-- Members of sets of states: what the operations on numbers do to each member, when two sets are equal, and bounds. Assumes nothing.
+-- Halving carries the laws between a number and its members: state 0 is the lowest digit, and state q + 1 of a set is state q of its half.
+use mathlib.Core.Path.{_≡_, refl, sym, _∙_, ap, subst}
+use mathlib.Core.Bool.{Bool, true, false, _&&_, _||_, not, cond}
+use mathlib.Core.Logic.{_⊎_, inl, inr}
+use Prim.Native.Nat.{ℕ, zero, suc, _+_, _-_, _*_, _/_, _%_, _^_, _≤_, _<_, min, max}
+use native.Mathlib.Omega.{arith}
+use native.Mathlib.Nat.{pow-suc, div-div-eq-div-mul, div-eq-of-lt, zero-div, mul-comm, one-mul, pow-succ', div-one, add-comm, add-zero, lt-of-lt-of-le, lt-of-le-of-lt, sub-le}
+use lib.Dec.{eqb, ltb, eqb·zero-suc, eqb·suc-zero, eqb·suc-suc}
+use lib.Pow.{pow-pos, pow-mono}
+use lib.Bits.{bitAnd, bitOr, and-step, or-step, and-le-l, and-le-r, or-lt, or-shifted}
+use Rattle.basics.specs.Bounded.{any}
+use Rattle.basics.proofs.Booleans.{either, clash, and-l, and-r, and-make, eqb-eq, eq-eqb, eqb-ne, ne-eqb, lt-ltb, ge-ltb, ltb-lt, ltb-ge, same-truth}
+use Rattle.basics.proofs.Bounded.{search-to}
+use Rattle.sets.specs.Sets.{has, without, set-of, union}
+
+-- halving
+pub has-first : (s : ℕ) → has s 0 ≡ eqb (s % 2) 1
+unfolding has
+has-first s = rw (div-one s)
+
+pub has-half : (s q : ℕ) → has s (suc q) ≡ has (s / 2) q
+unfolding has
+has-half s q = rw (pow-succ' 2 q, div-div-eq-div-mul s 2 (2 ^ q))
+
+-- the lowest digit, by whether state 0 is in the set
+pub first-in : (s : ℕ) → has s 0 ≡ true → s % 2 ≡ 1
+first-in s h = eqb-eq (s % 2) 1 (sym (has-first s) ∙ h)
+
+pub first-out : (s : ℕ) → has s 0 ≡ false → s % 2 ≡ 0
+first-out s h = let n = eqb-ne (s % 2) 1 (sym (has-first s) ∙ h) in omega arith
+
+pub first-made : (s : ℕ) → s % 2 ≡ 1 → has s 0 ≡ true
+first-made s h = has-first s ∙ eq-eqb h
+
+pub first-unmade : (s : ℕ) → s % 2 ≡ 0 → has s 0 ≡ false
+first-unmade s h = has-first s ∙ ne-eqb (s % 2) 1 (λ e. omega arith)
+
+-- the empty set
+pub has-zero : (q : ℕ) → has 0 q ≡ false
+has-zero zero = first-unmade 0 refl
+has-zero (suc q) = has-half 0 q ∙ has-zero q
+
+-- meet and join
+and-half : (a b : ℕ) → bitAnd a b / 2 ≡ bitAnd (a / 2) (b / 2)
+and-half a b = let h = and-step a b in omega arith
+
+and-digit : (a b : ℕ) → bitAnd a b % 2 ≡ min (a % 2) (b % 2)
+and-digit a b = let h = and-step a b in omega arith
+
+or-half : (a b : ℕ) → bitOr a b / 2 ≡ bitOr (a / 2) (b / 2)
+or-half a b = let h = or-step a b in omega arith
+
+or-digit : (a b : ℕ) → bitOr a b % 2 ≡ max (a % 2) (b % 2)
+or-digit a b = let h = or-step a b in omega arith
+
+pub has-and : (a b q : ℕ) → has (bitAnd a b) q ≡ (has a q && has b q)
+has-and a b zero =
+    let d = and-digit a b in
+    elim (either (has a 0)) [
+      | inl x ↦
+          let xd = first-in a x in
+          elim (either (has b 0)) [
+            | inl y ↦ let yd = first-in b y in let e = first-made (bitAnd a b) (omega arith) in cc
+            | inr y ↦ let yd = first-out b y in let e = first-unmade (bitAnd a b) (omega arith) in cc
+          ]
+      | inr x ↦ let xd = first-out a x in let e = first-unmade (bitAnd a b) (omega arith) in cc
+    ]
+has-and a b (suc q) =
+    let ih = has-and (a / 2) (b / 2) q in
+    cc (has-half (bitAnd a b) q, and-half a b, has-half a q, has-half b q)
+
+pub has-or : (a b q : ℕ) → has (bitOr a b) q ≡ (has a q || has b q)
+has-or a b zero =
+    let d = or-digit a b in
+    elim (either (has a 0)) [
+      | inl x ↦ let xd = first-in a x in let e = first-made (bitOr a b) (omega arith) in cc
+      | inr x ↦
+          let xd = first-out a x in
+          elim (either (has b 0)) [
+            | inl y ↦ let yd = first-in b y in let e = first-made (bitOr a b) (omega arith) in cc
+            | inr y ↦ let yd = first-out b y in let e = first-unmade (bitOr a b) (omega arith) in cc
+          ]
+    ]
+has-or a b (suc q) =
+    let ih = has-or (a / 2) (b / 2) q in
+    cc (has-half (bitOr a b) q, or-half a b, has-half a q, has-half b q)
+
+-- what is in a and not in b
+without-half : (a b : ℕ) → without a b / 2 ≡ without (a / 2) (b / 2)
+unfolding without
+without-half a b = let h = and-step a b in let l = and-le-l (a / 2) (b / 2) in omega arith
+
+without-digit : (a b : ℕ) → without a b % 2 ≡ a % 2 - min (a % 2) (b % 2)
+unfolding without
+without-digit a b = let h = and-step a b in let l = and-le-l (a / 2) (b / 2) in omega arith
+
+pub has-without : (a b q : ℕ) → has (without a b) q ≡ (has a q && not (has b q))
+has-without a b zero =
+    let d = without-digit a b in
+    elim (either (has a 0)) [
+      | inl x ↦
+          let xd = first-in a x in
+          elim (either (has b 0)) [
+            | inl y ↦ let yd = first-in b y in let e = first-unmade (without a b) (omega arith) in cc
+            | inr y ↦ let yd = first-out b y in let e = first-made (without a b) (omega arith) in cc
+          ]
+      | inr x ↦ let xd = first-out a x in let e = first-unmade (without a b) (omega arith) in cc
+    ]
+has-without a b (suc q) =
+    let ih = has-without (a / 2) (b / 2) q in
+    cc (has-half (without a b) q, without-half a b, has-half a q, has-half b q)
+
+pub without-le : (a b : ℕ) → without a b ≤ a
+unfolding without
+without-le a b = sub-le a (bitAnd a b)
+
+pub without-lt : (k a b : ℕ) → a < 2 ^ k → without a b < 2 ^ k
+without-lt k a b l = lt-of-le-of-lt (without-le a b) l
+
+-- the set of one state
+pub has-single : (p q : ℕ) → has (2 ^ p) q ≡ eqb p q
+has-single zero zero = first-made 1 refl
+has-single zero (suc q) = has-half 1 q ∙ has-zero q ∙ sym (eqb·zero-suc q)
+has-single (suc p) zero =
+    let h = pow-suc 2 p in first-unmade (2 ^ suc p) (omega arith) ∙ sym (eqb·suc-zero p)
+has-single (suc p) (suc q) =
+    let h = pow-suc 2 p in
+    let e : 2 ^ suc p / 2 ≡ 2 ^ p = omega arith in
+    has-half (2 ^ suc p) q ∙ ap (λ (s : ℕ). has s q) e ∙ has-single p q ∙ sym (eqb·suc-suc p q)
+
+-- a set below 2 ^ k has no state from k on
+pub has-out : (k s q : ℕ) → s < 2 ^ k → k ≤ q → has s q ≡ false
+unfolding has
+has-out k s q l m =
+    let e : s / 2 ^ q ≡ 0 = div-eq-of-lt (lt-of-lt-of-le l (pow-mono m)) in rw e
+
+-- so a member is below k
+pub has-lt : (k s q : ℕ) → s < 2 ^ k → has s q ≡ true → q < k
+has-lt k s q l h =
+    elim (either (ltb q k)) [
+      | inl e ↦ ltb-lt q k e
+      | inr e ↦ absurd (clash h (has-out k s q l (ltb-ge q k e)))
+    ]
+
+-- sets with the same members are equal
+pub ext : (k a b : ℕ) → a < 2 ^ k → b < 2 ^ k → ((q : ℕ) → q < k → has a q ≡ has b q) → a ≡ b
+ext zero a b la lb h = omega arith
+ext (suc k) a b la lb h =
+    let p = pow-suc 2 k in
+    let halves =
+    ext k (a / 2) (b / 2) (omega arith) (omega arith)
+    (λ q l. sym (has-half a q) ∙ h (suc q) (omega arith) ∙ has-half b q) in
+    let first : has a 0 ≡ has b 0 = h 0 (omega arith) in
+    elim (either (has a 0)) [
+      | inl x ↦ let da = first-in a x in let db = first-in b (sym first ∙ x) in omega arith
+      | inr x ↦ let da = first-out a x in let db = first-out b (sym first ∙ x) in omega arith
+    ]
+
+-- a number is below its own power of two
+pub lt-pow : (s : ℕ) → s < 2 ^ s
+lt-pow zero = omega arith
+lt-pow (suc s) = let ih = lt-pow s in let p = pow-suc 2 s in omega arith
+
+pub ext-all : (a b : ℕ) → ((q : ℕ) → has a q ≡ has b q) → a ≡ b
+ext-all a b h =
+    let la = lt-of-lt-of-le (lt-pow a) (pow-mono {i = a} {j = a + b} (omega arith)) in
+    let lb = lt-of-lt-of-le (lt-pow b) (pow-mono {i = b} {j = a + b} (omega arith)) in
+    ext (a + b) a b la lb (λ q l. h q)
+
+-- a set is empty exactly if it has no member
+pub empty : (k s : ℕ) → s < 2 ^ k → ((q : ℕ) → q < k → has s q ≡ false) → s ≡ 0
+empty k s l h = ext k s 0 l (pow-pos k) (λ q m. h q m ∙ sym (has-zero q))
+
+pub empty-no : (s q : ℕ) → s ≡ 0 → has s q ≡ false
+empty-no s q e = rw e (has-zero q)
+
+pub has-nonzero : (s q : ℕ) → has s q ≡ true → s ≡ 0 → ⊥
+has-nonzero s q h e = clash h (empty-no s q e)
+
+pub has-some : (k s : ℕ) → s < 2 ^ k → (s ≡ 0 → ⊥) → (q : ℕ) × (q < k) × (has s q ≡ true)
+has-some k s l n = go (search-to k (has s))
+  where
+    go :
+        ((q : ℕ) × (q < k) × (has s q ≡ true)) ⊎ ((q : ℕ) → q < k → has s q ≡ false) →
+        (q : ℕ) × (q < k) × (has s q ≡ true)
+    go (inl r) = r
+    go (inr none) = absurd (n (empty k s l none))
+
+-- a set below 2 ^ k with the state k added
+pub has-top : (k s q : ℕ) → s < 2 ^ k → has (2 ^ k + s) q ≡ (eqb k q || has s q)
+has-top k s q l =
+    let e : bitOr (2 ^ k) s ≡ 2 ^ k + s = rw (one-mul (2 ^ k)) at (or-shifted 1 k s l) in
+    cc (e, has-or (2 ^ k) s q, has-single k q)
+
+-- the set of the states below the limit of which a test holds
+pub set-of-lt : (k : ℕ) (f : ℕ → Bool) → set-of k f < 2 ^ k
+unfolding set-of
+set-of-lt zero f = omega arith
+set-of-lt (suc k) f =
+    let ih = set-of-lt k f in
+    let p = pow-suc 2 k in
+    elim (either (f k)) [ inl e ↦ rw e (omega arith) | inr e ↦ rw e (omega arith) ]
+
+-- one more state, where it passes
+has-added : (k s : ℕ) (b : Bool) (q : ℕ) → s < 2 ^ k → has (s + cond b (2 ^ k) 0) q ≡ (b && eqb k q || has s q)
+has-added k s true q l = rw (add-comm s (2 ^ k)) (has-top k s q l)
+has-added k s false q l = rw (add-zero s)
+
+below-suc : (k q : ℕ) → (k ≡ q → ⊥) → ltb q (suc k) ≡ ltb q k
+below-suc k q n =
+    same-truth (ltb q (suc k)) (ltb q k) (λ h. let l = ltb-lt q (suc k) h in lt-ltb {m = q} {n = k} (omega arith))
+    (λ h. let l = ltb-lt q k h in lt-ltb {m = q} {n = suc k} (omega arith))
+
+pub has-set-of : (k : ℕ) (f : ℕ → Bool) (q : ℕ) → has (set-of k f) q ≡ (ltb q k && f q)
+unfolding set-of
+has-set-of zero f q = let e : ltb q 0 ≡ false = ge-ltb {m = q} {n = 0} (omega arith) in rw e (has-zero q)
+has-set-of (suc k) f q =
+    let ih = has-set-of k f q in
+    let a = has-added k (set-of k f) (f k) q (set-of-lt k f) in
+    elim (either (eqb k q)) [
+      | inl e ↦
+          let same = eqb-eq k q e in
+          let below : ltb q (suc k) ≡ true = lt-ltb {m = q} {n = suc k} (omega arith) in
+          let out : ltb q k ≡ false = ge-ltb {m = q} {n = k} (omega arith) in
+          elim (either (f k)) [ inl y ↦ cc | inr y ↦ cc ]
+      | inr e ↦
+          let below = below-suc k q (eqb-ne k q e) in
+          elim (either (f k)) [ inl y ↦ cc | inr y ↦ cc ]
+    ]
+
+-- the rows of the members, joined
+or-false-right : (b : Bool) → (b || false) ≡ b
+or-false-right true = refl
+or-false-right false = refl
+
+pub union-lt : (n k s : ℕ) (row : ℕ → ℕ) → ((q : ℕ) → row q < 2 ^ n) → union k s row < 2 ^ n
+unfolding union
+union-lt n zero s row h = pow-pos n
+union-lt n (suc k) s row h =
+    let ih = union-lt n k s row h in
+    elim (either (has s k)) [ inl e ↦ rw e (or-lt n (union k s row) (row k) ih (h k)) | inr e ↦ rw e ih ]
+
+pub has-union :
+    (k s : ℕ) (row : ℕ → ℕ) (r : ℕ) → has (union k s row) r ≡ any k (λ q. has s q && has (row q) r)
+unfolding union any
+has-union zero s row r = has-zero r
+has-union (suc k) s row r =
+    let ih = has-union k s row r in
+    let j = has-or (union k s row) (row k) r in
+    elim (either (has s k)) [
+      | inl e ↦ cc
+      | inr e ↦ rw e (ih ∙ sym (or-false-right (any k (λ q. has s q && has (row q) r))))
+    ]
