@@ -33,6 +33,11 @@ position-letter u v i = cond (ltb i (length u)) (getD u i 0) (getD v (i - length
 unfoldable pub next-position : (u v : List ℕ) → (position : ℕ) → ℕ
 next-position u v i = cond (ltb (suc i) (positions u v)) (suc i) (length u)
 
+-- the position at a place of the endless word
+unfoldable pub position-at : (u v : List ℕ) → (place : ℕ) → ℕ
+position-at u v zero = 0
+position-at u v (suc i) = next-position u v (position-at u v i)
+
 -- a finite walk in the product of the automaton with the positions: from position i and state p to position j and state q
 pub data Walk (a : Automaton) (u v : List ℕ) (i p : ℕ) : (j q : ℕ) → Type 0 where
   stay : Walk a u v i p i p
