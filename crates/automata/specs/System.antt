@@ -31,6 +31,19 @@ pub data Reached {X : Type 0} (s : System X) : X → Type 0 where
   at-start : {x : X} → Member x (s .starts) → Reached s x
   onward : {x y : X} (c : ℕ) → Reached s x → c < s .letters → Member y (s .nexts x c) → Reached s y
 
+-- LISTS OF STATES: the state with a number
+unfoldable pub state-at : {X : Type 0} → System X → List X → (number : ℕ) → X
+state-at s xs i = getD xs i (s .blank)
+
+-- no state is listed twice
+pub record Distinct {X : Type 0} (s : System X) (xs : List X) : Type 0 where
+  pub apart : (i j : ℕ) → i < j → j < length xs → state-at s xs i ≡ state-at s xs j → ⊥
+
+-- at most so many states are reached
+pub record At-most {X : Type 0} (s : System X) (limit : ℕ) : Type 0 where
+  pub bound :
+      (xs : List X) → Distinct s xs → ((i : ℕ) → i < length xs → Reached s (state-at s xs i)) → length xs ≤ limit
+
 -- NUMBERING: edges with their states' numbers
 pub record Edge : Type 0 where
   pub source : ℕ
@@ -61,20 +74,20 @@ unfoldable pub with-states : {X : Type 0} → System X → List X → List X →
 with-states s [] ys = ys
 with-states s (x ∷ xs) ys = with-states s xs (with-state s x ys)
 
+-- an edge to one successor, which gets its number if it has none
+unfoldable pub add-edge : {X : Type 0} → System X → (source letter : ℕ) → X → Built X → Built X
+add-edge s i c y b =
+    built (with-state s y (b .states)) (b .edges ++ (an-edge i c (number-of s y (b .states)) ∷ []))
+
 -- the successors of a state on one letter, in order: an edge to each
 unfoldable pub add-all : {X : Type 0} → System X → (source letter : ℕ) → List X → Built X → Built X
 add-all s i c [] b = b
-add-all s i c (y ∷ ys) b =
-    add-all s i c ys
-    (built (with-state s y (b .states)) (b .edges ++ (an-edge i c (number-of s y (b .states)) ∷ [])))
+add-all s i c (y ∷ ys) b = add-all s i c ys (add-edge s i c y b)
 
 -- then the letters below the limit, in rising order
 unfoldable pub by-letters : {X : Type 0} → System X → (limit source : ℕ) → X → Built X → Built X
 by-letters s zero i x b = b
 by-letters s (suc c) i x b = add-all s i c (s .nexts x c) (by-letters s c i x b)
-
-unfoldable pub state-at : {X : Type 0} → System X → List X → ℕ → X
-state-at s xs i = getD xs i (s .blank)
 
 -- then the states in number order
 unfoldable pub explore-from : {X : Type 0} → (fuel : ℕ) → System X → (number : ℕ) → Built X → Built X
