@@ -1,0 +1,39 @@
+-- The reachable NCSB complement of a table, and its words (document 01, "Numbering and result"). Assumes nothing: these are definitions.
+use mathlib.Core.List.{List, [], _∷_}
+use Prim.Native.Nat.{ℕ, _^_}
+use lib.ListN.{length}
+use Rattle.basics.specs.Rows.{rows}
+use Rattle.automata.specs.Automaton.{Automaton}
+use Rattle.automata.specs.System.{System, Built, explore, state-at, numbered}
+use Rattle.tables.specs.Table.{n-of, meaning}
+use Rattle.ncsb.specs.Successors.{ncsb}
+use Rattle.ncsb.specs.declared.Quadruple.{Quadruple}
+use Rattle.patterns.specs.Pattern.{moves}
+use Rattle.layout.specs.Chained.{chained-words}
+
+-- the system of quadruples of a pattern
+unfoldable pub system-of : List ℕ → System Quadruple
+system-of t = ncsb (moves (meaning t))
+
+-- all that is reached of it; there are at most 16^n quadruples
+unfoldable pub complement : List ℕ → Built Quadruple
+complement t = explore (16 ^ n-of t) (system-of t)
+
+-- the complement as an automaton over state numbers
+unfoldable pub complement-automaton : List ℕ → Automaton
+complement-automaton t = numbered (system-of t) (complement t)
+
+-- its wide table: flags and chains
+unfoldable pub complement-words : List ℕ → List ℕ
+complement-words t = chained-words (complement-automaton t) (complement t .edges)
+
+-- how many words a record of sets has
+unfoldable pub record-width : ℕ
+record-width = 4
+
+-- a record: N, C, S, B
+unfoldable pub quadruple-words : Quadruple → List ℕ
+quadruple-words x = x .N ∷ x .C ∷ x .S ∷ x .B ∷ []
+
+unfoldable pub sets-words : List ℕ → List ℕ
+sets-words t = rows (length (complement t .states)) (λ i. quadruple-words (state-at (system-of t) (complement t .states) i))

@@ -1,0 +1,35 @@
+-- The words of a table whose chains run through consecutive records (document 01, "Numbering and result"). Assumes nothing: these are definitions.
+use mathlib.Core.Bool.{Bool, _&&_, cond}
+use mathlib.Core.List.{List, [], _∷_, _++_}
+use Prim.Native.Nat.{ℕ, zero, suc, _+_}
+use lib.Dec.{ltb, eqb}
+use lib.ListN.{length}
+use Rattle.basics.specs.Rows.{rows}
+use Rattle.automata.specs.Automaton.{Automaton}
+use Rattle.automata.specs.System.{Edge, edge-at}
+
+-- the number of the first record with this source, counted from r; zero where there is none
+unfoldable pub first-record : (r source : ℕ) → List Edge → ℕ
+first-record r i [] = 0
+first-record r i (e ∷ es) = cond (eqb (e .source) i) r (first-record (suc r) i es)
+
+-- the record behind record r + 1, if it has the same source; zero ends the chain
+unfoldable pub next-record : (es : List Edge) → (r : ℕ) → ℕ
+next-record es r =
+    cond (ltb (suc r) (length es) && eqb (edge-at es (suc r) .source) (edge-at es r .source)) (suc (suc r)) 0
+
+-- flags: 1 initial, 2 accepting, 3 both
+unfoldable pub flags-word : Automaton → (state : ℕ) → ℕ
+flags-word a i = cond (a .initial i) 1 0 + cond (a .accepting i) 2 0
+
+unfoldable pub state-row : Automaton → List Edge → (state : ℕ) → List ℕ
+state-row a es i = flags-word a i ∷ first-record 1 i es ∷ []
+
+unfoldable pub record-row : List Edge → (r : ℕ) → List ℕ
+record-row es r = edge-at es r .letter ∷ edge-at es r .target ∷ next-record es r ∷ []
+
+-- n, k, m; flags and head of each state; letter, target and next of each record
+unfoldable pub chained-words : Automaton → List Edge → List ℕ
+chained-words a es =
+    (a .states ∷ a .letters ∷ length es ∷ [])
+    ++ (rows (a .states) (state-row a es) ++ rows (length es) (record-row es))

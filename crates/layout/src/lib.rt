@@ -1,0 +1,1 @@
+// From numbered states and edges to the words of a chained table.
