@@ -1,1 +1,4 @@
+pub mod Counting
+pub mod Lowest
 pub mod Members
+pub mod Size

@@ -1,0 +1,64 @@
+-- More laws of counting the numbers below a limit of which a test holds. Assumes nothing.
+use mathlib.Core.Path.{_≡_, refl, sym, _∙_}
+use mathlib.Core.Bool.{Bool, true, false, _&&_, not, cond}
+use mathlib.Core.Logic.{inl, inr}
+use Prim.Native.Nat.{ℕ, zero, suc, _+_, _≤_, _<_}
+use native.Mathlib.Omega.{arith}
+use lib.Dec.{eqb}
+use Rattle.basics.specs.Bounded.{count}
+use Rattle.basics.proofs.Booleans.{either, clash, eqb-eq, eqb-ne}
+
+-- the first number apart
+pub count-front : (k : ℕ) (f : ℕ → Bool) → count (suc k) f ≡ cond (f 0) 1 0 + count k (λ i. f (suc i))
+unfolding count
+count-front zero f = omega arith
+count-front (suc k) f = let ih = count-front k f in omega arith
+
+-- no hit, no count; and the other way round
+pub count-none : (k : ℕ) (f : ℕ → Bool) → ((i : ℕ) → i < k → f i ≡ false) → count k f ≡ 0
+unfolding count
+count-none zero f h = refl
+count-none (suc k) f h =
+    let ih = count-none k f (λ i l. h i (omega arith)) in let e = h k (omega arith) in rw e (omega arith)
+
+-- a longer limit counts no less
+pub count-longer : (j k : ℕ) (f : ℕ → Bool) → j ≤ k → count j f ≤ count k f
+unfolding count
+count-longer j zero f l = let e : j ≡ 0 = omega arith in rw e (omega arith)
+count-longer j (suc k) f l =
+    elim (either (eqb j (suc k))) [
+      | inl e ↦ rw (eqb-eq j (suc k) e) (omega arith)
+      | inr e ↦ let n = eqb-ne j (suc k) e in let ih = count-longer j k f (omega arith) in omega arith
+    ]
+
+-- a hit is counted
+pub count-hit : (i k : ℕ) (f : ℕ → Bool) → i < k → f i ≡ true → count i f < count k f
+unfolding count
+count-hit i k f l e =
+    let m = count-longer (suc i) k f l in
+    let s : count (suc i) f ≡ count i f + 1 = rw e in omega arith
+
+-- a limit beyond the last hit
+pub count-past : (j k : ℕ) (f : ℕ → Bool) → j ≤ k → ((i : ℕ) → j ≤ i → f i ≡ false) → count k f ≡ count j f
+unfolding count
+count-past j zero f l h = let e : j ≡ 0 = omega arith in rw e
+count-past j (suc k) f l h =
+    elim (either (eqb j (suc k))) [
+      | inl e ↦ rw (eqb-eq j (suc k) e)
+      | inr e ↦
+          let n = eqb-ne j (suc k) e in
+          let ih = count-past j k f (omega arith) h in
+          let out = h k (omega arith) in rw out (omega arith)
+    ]
+
+-- the hits of f are those that are hits of g too, and those that are not
+pub count-split :
+    (k : ℕ) (f g : ℕ → Bool) → count k f ≡ count k (λ i. f i && g i) + count k (λ i. f i && not (g i))
+unfolding count
+count-split zero f g = refl
+count-split (suc k) f g =
+    let ih = count-split k f g in
+    elim (either (f k)) [
+      | inl x ↦ elim (either (g k)) [ inl y ↦ rw (x, y) (omega arith) | inr y ↦ rw (x, y) (omega arith) ]
+      | inr x ↦ rw x (omega arith)
+    ]
