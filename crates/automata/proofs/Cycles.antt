@@ -1,0 +1,193 @@
+-- Accepting runs over a lasso are accepting cycles of the product with its positions: from a run a cycle by the pigeonhole, and
+-- from a cycle the run that goes round it for ever. Assumes nothing.
+use mathlib.Core.Path.{_≡_, refl, sym, _∙_, ap}
+use mathlib.Core.Bool.{Bool, true, false}
+use mathlib.Core.List.{List}
+use mathlib.Core.Logic.{inl, inr}
+use Prim.Native.Nat.{ℕ, zero, suc, _+_, _*_, _/_, _%_, _≤_, _<_}
+use native.Mathlib.Omega.{arith}
+use lib.Arith.{digits-lt, digits-div, digits-mod}
+use lib.Dec.{eqb}
+use lib.ListN.{length}
+use Rattle.basics.proofs.Booleans.{either, eqb-eq, eqb-ne}
+use Rattle.basics.proofs.Bounded.{pigeonhole}
+use Rattle.automata.specs.Automaton.{Automaton, Path, Run, Takes, Closed}
+use Rattle.automata.specs.Lasso.{letter-at, position-at, position-letter, next-position, positions, Walk, stay, onward, Accepting-cycle}
+use Rattle.automata.proofs.Positions.{position-zero, position-next, position-below, letter-position}
+
+-- FROM A RUN TO A CYCLE
+-- the node of a place is repeated at two places: then position and state are the same
+node-position : (n i p j q : ℕ) → p < n → q < n → i * n + p ≡ j * n + q → i ≡ j
+node-position n i p j q l m e = sym (digits-div i l) ∙ ap (λ (x : ℕ). x / n) e ∙ digits-div j m
+
+node-state : (n i p j q : ℕ) → p < n → q < n → i * n + p ≡ j * n + q → p ≡ q
+node-state n i p j q l m e = sym (digits-mod i l) ∙ ap (λ (x : ℕ). x % n) e ∙ digits-mod j m
+
+module _ (a : Automaton) (u v : List ℕ) (o : 1 ≤ length v) (run : ℕ → ℕ) (path : Path a (letter-at u v) run) where
+  -- the edge from a place to the next, by position
+  edge-at : (i : ℕ) → a .edge (run i) (position-letter u v (position-at u v i)) (run (suc i)) ≡ true
+  edge-at i = rw (letter-position u v o i) at (path .goes-on i)
+
+  -- a run walks through the product
+  walk-along :
+      (i j : ℕ) → i ≤ j → Walk a u v (position-at u v i) (run i) (position-at u v j) (run j)
+  walk-along i zero l = let z : i ≡ 0 = omega arith in rw z stay
+  walk-along i (suc j) l =
+      elim (either (eqb i (suc j))) [
+        | inl e ↦ rw (eqb-eq i (suc j) e) stay
+        | inr e ↦
+            let ne = eqb-ne i (suc j) e in
+            rw (position-next u v j) (onward (run (suc j)) (walk-along i j (omega arith)) (edge-at j))
+      ]
+
+  -- two places with the same accepting node make the cycle
+  cycle-between :
+      (i j : ℕ) → i < j → position-at u v i ≡ position-at u v j → run i ≡ run j → a .accepting (run i) ≡ true →
+      Accepting-cycle a u v
+  cycle-between i j l p q e =
+      record {
+        start = run 0;
+        position = position-at u v i;
+        state = run i;
+        behind = run (suc i);
+        begins = path .begins;
+        reached = rw (position-zero u v) at (walk-along 0 i (omega arith));
+        accepts = e;
+        leaves = edge-at i;
+        returns = rw (← position-next u v i, p, q) (walk-along (suc i) j l);
+      }
+
+  -- the accepting places, one behind the other
+  module _ (often : (i : ℕ) → (j : ℕ) × (i ≤ j) × (a .accepting (run j) ≡ true)) where
+    place : ℕ → ℕ
+    place zero = often 0 .0
+    place (suc k) = often (suc (place k)) .0
+
+    place-accepts : (k : ℕ) → a .accepting (run (place k)) ≡ true
+    unfolding place
+    place-accepts zero = often 0 .2
+    place-accepts (suc k) = often (suc (place k)) .2
+
+    place-rises : (i j : ℕ) → i < j → place i < place j
+    unfolding place
+    place-rises i zero l = absurd (omega arith)
+    place-rises i (suc j) l =
+        let h = often (suc (place j)) .1 in
+        elim (either (eqb i j)) [
+          | inl e ↦ rw (eqb-eq i j e) h
+          | inr e ↦ let ne = eqb-ne i j e in let r = place-rises i j (omega arith) in omega arith
+        ]
+
+    run-cycle : Accepting-cycle a u v
+    run-cycle = go (pigeonhole (positions u v * a .states) node (λ i l. digits-lt (position-below u v o (place i)) (path .inside (place i))))
+      where
+        node : ℕ → ℕ
+        node k = position-at u v (place k) * a .states + run (place k)
+
+        go :
+            (i : ℕ) × (j : ℕ) × (i < j) × (j ≤ positions u v * a .states) × (node i ≡ node j) → Accepting-cycle a u v
+        go (i, j, l, m, e) =
+            cycle-between (place i) (place j) (place-rises i j l)
+            (node-position (a .states) (position-at u v (place i)) (run (place i)) (position-at u v (place j)) (run (place j)) (path .inside (place i)) (path .inside (place j)) e)
+            (node-state (a .states) (position-at u v (place i)) (run (place i)) (position-at u v (place j)) (run (place j)) (path .inside (place i)) (path .inside (place j)) e)
+            (place-accepts i)
+
+-- an automaton that takes a lasso has an accepting cycle over it (the states of a run are states, so the automaton need not be closed)
+pub takes-cycle : {a : Automaton} {u v : List ℕ} → 1 ≤ length v → Takes a (letter-at u v) → Accepting-cycle a u v
+takes-cycle {a} {u} {v} o t =
+    run-cycle a u v o (t .run) (t .accepting-run .path) (t .accepting-run .accepting)
+
+-- FROM A CYCLE TO A RUN
+-- what is left to walk from position i and state p to position j and state q, the next edge first
+data Ahead (a : Automaton) (u v : List ℕ) (j q : ℕ) : (i p : ℕ) → Type 0 where
+  arrived : {i p : ℕ} → i ≡ j → p ≡ q → Ahead a u v j q i p
+  next :
+      {i p : ℕ} (r : ℕ) → a .edge p (position-letter u v i) r ≡ true → Ahead a u v j q (next-position u v i) r →
+      Ahead a u v j q i p
+
+ahead-of :
+    {a : Automaton} {u v : List ℕ} {j q i p k r : ℕ} → Walk a u v i p k r → Ahead a u v j q k r → Ahead a u v j q i p
+ahead-of stay h = h
+ahead-of (onward r w e) h = ahead-of w (next r e h)
+
+module _ (a : Automaton) (u v : List ℕ) (j q behind : ℕ)
+    (leaves : a .edge q (position-letter u v j) behind ≡ true)
+    (returns : Ahead a u v j q (next-position u v j) behind) where
+  -- where the run is, with what is left to walk to the cycle's node
+  record At : Type 0 where
+    position : ℕ
+    state : ℕ
+    rest : Ahead a u v j q position state
+
+  onward-from : (i p : ℕ) → Ahead a u v j q i p → At
+  onward-from i p (arrived e f) = record { position = next-position u v j; state = behind; rest = returns }
+  onward-from i p (next r e h) = record { position = next-position u v i; state = r; rest = h }
+
+  from-position : (i p : ℕ) (h : Ahead a u v j q i p) → onward-from i p h .position ≡ next-position u v i
+  unfolding onward-from
+  from-position i p (arrived e f) = rw e
+  from-position i p (next r e h) = refl
+
+  from-edge :
+      (i p : ℕ) (h : Ahead a u v j q i p) → a .edge p (position-letter u v i) (onward-from i p h .state) ≡ true
+  unfolding onward-from
+  from-edge i p (arrived e f) = rw (e, f) leaves
+  from-edge i p (next r e h) = e
+
+  module _ (start : At) where
+    -- the run at each place
+    at : ℕ → At
+    at zero = start
+    at (suc k) = onward-from (at k .position) (at k .state) (at k .rest)
+
+    at-position : start .position ≡ 0 → (k : ℕ) → at k .position ≡ position-at u v k
+    unfolding at position-at
+    at-position z zero = z
+    at-position z (suc k) =
+        from-position (at k .position) (at k .state) (at k .rest) ∙ ap (next-position u v) (at-position z k)
+
+    at-edge :
+        (k : ℕ) → a .edge (at k .state) (position-letter u v (at k .position)) (at (suc k) .state) ≡ true
+    unfolding at
+    at-edge k = from-edge (at k .position) (at k .state) (at k .rest)
+
+    -- it comes to the cycle's node again from each place, since each step leaves less to walk
+    comes-again :
+        (k i p : ℕ) (h : Ahead a u v j q i p) → at k ≡ record { position = i; state = p; rest = h } →
+        (m : ℕ) × (k ≤ m) × (at m .state ≡ q)
+    unfolding at onward-from
+    comes-again k i p (arrived e f) s = (k, (omega arith), ap (λ (t : At). t .state) s ∙ f)
+    comes-again k i p (next r e h) s =
+        let l = comes-again (suc k) (next-position u v i) r h (ap (λ (t : At). onward-from (t .position) (t .state) (t .rest)) s) in
+        (l .0, (let b = l .1 in omega arith), l .2)
+
+    -- so it is an accepting run
+    goes-round :
+        Closed a → 1 ≤ length v → start .position ≡ 0 → a .initial (start .state) ≡ true → a .accepting q ≡ true →
+        Takes a (letter-at u v)
+    unfolding at
+    goes-round closed o z begins accepts =
+        record {
+          run = λ i. at i .state;
+          accepting-run =
+              record {
+                path =
+                    record {
+                      inside = λ i. closed .edge (at i .state) (letter-at u v i) (at (suc i) .state) (edge i) .0;
+                      begins = begins;
+                      goes-on = edge;
+                    };
+                accepting = λ i.
+                    let (m, l, e) = comes-again i (at i .position) (at i .state) (at i .rest) refl in (m, l, rw e accepts);
+              };
+        }
+      where
+        edge : (i : ℕ) → a .edge (at i .state) (letter-at u v i) (at (suc i) .state) ≡ true
+        edge i = rw (letter-position u v o i, ← at-position z i) (at-edge i)
+
+-- an accepting cycle over a lasso gives an accepting run: along the walk to it, then round it for ever
+pub cycle-takes :
+    {a : Automaton} {u v : List ℕ} → Closed a → 1 ≤ length v → Accepting-cycle a u v → Takes a (letter-at u v)
+cycle-takes {a} {u} {v} closed o c =
+    goes-round a u v (c .position) (c .state) (c .behind) (c .leaves) (ahead-of (c .returns) (arrived refl refl))
+    (record { position = 0; state = c .start; rest = ahead-of (c .reached) (arrived refl refl) }) closed o refl (c .begins) (c .accepts)
