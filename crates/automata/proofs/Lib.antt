@@ -1,3 +1,4 @@
 pub mod Cycles
 pub mod Members
 pub mod Positions
+pub mod Same
