@@ -1,3 +1,4 @@
 pub mod Automaton
+pub mod Decision
 pub mod Lasso
 pub mod System
