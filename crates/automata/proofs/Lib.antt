@@ -1,4 +1,5 @@
 pub mod Cycles
+pub mod Graphs
 pub mod Members
 pub mod Positions
 pub mod Same
