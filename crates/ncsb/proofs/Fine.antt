@@ -1,14 +1,14 @@
 -- Every initial quadruple and every quadruple that follows another is fine: N in Q1, C and S apart in Q2, S without F, B in C. Assumes nothing.
-use mathlib.Core.Path.{_≡_, refl, sym, _∙_}
-use mathlib.Core.Bool.{Bool, true, false}
-use mathlib.Core.Logic.{_⊎_, inl, inr}
-use Prim.Native.Nat.{ℕ}
+use mathlib.Core.Path.{_≡_}
+use mathlib.Core.Bool.{true}
+use mathlib.Core.Logic.{inl, inr}
+use Prim.Native.Nat.{ℕ, zero, suc}
 use lib.Dec.{eqb}
 use Rattle.basics.proofs.Booleans.{either, eqb-eq, eqb-ne}
 use Rattle.automata.specs.Automaton.{Automaton}
 use Rattle.sets.specs.Sets.{has}
 use Rattle.ncsb.specs.Moves.{Moves}
-use Rattle.ncsb.specs.Step.{Start, Step, Fine}
+use Rattle.ncsb.specs.Step.{Start, Step, Ncsb-run, Fine}
 use Rattle.ncsb.specs.declared.Quadruple.{Quadruple}
 
 pub start-fine : {a : Automaton} {d : Moves} {x : Quadruple} → Start a d x → Fine d x
@@ -43,3 +43,8 @@ step-fine s =
       unmarked = s .unmarked;
       tracked = step-tracked s;
     }
+
+pub run-fine :
+    {a : Automaton} {d : Moves} {w : ℕ → ℕ} {f : ℕ → Quadruple} → Ncsb-run a d w f → (i : ℕ) → Fine d (f i)
+run-fine r zero = start-fine (r .begins)
+run-fine r (suc i) = step-fine (r .goes-on i)

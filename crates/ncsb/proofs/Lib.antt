@@ -1,1 +1,4 @@
+pub mod Breakpoint
+pub mod Disjoint
 pub mod Fine
+pub mod Unique
