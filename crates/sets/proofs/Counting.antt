@@ -7,6 +7,7 @@ use native.Mathlib.Omega.{arith}
 use lib.Dec.{eqb}
 use Rattle.basics.specs.Bounded.{count}
 use Rattle.basics.proofs.Booleans.{either, clash, eqb-eq, eqb-ne}
+use Rattle.basics.proofs.Bounded.{count-same}
 
 -- the first number apart
 pub count-front : (k : ℕ) (f : ℕ → Bool) → count (suc k) f ≡ cond (f 0) 1 0 + count k (λ i. f (suc i))
@@ -49,6 +50,25 @@ count-past j (suc k) f l h =
           let n = eqb-ne j (suc k) e in
           let ih = count-past j k f (omega arith) h in
           let out = h k (omega arith) in rw out (omega arith)
+    ]
+
+-- f and g agree but for one number, a hit of f alone
+pub count-one :
+    (k : ℕ) (f g : ℕ → Bool) (j : ℕ) → j < k → f j ≡ true → g j ≡ false → ((i : ℕ) → (i ≡ j → ⊥) → f i ≡ g i) →
+    count k f ≡ suc (count k g)
+unfolding count
+count-one zero f g j l y n h = absurd (omega arith)
+count-one (suc k) f g j l y n h =
+    elim (either (eqb j k)) [
+      | inl e ↦
+          let s = eqb-eq j k e in
+          let y′ : f k ≡ true = rw s at y in
+          let n′ : g k ≡ false = rw s at n in
+          let same = count-same k f g (λ i m. h i (λ q. omega arith)) in rw (y′, n′) (omega arith)
+      | inr e ↦
+          let d = eqb-ne j k e in
+          let ih = count-one k f g j (omega arith) y n h in
+          let s = h k (λ q. d (sym q)) in rw s (omega arith)
     ]
 
 -- the hits of f are those that are hits of g too, and those that are not

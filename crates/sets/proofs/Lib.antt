@@ -2,3 +2,4 @@ pub mod Counting
 pub mod Lowest
 pub mod Members
 pub mod Size
+pub mod Subsets

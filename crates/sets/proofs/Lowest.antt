@@ -9,8 +9,10 @@ use lib.Bits.{bitAnd, and-step, and-self}
 use lib.Count.{trailingZeros, under}
 use lib.Dec.{eqb, eqb·zero-suc, eqb·suc-zero, eqb·suc-suc}
 use lib.Pow.{pow-pos}
-use Rattle.basics.proofs.Booleans.{either, and-l}
-use Rattle.sets.specs.Sets.{has}
+use Rattle.basics.proofs.Booleans.{either, and-l, and-false-r, not-true, eqb-self, ne-eqb}
+use Rattle.sets.specs.Sets.{has, size}
+use Rattle.sets.proofs.Counting.{count-one}
+use Rattle.sets.proofs.Size.{size-none}
 use Rattle.sets.proofs.Members.{has-half, has-lt, first-in, first-out, first-made, first-unmade}
 
 -- t is the lowest state of s, and rest is s without it
@@ -93,3 +95,17 @@ lowest-less {s} {t} {rest} w = let e = w .weight in let p = pow-pos t in omega a
 -- the rest is a part of the set, above t
 pub lowest-part : {s t rest : ℕ} → Lowest s t rest → (q : ℕ) → has rest q ≡ true → has s q ≡ true
 lowest-part {s} {t} w q h = and-l (not (eqb q t)) (sym (w .others q) ∙ h)
+
+-- above t the set has one state more than the rest
+pub lowest-size : {s t rest : ℕ} → Lowest s t rest → (q : ℕ) → t < q → size q s ≡ suc (size q rest)
+unfolding size
+lowest-size {s} {t} {rest} w q l =
+    let out : has rest t ≡ false = w .others t ∙ and-false-r (has s t) (not-true (eqb-self t)) in
+    count-one q (has s) (has rest) t l (w .member) out
+    (λ i n.
+    let e = ne-eqb i t n in
+    elim (either (has s i)) [ inl h ↦ cc (w .others i) | inr h ↦ cc (w .others i) ])
+
+-- and up to t none
+pub lowest-none : {s t rest : ℕ} → Lowest s t rest → size t s ≡ 0
+lowest-none {s} {t} w = size-none t s (λ q l. w .below q l)

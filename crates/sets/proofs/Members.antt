@@ -5,10 +5,11 @@ use mathlib.Core.Bool.{Bool, true, false, _&&_, _||_, not, cond}
 use mathlib.Core.Logic.{_⊎_, inl, inr}
 use Prim.Native.Nat.{ℕ, zero, suc, _+_, _-_, _*_, _/_, _%_, _^_, _≤_, _<_, min, max}
 use native.Mathlib.Omega.{arith}
-use native.Mathlib.Nat.{pow-suc, div-div-eq-div-mul, div-eq-of-lt, zero-div, mul-comm, one-mul, pow-succ', div-one, add-comm, add-zero, lt-of-lt-of-le, lt-of-le-of-lt, sub-le}
+use native.Mathlib.Nat.{pow-suc, div-div-eq-div-mul, div-eq-of-lt, zero-div, mul-comm, one-mul, pow-succ', div-one, add-comm, add-zero, zero-add, lt-of-lt-of-le, lt-of-le-of-lt, sub-le}
 use lib.Dec.{eqb, ltb, eqb·zero-suc, eqb·suc-zero, eqb·suc-suc}
+use lib.Arith.{mod-mul}
 use lib.Pow.{pow-pos, pow-mono}
-use lib.Bits.{bitAnd, bitOr, and-step, or-step, and-le-l, and-le-r, or-lt, or-shifted}
+use lib.Bits.{bitAnd, bitOr, and-step, or-step, and-le-l, and-le-r, or-lt, or-shifted, or-disjoint}
 use Rattle.basics.specs.Bounded.{any}
 use Rattle.basics.proofs.Booleans.{either, clash, and-l, and-r, and-make, eqb-eq, eq-eqb, eqb-ne, ne-eqb, lt-ltb, ge-ltb, ltb-lt, ltb-ge, same-truth}
 use Rattle.basics.proofs.Bounded.{search-to}
@@ -193,6 +194,44 @@ has-top k s q l =
     let e : bitOr (2 ^ k) s ≡ 2 ^ k + s = rw (one-mul (2 ^ k)) at (or-shifted 1 k s l) in
     cc (e, has-or (2 ^ k) s q, has-single k q)
 
+-- sets with no state in common add
+pub sum-join : (a b : ℕ) → ((q : ℕ) → has a q ≡ true → has b q ≡ false) → a + b ≡ bitOr a b
+sum-join a b apart =
+    sym
+    (or-disjoint a b
+    (ext-all (bitAnd a b) 0
+    (λ q.
+    elim (either (has a q)) [
+      | inl h ↦ let n = apart q h in cc (has-and a b q, has-zero q)
+      | inr h ↦ cc (has-and a b q, has-zero q)
+    ])))
+
+pub has-sum :
+    (a b : ℕ) → ((q : ℕ) → has a q ≡ true → has b q ≡ false) → (q : ℕ) → has (a + b) q ≡ (has a q || has b q)
+has-sum a b apart q = ap (λ (s : ℕ). has s q) (sum-join a b apart) ∙ has-or a b q
+
+-- a state put into a set that has it not
+pub has-put : (b : Bool) (t s q : ℕ) → has s t ≡ false → has (cond b (2 ^ t) 0 + s) q ≡ (b && eqb t q || has s q)
+has-put true t s q out =
+    let h =
+    has-sum (2 ^ t) s (λ p m. rw (← eqb-eq t p (sym (has-single t p) ∙ m)) out) q in cc (h, has-single t q)
+has-put false t s q out = rw (zero-add s)
+
+mod-low : (k s : ℕ) → s % 2 ^ suc k ≡ s / 2 % 2 ^ k * 2 + s % 2
+mod-low k s = rw (pow-suc 2 k) (mod-mul s (pow-pos k) (omega arith))
+
+-- the low digits of a number, and its members below them
+pub has-mod : (k s q : ℕ) → q < k → has (s % 2 ^ k) q ≡ has s q
+has-mod zero s q l = absurd (omega arith)
+has-mod (suc k) s zero l =
+    let e = mod-low k s in
+    let d : s % 2 ^ suc k % 2 ≡ s % 2 = omega arith in
+    has-first (s % 2 ^ suc k) ∙ ap (λ (n : ℕ). eqb n 1) d ∙ sym (has-first s)
+has-mod (suc k) s (suc q) l =
+    let e = mod-low k s in
+    let h : s % 2 ^ suc k / 2 ≡ s / 2 % 2 ^ k = omega arith in
+    has-half (s % 2 ^ suc k) q ∙ ap (λ (n : ℕ). has n q) h ∙ has-mod k (s / 2) q (omega arith) ∙ sym (has-half s q)
+
 -- the set of the states below the limit of which a test holds
 pub set-of-lt : (k : ℕ) (f : ℕ → Bool) → set-of k f < 2 ^ k
 unfolding set-of
@@ -228,6 +267,12 @@ has-set-of (suc k) f q =
           let below = below-suc k q (eqb-ne k q e) in
           elim (either (f k)) [ inl y ↦ cc | inr y ↦ cc ]
     ]
+
+-- tests that agree below the limit
+pub set-of-same : (k : ℕ) (f g : ℕ → Bool) → ((q : ℕ) → q < k → f q ≡ g q) → set-of k f ≡ set-of k g
+unfolding set-of
+set-of-same zero f g h = refl
+set-of-same (suc k) f g h = let ih = set-of-same k f g (λ q l. h q (omega arith)) in let e = h k (omega arith) in cc
 
 -- the rows of the members, joined
 or-false-right : (b : Bool) → (b || false) ≡ b
