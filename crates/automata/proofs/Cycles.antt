@@ -1,7 +1,7 @@
 -- Accepting runs over a lasso are accepting cycles of the product with its positions: from a run a cycle by the pigeonhole, and
 -- from a cycle the run that goes round it for ever. Assumes nothing.
 use mathlib.Core.Path.{_≡_, refl, sym, _∙_, ap}
-use mathlib.Core.Bool.{Bool, true, false}
+use mathlib.Core.Bool.{true}
 use mathlib.Core.List.{List}
 use mathlib.Core.Logic.{inl, inr}
 use Prim.Native.Nat.{ℕ, zero, suc, _+_, _*_, _/_, _%_, _≤_, _<_}
@@ -11,7 +11,7 @@ use lib.Dec.{eqb}
 use lib.ListN.{length}
 use Rattle.basics.proofs.Booleans.{either, eqb-eq, eqb-ne}
 use Rattle.basics.proofs.Bounded.{pigeonhole}
-use Rattle.automata.specs.Automaton.{Automaton, Path, Run, Takes, Closed}
+use Rattle.automata.specs.Automaton.{Automaton, Path, Takes, Closed}
 use Rattle.automata.specs.Lasso.{letter-at, position-at, position-letter, next-position, positions, Walk, stay, onward, Accepting-cycle}
 use Rattle.automata.proofs.Positions.{position-zero, position-next, position-below, letter-position}
 

@@ -1,4 +1,5 @@
 pub mod Cycles
+pub mod Decision
 pub mod Graphs
 pub mod Members
 pub mod Positions

@@ -1,7 +1,7 @@
 -- Laws of a lasso's positions: each place of u·v·v·v… has a position of u or v with the same letter, and each letter of a
 -- lasso is one of its alphabet. Assumes nothing.
 use mathlib.Core.Path.{_≡_, refl}
-use mathlib.Core.Bool.{Bool, true, false, cond}
+use mathlib.Core.Bool.{true}
 use mathlib.Core.List.{List}
 use mathlib.Core.Logic.{inl, inr}
 use Prim.Native.Nat.{ℕ, zero, suc, _+_, _-_, _%_, _≤_, _<_}
@@ -21,6 +21,10 @@ pub position-next : (u v : List ℕ) (i : ℕ) → position-at u v (suc i) ≡ n
 unfolding position-at
 position-next u v i = refl
 
+pub first-below : (u v : List ℕ) → 1 ≤ length v → 0 < positions u v
+unfolding positions
+first-below u v o = omega arith
+
 -- behind each position comes a position
 pub next-below : (u v : List ℕ) → 1 ≤ length v → (i : ℕ) → next-position u v i < positions u v
 unfolding next-position positions
@@ -31,8 +35,8 @@ next-below u v o i =
     ]
 
 pub position-below : (u v : List ℕ) → 1 ≤ length v → (i : ℕ) → position-at u v i < positions u v
-unfolding position-at positions
-position-below u v o zero = omega arith
+unfolding position-at
+position-below u v o zero = first-below u v o
 position-below u v o (suc i) = next-below u v o (position-at u v i)
 
 -- the places of u are its positions

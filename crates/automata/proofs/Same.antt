@@ -1,6 +1,5 @@
 -- Automata that differ in nothing have the same runs, and a run depends on a word only by its letters. Assumes nothing.
 use mathlib.Core.Path.{_≡_, sym}
-use mathlib.Core.Bool.{true}
 use Prim.Native.Nat.{ℕ, suc}
 use Rattle.automata.specs.Automaton.{Automaton, Path, Run, Takes, Single-run, Same, Closed}
 

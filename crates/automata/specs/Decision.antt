@@ -51,16 +51,17 @@ product a u v = tabulate (nodes a u v) (λ x. tabulate (nodes a u v) (λ y. lead
 unfoldable pub starts : Automaton → (u v : List ℕ) → List Bool
 starts a u v = tabulate (nodes a u v) (λ x. eqb (x / a .states) 0 && a .initial (x % a .states))
 
--- some node is reached, accepts, and is reached again from behind one of its edges
-unfoldable pub cycle-in : (nodes : ℕ) → (graph : List (List Bool)) → (accepting : ℕ → Bool) → (reached : List Bool) → Bool
-cycle-in n g accepting s =
-    any n
-    (λ x.
-    let again = marked (grown n n g (row g x)) x in
-    (accepting x && marked s x) && again)
+-- the node is reached again from behind one of its edges
+unfoldable pub on-cycle : (nodes : ℕ) → (graph : List (List Bool)) → (node : ℕ) → Bool
+on-cycle n g x = marked (grown n n g (row g x)) x
 
--- whether the automaton takes the lasso
+-- whether the automaton takes the lasso: some node accepts, is reached, and lies on a cycle
 unfoldable pub takes? : Automaton → (u v : List ℕ) → Bool
 takes? a u v =
     let n = nodes a u v in
-    let g = product a u v in cycle-in n g (λ x. a .accepting (x % a .states)) (grown n n g (starts a u v))
+    let g = product a u v in
+    let reached = grown n n g (starts a u v) in
+    any n
+    (λ x.
+    let cycle = on-cycle n g x in
+    (a .accepting (x % a .states) && marked reached x) && cycle)

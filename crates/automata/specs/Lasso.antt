@@ -1,12 +1,12 @@
--- Lassos: a prefix u, then a loop v for ever; the product of an automaton with a lasso's positions; a computing decision.
+-- Lassos: a prefix u, then a loop v for ever; the product of an automaton with a lasso's positions.
 -- Assumes nothing: these are definitions.
 use mathlib.Core.Path.{_≡_}
-use mathlib.Core.Bool.{Bool, true, false, _&&_, _||_, cond}
-use mathlib.Core.List.{List, [], _∷_, _++_}
-use Prim.Native.Nat.{ℕ, zero, suc, _+_, _*_, _-_, _/_, _%_, _≤_, _<_}
-use lib.Dec.{ltb, eqb}
+use mathlib.Core.Bool.{Bool, true, cond}
+use mathlib.Core.List.{List}
+use Prim.Native.Nat.{ℕ, zero, suc, _+_, _-_, _%_, _≤_}
+use lib.Dec.{ltb}
 use lib.ListN.{length, getD}
-use Rattle.basics.specs.Bounded.{each, any}
+use Rattle.basics.specs.Bounded.{each}
 use Rattle.automata.specs.Automaton.{Automaton}
 
 -- the letter of u·v·v·v… at a place
