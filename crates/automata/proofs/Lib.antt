@@ -1,5 +1,6 @@
 pub mod Cycles
 pub mod Decision
+pub mod Explore
 pub mod Graphs
 pub mod Members
 pub mod Positions

@@ -89,18 +89,22 @@ unfoldable pub by-letters : {X : Type 0} → System X → (limit source : ℕ) �
 by-letters s zero i x b = b
 by-letters s (suc c) i x b = add-all s i c (s .nexts x c) (by-letters s c i x b)
 
+-- all edges of the state with a number
+unfoldable pub expand : {X : Type 0} → System X → (number : ℕ) → Built X → Built X
+expand s i b = by-letters s (s .letters) i (state-at s (b .states) i) b
+
 -- then the states in number order
 unfoldable pub explore-from : {X : Type 0} → (fuel : ℕ) → System X → (number : ℕ) → Built X → Built X
 explore-from zero s i b = b
 explore-from (suc f) s i b =
-    elim (leb (length (b .states)) i) [
-      | true ↦ b
-      | false ↦ explore-from f s (suc i) (by-letters s (s .letters) i (state-at s (b .states) i) b)
-    ]
+    elim (leb (length (b .states)) i) [ true ↦ b | false ↦ explore-from f s (suc i) (expand s i b) ]
 
 -- initial states come first
+unfoldable pub begin : {X : Type 0} → System X → Built X
+begin s = built (with-states s (s .starts) []) []
+
 unfoldable pub explore : {X : Type 0} → (fuel : ℕ) → System X → Built X
-explore f s = explore-from f s 0 (built (with-states s (s .starts) []) [])
+explore f s = explore-from f s 0 (begin s)
 
 -- THE EDGES IN CLOSED FORM, given all states: by source, letter and successor
 unfoldable pub edges-to : {X : Type 0} → System X → (all : List X) → (source letter : ℕ) → List X → List Edge
