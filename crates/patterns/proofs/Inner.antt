@@ -1,0 +1,195 @@
+-- Q2: n rounds reach a set that grows no more, so edges from Q2 stay in Q2; and a state is in Q2 exactly if an accepting state reaches it.
+-- Assumes nothing.
+use mathlib.Core.Path.{_≡_, refl, sym, _∙_, ap}
+use mathlib.Core.Bool.{Bool, true, false, _&&_, _||_, not}
+use mathlib.Core.Logic.{_⊎_, inl, inr, _↔_}
+use Prim.Native.Nat.{ℕ, zero, suc, _+_, _^_, _≤_, _<_}
+use native.Mathlib.Omega.{arith}
+use lib.Dec.{ltb, eqb}
+use Rattle.basics.specs.Bounded.{any, count}
+use Rattle.basics.proofs.Booleans.{either, clash, and-l, and-r, and-make, or-l, or-r, or-true, true-not, not-false, eqb-eq, lt-ltb, ltb-lt, same-truth, and-false}
+use Rattle.basics.proofs.Bounded.{any-make, any-find, search-to, count-le, count-less}
+use Rattle.automata.specs.Automaton.{Automaton, Closed}
+use Rattle.sets.specs.Sets.{has, set-of}
+use Rattle.sets.proofs.Members.{has-set-of, set-of-lt, ext, has-lt}
+use Rattle.patterns.specs.Pattern.{accepting-states, grown, reached-in, inner-of}
+use Rattle.patterns.specs.Reach.{Reaches, From-accepting}
+use Rattle.patterns.specs.Reach.Reaches.{none, more}
+
+module _ (a : Automaton) where
+  -- an edge leads from the set to the state
+  led : (s q : ℕ) → Bool
+  led s q = any (a .states) (λ p. has s p && any (a .letters) (λ c. a .edge p c q))
+
+  led-make : Closed a → (s p c q : ℕ) → has s p ≡ true → a .edge p c q ≡ true → led s q ≡ true
+  unfolding led
+  led-make closed s p c q h e =
+      let ends = closed .edge p c q e in
+      any-make (a .states) (λ p. has s p && any (a .letters) (λ c. a .edge p c q)) p (ends .0)
+      (and-make h (any-make (a .letters) (λ c. a .edge p c q) c (ends .1) e))
+
+  led-find : (s q : ℕ) → led s q ≡ true → (p : ℕ) × (has s p ≡ true) × ((c : ℕ) × (a .edge p c q ≡ true))
+  unfolding led
+  led-find s q h =
+      let r = any-find (a .states) (λ p. has s p && any (a .letters) (λ c. a .edge p c q)) h in
+      let x = any-find (a .letters) (λ c. a .edge (r .0) c q) (and-r (has s (r .0)) (r .2)) in
+      (r .0, and-l (any (a .letters) (λ c. a .edge (r .0) c q)) (r .2), (x .0, x .2))
+
+  -- ONE ROUND
+  pub grown-lt : (s : ℕ) → grown a s < 2 ^ a .states
+  unfolding grown led
+  grown-lt s = set-of-lt (a .states) (λ q. has s q || led s q)
+
+  has-grown : (s q : ℕ) → has (grown a s) q ≡ (ltb q (a .states) && (has s q || led s q))
+  unfolding grown led
+  has-grown s q = has-set-of (a .states) (λ q. has s q || led s q) q
+
+  grown-keeps : (s q : ℕ) → s < 2 ^ a .states → has s q ≡ true → has (grown a s) q ≡ true
+  grown-keeps s q l h =
+      has-grown s q ∙ and-make (lt-ltb (has-lt (a .states) s q l h)) (or-l (led s q) h)
+
+  -- it grows no more, or it has one state more
+  grown-more :
+      (s : ℕ) → s < 2 ^ a .states → (grown a s ≡ s) ⊎ (count (a .states) (has s) < count (a .states) (has (grown a s)))
+  grown-more s l = go (search-to (a .states) (λ q. has (grown a s) q && not (has s q)))
+    where
+      go :
+          ((q : ℕ) × (q < a .states) × ((has (grown a s) q && not (has s q)) ≡ true))
+          ⊎ ((q : ℕ) → q < a .states → (has (grown a s) q && not (has s q)) ≡ false) →
+          (grown a s ≡ s) ⊎ (count (a .states) (has s) < count (a .states) (has (grown a s)))
+      go (inl r) =
+          inr
+          (count-less (a .states) (has s) (has (grown a s)) (λ i _ h. grown-keeps s i l h) (r .0) (r .1)
+          (true-not (has s (r .0)) (and-r (has (grown a s) (r .0)) (r .2)))
+          (and-l (not (has s (r .0))) (r .2)))
+      go (inr nothing) =
+          inl
+          (ext (a .states) (grown a s) s (grown-lt s) l
+          (λ q m. same-truth (has (grown a s) q) (has s q)
+          (λ h. elim (either (has s q)) [
+            | inl e ↦ e
+            | inr e ↦ absurd (clash (and-make h (not-false e)) (nothing q m))
+          ])
+          (λ h. grown-keeps s q l h)))
+
+  -- ALL ROUNDS
+  pub reached-lt : (r s : ℕ) → s < 2 ^ a .states → reached-in a r s < 2 ^ a .states
+  unfolding reached-in
+  reached-lt zero s l = l
+  reached-lt (suc r) s l = grown-lt (reached-in a r s)
+
+  reached-keeps : (r s q : ℕ) → s < 2 ^ a .states → has s q ≡ true → has (reached-in a r s) q ≡ true
+  unfolding reached-in
+  reached-keeps zero s q l h = h
+  reached-keeps (suc r) s q l h = grown-keeps (reached-in a r s) q (reached-lt r s l) (reached-keeps r s q l h)
+
+  -- after r rounds the set grows no more, or it has at least r states
+  reached-count :
+      (r s : ℕ) → s < 2 ^ a .states →
+      (grown a (reached-in a r s) ≡ reached-in a r s) ⊎ (r ≤ count (a .states) (has (reached-in a r s)))
+  unfolding reached-in
+  reached-count zero s l = inr (omega arith)
+  reached-count (suc r) s l = go (reached-count r s l) (grown-more (reached-in a r s) (reached-lt r s l))
+    where
+      go :
+          (grown a (reached-in a r s) ≡ reached-in a r s) ⊎ (r ≤ count (a .states) (has (reached-in a r s))) →
+          (grown a (reached-in a r s) ≡ reached-in a r s)
+          ⊎ (count (a .states) (has (reached-in a r s)) < count (a .states) (has (grown a (reached-in a r s)))) →
+          (grown a (grown a (reached-in a r s)) ≡ grown a (reached-in a r s))
+          ⊎ (suc r ≤ count (a .states) (has (grown a (reached-in a r s))))
+      go (inl e) g = inl (ap (grown a) e)
+      go (inr m) (inl e) = inl (ap (grown a) e)
+      go (inr m) (inr g) = inr (omega arith)
+
+  -- so n rounds reach all
+  pub reached-all : (s : ℕ) → s < 2 ^ a .states → grown a (reached-in a (a .states) s) ≡ reached-in a (a .states) s
+  reached-all s l =
+      go (reached-count (a .states) s l)
+      (grown-more (reached-in a (a .states) s) (reached-lt (a .states) s l))
+    where
+      go :
+          (grown a (reached-in a (a .states) s) ≡ reached-in a (a .states) s)
+          ⊎ (a .states ≤ count (a .states) (has (reached-in a (a .states) s))) →
+          (grown a (reached-in a (a .states) s) ≡ reached-in a (a .states) s)
+          ⊎ (count (a .states) (has (reached-in a (a .states) s))
+          < count (a .states) (has (grown a (reached-in a (a .states) s)))) →
+          grown a (reached-in a (a .states) s) ≡ reached-in a (a .states) s
+      go (inl e) g = e
+      go (inr m) (inl e) = e
+      go (inr m) (inr g) =
+          let most = count-le (a .states) (has (grown a (reached-in a (a .states) s))) in absurd (omega arith)
+
+  -- Q2
+  pub accepting-lt : accepting-states a < 2 ^ a .states
+  unfolding accepting-states
+  accepting-lt = set-of-lt (a .states) (a .accepting)
+
+  pub accepting-has : (q : ℕ) → q < a .states → a .accepting q ≡ true → has (accepting-states a) q ≡ true
+  unfolding accepting-states
+  accepting-has q l h = has-set-of (a .states) (a .accepting) q ∙ and-make (lt-ltb l) h
+
+  pub has-accepting : (q : ℕ) → has (accepting-states a) q ≡ true → (q < a .states) × (a .accepting q ≡ true)
+  unfolding accepting-states
+  has-accepting q h =
+      let e : (ltb q (a .states) && a .accepting q) ≡ true = sym (has-set-of (a .states) (a .accepting) q) ∙ h in
+      (ltb-lt q (a .states) (and-l (a .accepting q) e), and-r (ltb q (a .states)) e)
+
+  pub inner-lt : inner-of a < 2 ^ a .states
+  unfolding inner-of
+  inner-lt = reached-lt (a .states) (accepting-states a) accepting-lt
+
+  -- Q2 grows no more
+  pub inner-fixed : grown a (inner-of a) ≡ inner-of a
+  unfolding inner-of
+  inner-fixed = reached-all (accepting-states a) accepting-lt
+
+  -- the accepting states are in Q2
+  pub inner-accepting : (q : ℕ) → has (accepting-states a) q ≡ true → has (inner-of a) q ≡ true
+  unfolding inner-of
+  inner-accepting q h = reached-keeps (a .states) (accepting-states a) q accepting-lt h
+
+  -- edges from Q2 stay in Q2
+  pub inner-closed :
+      Closed a → (p c q : ℕ) → has (inner-of a) p ≡ true → a .edge p c q ≡ true → has (inner-of a) q ≡ true
+  inner-closed closed p c q h e =
+      ap (λ (s : ℕ). has s q) (sym inner-fixed) ∙ has-grown (inner-of a) q
+      ∙ and-make (lt-ltb (closed .edge p c q e .2)) (or-r (has (inner-of a) q) (led-make closed (inner-of a) p c q h e))
+
+  reached-from : (r q : ℕ) → has (reached-in a r (accepting-states a)) q ≡ true → From-accepting a q
+  unfolding reached-in
+  reached-from zero q h =
+      let f = has-accepting q h in record { source = q; inside = f .0; accepting = f .1; reaches = none }
+  reached-from (suc r) q h =
+      go (λ p m. reached-from r p m)
+      (or-true (has (reached-in a r (accepting-states a)) q) (led (reached-in a r (accepting-states a)) q)
+      (and-r (ltb q (a .states)) (sym (has-grown (reached-in a r (accepting-states a)) q) ∙ h)))
+    where
+      go :
+          ((p : ℕ) → has (reached-in a r (accepting-states a)) p ≡ true → From-accepting a p) →
+          (has (reached-in a r (accepting-states a)) q ≡ true) ⊎ (led (reached-in a r (accepting-states a)) q ≡ true) →
+          From-accepting a q
+      go before (inl e) = before q e
+      go before (inr e) =
+          let l = led-find (reached-in a r (accepting-states a)) q e in
+          let f = before (l .0) (l .1) in
+          record {
+            source = f .source;
+            inside = f .inside;
+            accepting = f .accepting;
+            reaches = more (l .2 .0) (f .reaches) (l .2 .1);
+          }
+
+  reaches-in : Closed a → (p q : ℕ) → has (inner-of a) p ≡ true → Reaches a p q → has (inner-of a) q ≡ true
+  reaches-in closed p q h none = h
+  reaches-in closed p q h (more {q = r} c path e) = inner-closed closed r c q (reaches-in closed p r h path) e
+
+  -- Q2 is the set of accepting states and all states that they reach
+  pub inner-right : Closed a → (q : ℕ) → (has (inner-of a) q ≡ true) ↔ From-accepting a q
+  unfolding inner-of
+  inner-right closed q = (
+    reached-from (a .states) q,
+    (λ f.
+    reaches-in closed (f .source) q
+    (inner-accepting (f .source) (accepting-has (f .source) (f .inside) (f .accepting)))
+    (f .reaches)),
+  )
