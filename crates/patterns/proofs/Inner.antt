@@ -189,7 +189,7 @@ module _ (a : Automaton) where
   inner-right closed q = (
     reached-from (a .states) q,
     (λ f.
-    reaches-in closed (f .source) q
-    (inner-accepting (f .source) (accepting-has (f .source) (f .inside) (f .accepting)))
-    (f .reaches)),
+        reaches-in closed (f .source) q
+        (inner-accepting (f .source) (accepting-has (f .source) (f .inside) (f .accepting)))
+        (f .reaches)),
   )

@@ -1,0 +1,54 @@
+-- What a passed check says: the table is a pattern, so a wide table too; it is semi-deterministic; and its sets and its Q2 are as the
+-- construction asks. Assumes nothing.
+use mathlib.Core.Path.{_≡_, refl, sym, _∙_}
+use mathlib.Core.Bool.{Bool, true, false, cond}
+use mathlib.Core.List.{List}
+use mathlib.Core.Logic.{inl, inr}
+use Prim.Native.Nat.{ℕ}
+use native.Mathlib.Omega.{arith}
+use lib.Dec.{eqb}
+use Rattle.basics.specs.Buffers.{or-else}
+use Rattle.basics.proofs.Booleans.{either, eqb-eq, eqb-ne}
+use Rattle.automata.specs.Automaton.{Closed}
+use Rattle.tables.specs.Table.{pattern-range, wide-range, table-refusal, meaning}
+use Rattle.tables.proofs.Laws.{valid, meaning-closed, pattern-is-wide}
+use Rattle.ncsb.specs.Moves.{Spread, Split}
+use Rattle.patterns.specs.Pattern.{semi-deterministic, moves}
+use Rattle.patterns.specs.Check.{check-refusal}
+use Rattle.patterns.proofs.Split.{spread, split}
+
+-- two refusals, and none is met
+or-else-none : (x y : ℕ) → or-else x y ≡ 0 → (x ≡ 0) × (y ≡ 0)
+unfolding or-else
+or-else-none x y h =
+    elim (either (eqb x 0)) [
+      | inl e ↦ (eqb-eq x 0 e, rw e at h)
+      | inr e ↦ let n = eqb-ne x 0 e in let z : x ≡ 0 = rw e at h in absurd (n z)
+    ]
+
+ten-none : (b : Bool) → _≡_ {A = ℕ} (cond b 0 10) 0 → b ≡ true
+ten-none true h = refl
+ten-none false h = absurd (omega arith)
+
+module _ (t : List ℕ) (passed : check-refusal t ≡ 0) where
+  both : (table-refusal pattern-range t ≡ 0) × (_≡_ {A = ℕ} (cond (semi-deterministic (meaning t)) 0 10) 0)
+  unfolding check-refusal
+  both = or-else-none (table-refusal pattern-range t) (cond (semi-deterministic (meaning t)) 0 10) passed
+
+  -- it is a pattern
+  pub checked-table : table-refusal pattern-range t ≡ 0
+  checked-table = both .0
+
+  -- so it is a wide table
+  pub checked-wide : table-refusal wide-range t ≡ 0
+  checked-wide = pattern-is-wide t checked-table
+
+  pub checked-closed : Closed (meaning t)
+  checked-closed = meaning-closed (valid pattern-range t checked-table)
+
+  pub checked-semi : semi-deterministic (meaning t) ≡ true
+  checked-semi = ten-none (semi-deterministic (meaning t)) (both .1)
+
+  -- what the construction asks of a pattern
+  pub checked-split : Spread (meaning t) (moves (meaning t)) × Split (meaning t) (moves (meaning t))
+  checked-split = (spread (meaning t) checked-closed, split (meaning t) checked-closed checked-semi)
