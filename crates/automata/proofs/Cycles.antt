@@ -16,12 +16,13 @@ use Rattle.automata.specs.Lasso.{letter-at, position-at, position-letter
 use Rattle.automata.proofs.Positions.{position-zero, position-next, position-below, letter-position}
 
 -- FROM A RUN TO A CYCLE
--- the node of a place is repeated at two places: then position and state are the same
-node-position : (n i p j q : ℕ) → p < n → q < n → i * n + p ≡ j * n + q → i ≡ j
-node-position n i p j q l m e = sym (digits-div i l) ∙ ap (λ (x : ℕ). x / n) e ∙ digits-div j m
-
-node-state : (n i p j q : ℕ) → p < n → q < n → i * n + p ≡ j * n + q → p ≡ q
-node-state n i p j q l m e = sym (digits-mod i l) ∙ ap (λ (x : ℕ). x % n) e ∙ digits-mod j m
+-- the number of a node gives its position and its state
+same-node :
+    {n p q : ℕ} (i j : ℕ) → p < n → q < n → i * n + p ≡ j * n + q → (i ≡ j) × (p ≡ q)
+same-node {n} i j l m e = (
+  sym (digits-div i l) ∙ ap (λ (x : ℕ). x / n) e ∙ digits-div j m,
+  sym (digits-mod i l) ∙ ap (λ (x : ℕ). x % n) e ∙ digits-mod j m,
+)
 
 module _ (a : Automaton) (u v : List ℕ) (o : 1 ≤ length v) (run : ℕ → ℕ) (path : Path a (letter-at u v) run) where
   -- the edge from a place to the next, by position
@@ -78,21 +79,24 @@ module _ (a : Automaton) (u v : List ℕ) (o : 1 ≤ length v) (run : ℕ → �
           | inr e ↦ let ne = eqb-ne i j e in let r = place-rises i j (omega arith) in omega arith
         ]
 
+    -- among more accepting places than there are nodes, two have the same node
     run-cycle : Accepting-cycle a u v
-    run-cycle = go (pigeonhole (positions u v * a .states) node (λ i l. digits-lt (position-below u v o (place i)) (path .inside (place i))))
+    run-cycle = go (pigeonhole (positions u v * a .states) node (λ k l. below k))
       where
         node : ℕ → ℕ
         node k = position-at u v (place k) * a .states + run (place k)
 
-        go :
-            (i : ℕ) × (j : ℕ) × (i < j) × (j ≤ positions u v * a .states) × (node i ≡ node j) → Accepting-cycle a u v
-        go (i, j, l, m, e) =
-            cycle-between (place i) (place j) (place-rises i j l)
-            (node-position (a .states) (position-at u v (place i)) (run (place i)) (position-at u v (place j)) (run (place j)) (path .inside (place i)) (path .inside (place j)) e)
-            (node-state (a .states) (position-at u v (place i)) (run (place i)) (position-at u v (place j)) (run (place j)) (path .inside (place i)) (path .inside (place j)) e)
-            (place-accepts i)
+        below : (k : ℕ) → node k < positions u v * a .states
+        below k = digits-lt (position-below u v o (place k)) (path .inside (place k))
 
--- an automaton that takes a lasso has an accepting cycle over it (the states of a run are states, so the automaton need not be closed)
+        go : (i : ℕ) × (j : ℕ) × (i < j) × (j ≤ positions u v * a .states) × (node i ≡ node j) → Accepting-cycle a u v
+        go (i, j, l, m, e) =
+            let (x, y) : ℕ × ℕ = (place i, place j) in
+            let (p, q) = same-node (position-at u v x) (position-at u v y) (path .inside x) (path .inside y) e in
+            cycle-between x y (place-rises i j l) p q (place-accepts i)
+
+-- an automaton that takes a lasso has an accepting cycle over it.
+-- The states of a run are states, so this does not need that the automaton is closed.
 pub takes-cycle : {a : Automaton} {u v : List ℕ} → 1 ≤ length v → Takes a (letter-at u v) → Accepting-cycle a u v
 takes-cycle {a} {u} {v} o t =
     run-cycle a u v o (t .run) (t .accepting-run .path) (t .accepting-run .accepting)
@@ -190,4 +194,5 @@ pub cycle-takes :
     {a : Automaton} {u v : List ℕ} → Closed a → 1 ≤ length v → Accepting-cycle a u v → Takes a (letter-at u v)
 cycle-takes {a} {u} {v} closed o c =
     goes-round a u v (c .position) (c .state) (c .behind) (c .leaves) (ahead-of (c .returns) (arrived refl refl))
-    (record { position = 0; state = c .start; rest = ahead-of (c .reached) (arrived refl refl) }) closed o refl (c .begins) (c .accepts)
+    (record { position = 0; state = c .start; rest = ahead-of (c .reached) (arrived refl refl) })
+    closed o refl (c .begins) (c .accepts)

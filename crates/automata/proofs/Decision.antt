@@ -102,7 +102,8 @@ module _ (a : Automaton) (u v : List ℕ) where
       (p : ℕ) × (a .initial p ≡ true) × Walk a u v 0 p (x / a .states) (x % a .states)
   unfolding reached
   start-walk x l e =
-      let (z, m, f, w) = reach-walk (starts a u v) x (grown-reach (nodes a u v) (product a u v) (starts a u v) (nodes a u v) x l e) in
+      let found = grown-reach (nodes a u v) (product a u v) (starts a u v) (nodes a u v) x l e in
+      let (z, m, f, w) = reach-walk (starts a u v) x found in
       let h = rw (starts-marked z m) at f in
       let b = eqb-eq (z / a .states) 0 (and-l (a .initial (z % a .states)) h) in
       (z % a .states, and-r (eqb (z / a .states) 0) h, rw b at w)
@@ -113,7 +114,8 @@ module _ (a : Automaton) (u v : List ℕ) where
       × Walk a u v (next-position u v (x / a .states)) r (x / a .states) (x % a .states)
   unfolding on-cycle
   round-walk x l e =
-      let (y, m, f, w) = reach-walk (row (product a u v) x) x (grown-reach (nodes a u v) (product a u v) (row (product a u v) x) (nodes a u v) x l e) in
+      let found = grown-reach (nodes a u v) (product a u v) (row (product a u v) x) (nodes a u v) x l e in
+      let (y, m, f, w) = reach-walk (row (product a u v) x) x found in
       let h = rw (product-marked x y l m) at f in
       (y % a .states, leads-edge x y h, rw (leads-position x y h) at w)
 

@@ -55,11 +55,13 @@ module _ (n : ℕ) (g : List (List Bool)) where
     unfolding grown
     grown-reach zero y l e = start l e
     grown-reach (suc k) y l e =
-        elim (or-true (marked (grown k n g s) y) (any n (λ x. marked (grown k n g s) x && marked (row g x) y)) (rw (grow-marked (grown k n g s) y l) at e)) [
+        let t = grown k n g s in
+        let hit : ℕ → Bool = λ x. marked t x && marked (row g x) y in
+        elim (or-true (marked t y) (any n hit) (rw (grow-marked t y l) at e)) [
           | inl h ↦ grown-reach k y l h
           | inr h ↦
-              let (x, m, f) = any-find n (λ x. marked (grown k n g s) x && marked (row g x) y) h in
-              along (grown-reach k x m (and-l (marked (row g x) y) f)) l (and-r (marked (grown k n g s) x) f)
+              let (x, m, f) = any-find n hit h in
+              along (grown-reach k x m (and-l (marked (row g x) y) f)) l (and-r (marked t x) f)
         ]
 
     grown-keeps : (j k y : ℕ) → j ≤ k → y < n → marked (grown j n g s) y ≡ true → marked (grown k n g s) y ≡ true

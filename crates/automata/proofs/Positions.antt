@@ -48,7 +48,9 @@ early u v o (suc i) l =
     let b : suc i < length u + length v = omega arith in rw (e, lt-ltb b)
 
 -- then the places go round the positions of v
-round : (u v : List ℕ) → 1 ≤ length v → (m : ℕ) → m < length v → next-position u v (length u + m) ≡ length u + suc m % length v
+round :
+    (u v : List ℕ) → 1 ≤ length v → (m : ℕ) → m < length v →
+    next-position u v (length u + m) ≡ length u + suc m % length v
 unfolding next-position positions
 round u v o m l =
     elim (either (ltb (suc m) (length v))) [
