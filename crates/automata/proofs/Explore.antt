@@ -288,10 +288,14 @@ module _ {X : Type 0} (s : System X) where
             ])
 
     -- the initial states alone
+    pub begin-is : Distinct s (s .starts) → begin s ≡ built (s .starts) []
+    unfolding begin
+    begin-is distinct = rw (with-states-new s decides (s .starts) [] distinct)
+
     pub explored-begin : Distinct s (s .starts) → Explored s 0 (begin s)
-    unfolding begin built edges-of
+    unfolding built edges-of
     explored-begin distinct =
-        rw (with-states-new s decides (s .starts) [] distinct)
+        rw (begin-is distinct)
         (record {
           sound =
               record {

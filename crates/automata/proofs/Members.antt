@@ -190,6 +190,20 @@ module _ {X : Type 0} (s : System X) where
           | inr e ↦ let g = ltb-ge n i e in omega arith
         ]
 
+    pub number-is :
+        (x : X) (xs : List X) → Distinct s xs → (i : ℕ) → i < length xs → state-at s xs i ≡ x → number-of s x xs ≡ i
+    number-is x xs distinct i l e = rw e at (number-at xs distinct i l)
+
+    pub number-none :
+        (x : X) (xs : List X) → ((i : ℕ) → i < length xs → state-at s xs i ≡ x → ⊥) → number-of s x xs ≡ length xs
+    number-none x xs none =
+        let n = number-of s x xs in
+        let h : n ≤ length xs = number-le x xs in
+        elim (either (ltb n (length xs))) [
+          | inl e ↦ let l = ltb-lt n (length xs) e in absurd (none n l (number-found x xs l))
+          | inr e ↦ let g = ltb-ge n (length xs) e in omega arith
+        ]
+
     pub distinct-once :
         (xs : List X) → Distinct s xs → (i j : ℕ) → i < length xs → j < length xs → state-at s xs i ≡ state-at s xs j → i ≡ j
     distinct-once xs distinct i j l m e =
@@ -256,11 +270,10 @@ module _ {X : Type 0} (s : System X) where
       where
         fresh : length xs ≤ number-of s y xs
         fresh =
-            elim (either (ltb (number-of s y xs) (length xs))) [
-              | inl e ↦
-                  let l = ltb-lt (number-of s y xs) (length xs) e in
-                  absurd
-                  (distinct .apart (number-of s y xs) (length xs) l (rw length-append (omega arith))
-                  (state-prefix (prefix-append xs (y ∷ ys)) (number-of s y xs) l ∙ number-found y xs l ∙ sym (state-seam xs y ys)))
-              | inr e ↦ ltb-ge (number-of s y xs) (length xs) e
-            ]
+            let q =
+            number-none y xs
+            (λ i l e.
+            distinct .apart i (length xs) l (rw length-append (omega arith))
+            (state-prefix (prefix-append xs (y ∷ ys)) i l ∙ e ∙ sym (state-seam xs y ys)))
+            in
+            omega arith
