@@ -1,4 +1,5 @@
 pub mod Counting
+pub mod Grid
 pub mod Lowest
 pub mod Members
 pub mod Size

@@ -4,15 +4,19 @@ use mathlib.Core.Bool.{Bool, true, false, _&&_, _||_, not, cond}
 use mathlib.Core.Logic.{_⊎_, inl, inr}
 use Prim.Native.Nat.{ℕ, zero, suc, _+_, _-_, _*_, _/_, _%_, _^_, _≤_, _<_}
 use native.Mathlib.Omega.{arith}
-use native.Mathlib.Nat.{pow-suc, lt-of-le-of-lt}
-use lib.Bits.{bitAnd, bitOr, and-le-l}
+use native.Mathlib.Nat.{pow-suc, one-mul, mod-eq-of-lt, mod-lt, lt-of-le-of-lt}
+use lib.Bits.{bitAnd, bitOr, and-le-l, or-zero-r}
+use lib.Count.{trailingZeros}
 use lib.Dec.{eqb, ltb}
+use lib.ListN.{getD}
+use lib.Pow.{pow-lt, pow-pos}
 use Rattle.basics.specs.Bounded.{any}
 use Rattle.basics.proofs.Booleans.{either, and-l, and-make, and-r, eqb-eq, not-false, or-l, or-r, or-true, same-truth}
 use Rattle.basics.proofs.Bounded.{any-find, any-make, any-none}
-use Rattle.sets.specs.Sets.{has, union, without}
-use Rattle.sets.proofs.Lowest.{Lowest, lowest-part}
+use Rattle.sets.specs.Sets.{has, size, subsets, union, without}
+use Rattle.sets.proofs.Lowest.{Lowest, lowest, lowest-less, lowest-lt, lowest-part}
 use Rattle.sets.proofs.Members.{ext, ext-all, first-in, first-made, first-out, first-unmade, has-and, has-half, has-lt, has-or, has-union, has-without, has-zero, without-lt}
+use Rattle.sets.proofs.Subsets.{spread, spread-lt, spread-mod, spread-turn, spread-zero, subsets-nth}
 
 -- join is associative
 or-assoc-bool : (a b c : Bool) → (a || b || c) ≡ (a || (b || c))
@@ -98,3 +102,76 @@ union-turn k row {s} {t} {rest} l w = ext-all (union k s row) (bitOr (row t) (un
         has-union k s row r ∙ same-truth (any k (whole r)) (has (row t) r || any k (rested r)) (down r) (up r)
         ∙ ap (λ (b : Bool). has (row t) r || b) (sym (has-union k rest row r))
         ∙ sym (has-or (row t) (union k rest row) r)
+
+pub union-none : (k s : ℕ) (row : ℕ → ℕ) → ((q : ℕ) → row q ≡ 0) → union k s row ≡ 0
+unfolding union
+union-none zero s row h = refl
+union-none (suc k) s row h =
+    let ih = union-none k s row h in
+    let e = h k in
+    elim (either (has s k)) [ inl y ↦ rw (y, ih, e) | inr y ↦ rw (y, ih) ]
+
+-- one turn of a walk: s & (s - 1) is what is left
+pub clear-less : (k s : ℕ) → s < 2 ^ k → (s ≡ 0 → ⊥) → bitAnd s (s - 1) < s
+clear-less k s l n = lowest-less (lowest k s l n)
+
+pub clear-lt : (k s : ℕ) → s < 2 ^ k → bitAnd s (s - 1) < 2 ^ k
+clear-lt k s l = lt-of-le-of-lt (and-le-l s (s - 1)) l
+
+-- joining rows: what was joined so far, joined with the union over what is left, stays the same
+pub join-turn :
+    (k : ℕ) (row : ℕ → ℕ) (all left whole : ℕ) → left < 2 ^ k → (left ≡ 0 → ⊥) → bitOr all (union k left row) ≡ whole →
+    bitOr (bitOr all (row (trailingZeros k left))) (union k (bitAnd left (left - 1)) row) ≡ whole
+join-turn k row all left whole l n e =
+    let t = trailingZeros k left in
+    let rest = bitAnd left (left - 1) in
+    let u = union-turn k row l (lowest k left l n) in
+    or-assoc all (row t) (union k rest row) ∙ ap (λ (x : ℕ). bitOr all x) (sym u) ∙ e
+
+pub join-end :
+    (k : ℕ) (row : ℕ → ℕ) (all left whole : ℕ) → left ≡ 0 → bitOr all (union k left row) ≡ whole → all ≡ whole
+join-end k row all left whole z e =
+    let e′ : bitOr all (union k 0 row) ≡ whole = rw z at e in
+    sym (or-zero-r all) ∙ ap (λ (x : ℕ). bitOr all x) (sym (union-zero k row)) ∙ e′
+
+-- 1 << t, in k digits
+pub shift-one : (k t : ℕ) → t < k → 1 * 2 ^ t % 2 ^ k ≡ 2 ^ t
+shift-one k t l = rw (one-mul (2 ^ t)) (mod-eq-of-lt (pow-lt l))
+
+-- choosing members: what was taken so far, with what the digits left choose of the members left, stays the same
+module _
+    (k left digits part s i : ℕ)
+    (l : left < 2 ^ k)
+    (n : left ≡ 0 → ⊥)
+    (e : part + spread k left digits ≡ spread k s i)
+  where
+    pub take-turn :
+        (more : ℕ) → digits % 2 ≡ 1 → more ≡ part + 1 * 2 ^ trailingZeros k left % 2 ^ k →
+        more + spread k (bitAnd left (left - 1)) (digits / 2) ≡ spread k s i
+    take-turn more d m =
+        let h = first-made digits d in
+        let t = spread-turn k digits l (lowest k left l n) in
+        let t′ = rw h at t in
+        let o = shift-one k (trailingZeros k left) (lowest-lt k left l n) in omega arith
+
+    pub take-fits : digits % 2 ≡ 1 → part + 1 * 2 ^ trailingZeros k left % 2 ^ k < 2 ^ k
+    take-fits d =
+        let t = take-turn (part + 1 * 2 ^ trailingZeros k left % 2 ^ k) d refl in
+        let b = spread-lt k s i in omega arith
+
+    pub leave-turn :
+        (more : ℕ) → (digits % 2 ≡ 1 → ⊥) → more ≡ part →
+        more + spread k (bitAnd left (left - 1)) (digits / 2) ≡ spread k s i
+    leave-turn more d m =
+        let h = first-unmade digits (omega arith) in
+        let t = spread-turn k digits l (lowest k left l n) in
+        let t′ = rw h at t in omega arith
+
+pub choose-end :
+    (k left digits part s i : ℕ) → left ≡ 0 → part + spread k left digits ≡ spread k s i →
+    part ≡ getD (subsets k s) (i % 2 ^ size k s) 0
+choose-end k left digits part s i z e =
+    let e′ : part + spread k 0 digits ≡ spread k s i = rw z at e in
+    let none = spread-zero k digits in
+    let p : part ≡ spread k s i = omega arith in
+    p ∙ sym (spread-mod k s i) ∙ sym (subsets-nth k s (i % 2 ^ size k s) (mod-lt i (pow-pos (size k s))))

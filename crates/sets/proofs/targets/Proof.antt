@@ -1,0 +1,92 @@
+-- `sets::targets` meets its contract. The loop's invariant: what was joined so far, joined with the union over the members left, is the union over the set.
+-- The measure is the set of the members left, as a number. Assumes nothing.
+use mathlib.Core.Path.{_≡_, refl, sym}
+use mathlib.Core.List.{[]}
+use Prim.Native.Nat.{ℕ, _^_, _<_}
+use native.Mathlib.Omega.{arith}
+use lib.Bits.{bitOr}
+use lib.ListN.{getD}
+use Rattle.sets.specs.Sets.{union}
+use Rattle.sets.proofs.Grid.{grid, no-letter}
+use Rattle.sets.proofs.Lowest.{lowest-lt}
+use Rattle.sets.proofs.Walk.{clear-less, clear-lt, join-end, join-turn, union-none}
+use Rattle.sets.proofs.targets.Statement.{statement}
+use Rattle.sets.proofs.targets.Tie as tie
+
+abbrev Inv-loop : tie.InvT-loop
+Inv-loop letter set moves left₀ all₀ left all =
+    (left < 2 ^ 32)
+    × (bitOr all (union 32 left (λ q. getD (getD moves q []) letter 0))
+    ≡ union 32 set (λ q. getD (getD moves q []) letter 0))
+
+abbrev μ-loop : tie.MeasureT-loop
+μ-loop letter set moves left₀ all₀ left all = left
+
+returns : tie.Need-returns Inv-loop μ-loop
+returns c =
+    let start = c .before in
+    sym
+    (union-none 32 (start .args .set) (λ q. getD (getD (start .args .t1) q []) (start .args .letter) 0)
+    (λ q. no-letter (grid (start .args .t1) _ (start .good .0)) q (start .args .letter) (c .if1 .taken)))
+
+loop-holds : tie.Need-loop-holds Inv-loop μ-loop
+loop-holds c = (c .before .fits .set .fits, refl)
+
+cast-state : tie.Need-cast-state Inv-loop μ-loop
+cast-state c =
+    let t = lowest-lt 32 (c .before .loop .left) (c .before .loop .inv .0) (c .loop-test .taken) in omega arith
+
+mul-all : tie.Need-mul-all Inv-loop μ-loop
+mul-all c =
+    let t = lowest-lt 32 (c .before .loop .left) (c .before .loop .inv .0) (c .loop-test .taken) in omega arith
+
+mul-all-2 : tie.Need-mul-all-2 Inv-loop μ-loop
+mul-all-2 c = omega arith
+
+index-1-all : tie.Need-index-1-all Inv-loop μ-loop
+index-1-all c = lowest-lt 32 (c .before .loop .left) (c .before .loop .inv .0) (c .loop-test .taken)
+
+index-2-all : tie.Need-index-2-all Inv-loop μ-loop
+index-2-all c = c .before .before .if1 .left
+
+sub-left : tie.Need-sub-left Inv-loop μ-loop
+sub-left c = let n = c .before .loop-test .taken in omega arith
+
+loop-less : tie.Need-loop-less Inv-loop μ-loop
+loop-less c =
+    clear-less 32 (c .before .before .loop .left) (c .before .before .loop .inv .0) (c .before .loop-test .taken)
+
+loop-again : tie.Need-loop-again Inv-loop μ-loop
+loop-again c =
+    let at = c .before .before .loop in
+    let args = c .before .before .before .before .args in (
+      clear-lt 32 (at .left) (at .inv .0),
+      join-turn 32 (λ q. getD (getD (args .t1) q []) (args .letter) 0) (at .all) (at .left)
+          (union 32 (args .set) (λ q. getD (getD (args .t1) q []) (args .letter) 0)) (at .inv .0) (c .before .loop-test .taken)
+          (at .inv .1),
+    )
+
+returns-2 : tie.Need-returns-2 Inv-loop μ-loop
+returns-2 c =
+    let at = c .before .loop in
+    let args = c .before .before .before .args in
+    join-end 32 (λ q. getD (getD (args .t1) q []) (args .letter) 0) (at .all) (at .left)
+    (union 32 (args .set) (λ q. getD (getD (args .t1) q []) (args .letter) 0)) (c .loop-test .left) (at .inv .1)
+
+pub targets-spec : {M : Type 1} → statement M
+targets-spec =
+    tie.close
+    (tie.spec
+    Inv-loop
+    μ-loop
+    returns
+    loop-holds
+    cast-state
+    mul-all
+    mul-all-2
+    index-1-all
+    index-2-all
+    sub-left
+    loop-less
+    loop-again
+    returns-2)
