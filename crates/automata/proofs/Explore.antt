@@ -1,18 +1,17 @@
 -- Exploring a system finds exactly what document 01 asks for ("Numbering and result"): `explore-exactly`. Assumes nothing.
 use mathlib.Core.Path.{_≡_, refl, sym, _∙_, ap, subst}
-use mathlib.Core.Bool.{Bool, true, false}
 use mathlib.Core.List.{List, [], _∷_, _++_, append-assoc, append-nil}
-use mathlib.Core.Logic.{_⊎_, inl, inr}
+use mathlib.Core.Logic.{inl, inr}
 use Prim.Native.Nat.{ℕ, zero, suc, _+_, _≤_, _<_}
 use native.Mathlib.Omega.{arith}
 use lib.Dec.{ltb, leb, eqb}
-use lib.ListN.{length, getD, take, length-append, List·getD-append}
+use lib.ListN.{length, length-append, List·getD-append}
 use lib.Seq.{append-snoc, getD-append-seam}
 use Rattle.basics.proofs.Booleans.{either, eqb-eq, eqb-ne, ltb-lt, ltb-ge, leb-le, leb-gt, le-leb, gt-leb}
 use Rattle.automata.specs.System.{System, Decides, Member, here, there, Reached, at-start, onward}
 use Rattle.automata.specs.System.{state-at, Distinct, At-most, Edge, an-edge, Built, built, number-of, with-state, with-states}
 use Rattle.automata.specs.System.{add-edge, add-all, by-letters, expand, explore-from, begin, explore, edges-to, edges-on, edges-of, edge-at, Exactly}
-use Rattle.automata.proofs.Members.{Prefix, prefix-self, prefix-append, prefix-then, prefix-length, prefix-take}
+use Rattle.automata.proofs.Members.{Prefix, prefix-self, prefix-then, prefix-length, prefix-take}
 use Rattle.automata.proofs.Members.{member-at, number-found, number-member, number-prefix, listed-prefix, state-prefix}
 use Rattle.automata.proofs.Members.{with-cases, with-prefix, with-number, with-listed, with-distinct, with-each, distinct-once}
 use Rattle.automata.proofs.Members.{with-states-prefix, with-states-listed, with-states-new, with-distinct}
@@ -30,7 +29,8 @@ abbrev pub First-edge : List Edge → ℕ → Type 0
 First-edge es i =
     (r : ℕ) × (r < length es) × (edge-at es r .target ≡ i) × ((q : ℕ) → q < r → edge-at es q .target < i)
 
--- at any moment of exploring: initial states stand first, every listed state is reached and listed once, every edge leads to a listed state, and each further state has the edge that found it
+-- at any moment of exploring: initial states stand first, every listed state is reached and listed once,
+-- every edge leads to a listed state, and each further state has the edge that found it
 pub record Sound {X : Type 0} (s : System X) (b : Built X) : Type 0 where
   pub first : Prefix (s .starts) (b .states)
   pub distinct : Distinct s (b .states)
@@ -38,7 +38,7 @@ pub record Sound {X : Type 0} (s : System X) (b : Built X) : Type 0 where
   pub targets : (r : ℕ) → r < length (b .edges) → edge-at (b .edges) r .target < length (b .states)
   pub discovery : (i : ℕ) → length (s .starts) ≤ i → i < length (b .states) → First-edge (b .edges) i
 
--- between states: those with numbers below the limit have their successors listed and their edges recorded, and no other edge is
+-- between states: of those with numbers below the limit the successors are listed and the edges recorded, and no other edge is
 pub record Explored {X : Type 0} (s : System X) (limit : ℕ) (b : Built X) : Type 0 where
   pub sound : Sound s b
   pub inside : limit ≤ length (b .states)

@@ -1,19 +1,18 @@
 -- Exploring as three nested loops see it, over states, letters and successors: what each loop may carry as its invariant, its turns and its end; what was found only grows. Assumes nothing.
 use mathlib.Core.Path.{_≡_, refl, sym, _∙_, ap}
-use mathlib.Core.Bool.{Bool, true, false}
 use mathlib.Core.List.{List, [], _∷_, _++_}
-use mathlib.Core.Logic.{_⊎_, inl, inr}
+use mathlib.Core.Logic.{inl, inr}
 use Prim.Native.Nat.{ℕ, zero, suc, _+_, _≤_, _<_}
 use native.Mathlib.Omega.{arith}
 use lib.Dec.{leb, eqb}
 use lib.ListN.{length, take, drop, take-append-drop}
 use lib.Seq.{take-suc, take-all}
 use Rattle.basics.proofs.Booleans.{either, eqb-eq, eqb-ne, leb-le, leb-gt}
-use Rattle.automata.specs.System.{System, Decides, Member, Reached, onward, state-at, Distinct, At-most}
-use Rattle.automata.specs.System.{Edge, an-edge, Built, built, number-of, with-state}
+use Rattle.automata.specs.System.{System, Decides, Reached, onward, state-at, Distinct, At-most}
+use Rattle.automata.specs.System.{an-edge, Built, built, number-of}
 use Rattle.automata.specs.System.{add-edge, add-all, by-letters, expand, explore-from, begin, explore}
 use Rattle.automata.proofs.Members.{Prefix, prefix-self, prefix-append, prefix-then, prefix-length, with-prefix, state-prefix, member-left, with-known, with-new}
-use Rattle.automata.proofs.Explore.{Sound, Explored, explore-step, explore-end, sound-at-most, sound-edge, sound-all, sound-letters, explored-step, explored-begin, explore-at-most}
+use Rattle.automata.proofs.Explore.{Sound, Explored, explore-step, explore-end, sound-at-most, sound-all, sound-letters, explored-step, explored-begin, explore-at-most}
 
 -- GROWTH: the states and the edges of the second go on from those of the first
 pub record Grows {X : Type 0} (b later : Built X) : Type 0 where

@@ -4,5 +4,6 @@ pub mod Explore
 pub mod Exploring
 pub mod Graphs
 pub mod Members
+pub mod Numbered
 pub mod Positions
 pub mod Same

@@ -1,14 +1,13 @@
 -- Laws of lists of states: prefixes, members, the number of a state, and appending one that is new. Assumes nothing.
 use mathlib.Core.Path.{_≡_, refl, sym, _∙_, ap}
-use mathlib.Core.Bool.{Bool, true, false, cond}
 use mathlib.Core.List.{List, [], _∷_, _++_, append-assoc, append-nil}
 use mathlib.Core.Logic.{_⊎_, inl, inr}
 use Prim.Native.Nat.{ℕ, zero, suc, _+_, _≤_, _<_}
 use native.Mathlib.Omega.{arith}
-use lib.Dec.{ltb, eqb}
+use lib.Dec.{ltb}
 use lib.ListN.{length, getD, take, drop, length-append, take-append-drop, List·getD-append}
 use lib.Seq.{append-snoc, getD-append-seam, take-append-seam}
-use Rattle.basics.proofs.Booleans.{either, clash, ltb-lt, ltb-ge, lt-ltb, ge-ltb}
+use Rattle.basics.proofs.Booleans.{either, ltb-lt, ltb-ge, lt-ltb, ge-ltb}
 use Rattle.automata.specs.System.{System, Decides, Member, here, there, state-at, Distinct, number-of, with-state, with-states}
 
 -- PREFIXES: the second list goes on from the first
