@@ -1,4 +1,5 @@
--- Exploring as three nested loops see it, over states, letters and successors: what each loop may carry as its invariant, its turns and its end; what was found only grows. Assumes nothing.
+-- Exploring as three nested loops see it, over states, letters and successors: what each loop carries as its invariant, its turns and
+-- its end. What was found only grows. Assumes nothing.
 use mathlib.Core.Path.{_≡_, refl, sym, _∙_, ap}
 use mathlib.Core.List.{List, [], _∷_, _++_}
 use mathlib.Core.Logic.{inl, inr}
@@ -276,7 +277,8 @@ module _ {X : Type 0} (s : System X) (decides : Decides s) (fuel : ℕ) (most : 
   pub successor-sound : {i c j : ℕ} {b : Built X} → At-successor s fuel i c j b → Sound s b
   successor-sound {i} {c} {j} h =
       rw (h .now)
-      (sound-all s decides i c (take j (s .nexts x c)) (h .before) (λ y m. onward c r (h .letter-range) (rw take-append-drop at (member-left (drop j (s .nexts x c)) m)))
+      (sound-all s decides i c (take j (s .nexts x c)) (h .before)
+      (λ y m. onward c r (h .letter-range) (rw take-append-drop at (member-left (drop j (s .nexts x c)) m)))
       (letter-sound (h .letter)))
     where
       x : X
