@@ -1,4 +1,13 @@
 pub mod Breakpoint
 pub mod Disjoint
 pub mod Fine
+pub mod Free
+pub mod Initials
+pub mod Lists
+pub mod Parting
+pub mod Pigeon
+pub mod Reached
+pub mod Successors
+pub mod Targets
+pub mod Tracked
 pub mod Unique

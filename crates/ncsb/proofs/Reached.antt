@@ -1,0 +1,74 @@
+-- The system of quadruples: its equality is decided, its reached states are fine, and its accepting runs are those of section 3.2.
+-- Assumes nothing.
+use mathlib.Core.Path.{_≡_}
+use mathlib.Core.Bool.{true, _&&_}
+use Prim.Native.Nat.{ℕ, zero, suc}
+use lib.Dec.{eqb}
+use Rattle.basics.proofs.Booleans.{and-l, and-r, and-make, eqb-eq, eq-eqb, eqb-self}
+use Rattle.automata.specs.Automaton.{Automaton}
+use Rattle.automata.specs.System.{Decides, Reached, at-start, onward, System-run, state-at, Distinct}
+use Rattle.ncsb.specs.Moves.{Moves, Spread, Split}
+use Rattle.ncsb.specs.Step.{Fine, Ncsb-run}
+use Rattle.ncsb.specs.Successors.{quadruple, same, accepting, initials, successors, ncsb}
+use Rattle.ncsb.specs.declared.Quadruple.{Quadruple}
+use Rattle.ncsb.proofs.Fine.{start-fine, step-fine, run-fine}
+use Rattle.ncsb.proofs.Initials.{initials-distinct, member-start, start-member}
+use Rattle.ncsb.proofs.Parting.{same-parts}
+use Rattle.ncsb.proofs.Successors.{successors-distinct, member-step, step-member}
+
+same-means : (x y : Quadruple) → same x y ≡ true → x ≡ y
+unfolding same
+same-means x y h =
+    let nc = and-l (eqb (x .S) (y .S) && eqb (x .B) (y .B)) h in
+    let sb = and-r (eqb (x .N) (y .N) && eqb (x .C) (y .C)) h in
+    same-parts (eqb-eq (x .N) (y .N) (and-l (eqb (x .C) (y .C)) nc))
+    (eqb-eq (x .C) (y .C) (and-r (eqb (x .N) (y .N)) nc)) (eqb-eq (x .S) (y .S) (and-l (eqb (x .B) (y .B)) sb))
+    (eqb-eq (x .B) (y .B) (and-r (eqb (x .S) (y .S)) sb))
+
+same-itself : (x : Quadruple) → same x x ≡ true
+unfolding same
+same-itself x =
+    and-make (and-make (eqb-self (x .N)) (eqb-self (x .C))) (and-make (eqb-self (x .S)) (eqb-self (x .B)))
+
+pub decides : (d : Moves) → Decides (ncsb d)
+unfolding ncsb
+decides d = record { same-eq = same-means; same-self = same-itself }
+
+-- no initial quadruple and no successor stands in its list twice
+pub initials-apart : (d : Moves) → Distinct (ncsb d) (initials d)
+unfolding state-at ncsb
+initials-apart d = record { apart = initials-distinct d (quadruple 0 0 0 0) }
+
+pub successors-apart : (d : Moves) (x : Quadruple) (c : ℕ) → Distinct (ncsb d) (successors d x c)
+unfolding state-at ncsb
+successors-apart d x c = record { apart = successors-distinct d x c (quadruple 0 0 0 0) }
+
+module _ {a : Automaton} {d : Moves} (sp : Spread a d) (sl : Split a d) where
+  -- what the system reaches is fine
+  pub reached-fine : {x : Quadruple} → Reached (ncsb d) x → Fine d x
+  unfolding ncsb
+  reached-fine (at-start m) = start-fine (member-start sp m)
+  reached-fine (onward c r l m) = step-fine (member-step sp sl (reached-fine r) c m)
+
+  system-fine : {w : ℕ → ℕ} {run : ℕ → Quadruple} → System-run (ncsb d) w run → (i : ℕ) → Fine d (run i)
+  unfolding ncsb
+  system-fine {w} r zero = start-fine (member-start sp (r .begins))
+  system-fine {w} r (suc i) = step-fine (member-step sp sl (system-fine r i) (w i) (r .goes-on i))
+
+  pub system-run→ncsb-run : {w : ℕ → ℕ} {run : ℕ → Quadruple} → System-run (ncsb d) w run → Ncsb-run a d w run
+  unfolding ncsb accepting
+  system-run→ncsb-run {w} {run} r =
+      record {
+        begins = member-start sp (r .begins);
+        goes-on = λ i. member-step sp sl (system-fine r i) (w i) (r .goes-on i);
+        accepting = λ i. let k = r .accepting i in (k .0, k .1, eqb-eq (run (k .0) .B) 0 (k .2));
+      }
+
+  pub ncsb-run→system-run : {w : ℕ → ℕ} {run : ℕ → Quadruple} → Ncsb-run a d w run → System-run (ncsb d) w run
+  unfolding ncsb accepting
+  ncsb-run→system-run {w} {run} r =
+      record {
+        begins = start-member sp (r .begins);
+        goes-on = λ i. step-member sp sl (run-fine r i) (w i) (r .goes-on i);
+        accepting = λ i. let k = r .accepting i in (k .0, k .1, eq-eqb (k .2));
+      }
