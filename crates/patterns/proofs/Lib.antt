@@ -1,3 +1,4 @@
 pub mod Inner
 pub mod Passed
 pub mod Split
+pub mod Walks

@@ -1,3 +1,4 @@
 pub mod Check
+pub mod Masks
 pub mod Pattern
 pub mod Reach

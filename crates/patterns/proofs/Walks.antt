@@ -1,0 +1,196 @@
+-- The walk along a state's chain: the sets so far, with what the rest of the chain still has, are the state's edges. Assumes nothing.
+use mathlib.Core.Path.{_≡_, refl, sym, _∙_, ap}
+use mathlib.Core.Bool.{Bool, true, false, _&&_, _||_, cond}
+use mathlib.Core.List.{List}
+use mathlib.Core.Logic.{_⊎_, inl, inr}
+use Prim.Native.Nat.{ℕ, zero, suc, _+_, _*_, _-_, _%_, _^_, _≤_, _<_}
+use native.Mathlib.Omega.{arith}
+use native.Mathlib.Nat.{one-mul, mod-eq-of-lt, lt-of-lt-of-le}
+use lib.Dec.{ltb, eqb}
+use lib.Pow.{pow-pos, pow-lt}
+use lib.Bits.{bitOr, or-lt}
+use lib.ListN.{length, getD, set, replicate, length-set, length-replicate, getD-replicate, List·getD-eq-default}
+use lib.Seq.{getD-set-same, getD-set-other, ext-getD}
+use Rattle.basics.proofs.Booleans.{either, and-make, eqb-eq, eqb-ne, eq-eqb, eqb-self, ne-eqb, lt-ltb, ltb-lt, ltb-ge}
+use Rattle.automata.specs.Decision.{tabulate}
+use Rattle.automata.proofs.Graphs.{tabulate-at}
+use Rattle.sets.specs.Sets.{has}
+use Rattle.sets.proofs.Members.{has-zero, has-or, has-single, ext, set-of-lt}
+use Rattle.tables.specs.Access.{Record-asks}
+use Rattle.tables.specs.Table.{pattern-range, n-of, m-of, head-of, letter-of, target-of, next-of, chain-has, edge, meaning}
+use Rattle.tables.proofs.Laws.{Valid, valid, next-later, chain-ends, chain-step, meaning-closed}
+use Rattle.patterns.specs.Pattern.{targets-of}
+use Rattle.patterns.specs.Masks.{row-of, Row-asks}
+use Rattle.patterns.proofs.Split.{has-targets}
+
+-- the sets so far, with what the chain from record `at` on still has, are the state's edges
+pub record Walked (t : List ℕ) (state : ℕ) (row : List ℕ) (at : ℕ) : Type 0 where
+  pub whole : length row ≡ 16
+  pub link : at ≤ m-of t
+  pub small : (c : ℕ) → getD row c 0 < 2 ^ n-of t
+  pub rest : (c q : ℕ) → c < 16 → (has (getD row c 0) q || chain-has (m-of t) t at c q) ≡ edge t state c q
+
+-- what is left of a chain: none past its end, and less with each record
+unfoldable pub left : (m at : ℕ) → ℕ
+left m at = cond (eqb at 0) 0 (suc m - at)
+
+or-assoc : (a b c : Bool) → ((a || b) || c) ≡ (a || (b || c))
+or-assoc true b c = refl
+or-assoc false b c = refl
+
+or-none : (a : Bool) → (a || false) ≡ a
+or-none true = refl
+or-none false = refl
+
+-- empty sets in every place
+zeros-at : (k c : ℕ) → getD {A = ℕ} (replicate k 0) c 0 ≡ 0
+zeros-at k c =
+    elim (either (ltb c k)) [
+      | inl e ↦ getD-replicate k c 0 0 (ltb-lt c k e)
+      | inr e ↦
+          let past = ltb-ge c k e in
+          let long = length-replicate {A = ℕ} k 0 in
+          List·getD-eq-default (replicate k 0) 0 (omega arith)
+    ]
+
+pub tabulate-length : {A : Type 0} (k : ℕ) (f : ℕ → A) → length (tabulate k f) ≡ k
+unfolding tabulate
+tabulate-length zero f = refl
+tabulate-length (suc k) f = ap suc (tabulate-length k (λ i. f (suc i)))
+
+-- the set of one state, as it is shifted
+shifted : (q : ℕ) → q < 32 → 1 * 2 ^ q % 2 ^ 32 ≡ 2 ^ q
+shifted q l = rw (one-mul (2 ^ q)) (mod-eq-of-lt (pow-lt {i = q} {j = 32} l))
+
+module _ (t : List ℕ) (states s : ℕ) (asks : Row-asks t states s) where
+  v : Valid pattern-range t
+  v = valid pattern-range t (asks .pattern)
+
+  few : n-of t ≤ 32
+  unfolding pattern-range
+  few = v .states-to
+
+  inside : s < n-of t
+  inside = omega arith
+
+  pub walk-state : s < 65536
+  walk-state = let a = inside in let b = few in omega arith
+
+  -- what reading a record of the chain asks and answers
+  pub walk-record : (row : List ℕ) (at : ℕ) → (at ≡ 0 → ⊥) → Walked t s row at → Record-asks t states at
+  unfolding pattern-range
+  walk-record row at some w =
+      let m = v .records-to in
+      let n = few in
+      let link = w .link in
+      record { counted = asks .counted; few = omega arith; from-one = omega arith; small = omega arith }
+
+  pub walk-letter : (row : List ℕ) (at l : ℕ) → (at ≡ 0 → ⊥) → Walked t s row at → l ≡ letter-of t at → l < 16
+  walk-letter row at l some w e = let a = v .letter at (omega arith) (w .link) in let k = v .letters-to in omega arith
+
+  pub walk-target : (row : List ℕ) (at q : ℕ) → (at ≡ 0 → ⊥) → Walked t s row at → q ≡ target-of t at → q < 32
+  walk-target row at q some w e = let a = v .target at (omega arith) (w .link) in let n = few in omega arith
+
+  pub walk-start : (at : ℕ) → at ≡ head-of t s → Walked t s (replicate 16 0) at
+  unfolding edge
+  walk-start at e =
+      record {
+        whole = length-replicate {A = ℕ} 16 0;
+        link = let h = v .head s inside in omega arith;
+        small = λ c. rw (zeros-at 16 c) (pow-pos (n-of t));
+        rest = λ c q l. rw (zeros-at 16 c, has-zero q, e);
+      }
+
+  -- one record read: its edge is in the sets, and the rest of the chain is left
+  pub walk-turn :
+      (row : List ℕ) (at l q x : ℕ) → (at ≡ 0 → ⊥) → Walked t s row at → l ≡ letter-of t at → q ≡ target-of t at →
+      x ≡ next-of t at → Walked t s (set row l (bitOr (getD row l 0) (1 * 2 ^ q % 2 ^ 32))) x
+  walk-turn row at l q x some w el eq ex =
+      record {
+        whole = length-set row l (bitOr (getD row l 0) (1 * 2 ^ q % 2 ^ 32)) ∙ w .whole;
+        link = let next = v .next at from (w .link) in omega arith;
+        small = λ c. small c (either (eqb c l));
+        rest = λ c r below. rest c r below (either (eqb c l));
+      }
+    where
+      from : 1 ≤ at
+      from = omega arith
+
+      inside-row : l < length row
+      inside-row = let a = walk-letter row at l some w el in let d = w .whole in omega arith
+
+      below-n : q < n-of t
+      below-n = let a = v .target at from (w .link) in omega arith
+
+      bit : 1 * 2 ^ q % 2 ^ 32 ≡ 2 ^ q
+      bit = shifted q (walk-target row at q some w eq)
+
+      -- the set that is written
+      put : getD (set row l (bitOr (getD row l 0) (1 * 2 ^ q % 2 ^ 32))) l 0 ≡ bitOr (getD row l 0) (2 ^ q)
+      put =
+          getD-set-same row l (bitOr (getD row l 0) (1 * 2 ^ q % 2 ^ 32)) 0 inside-row
+          ∙ ap (λ (b : ℕ). bitOr (getD row l 0) b) bit
+
+      others :
+          (c : ℕ) → eqb c l ≡ false → getD (set row l (bitOr (getD row l 0) (1 * 2 ^ q % 2 ^ 32))) c 0 ≡ getD row c 0
+      others c ne = getD-set-other row l c (bitOr (getD row l 0) (1 * 2 ^ q % 2 ^ 32)) 0 (eqb-ne c l ne)
+
+      small :
+          (c : ℕ) → (eqb c l ≡ true) ⊎ (eqb c l ≡ false) →
+          getD (set row l (bitOr (getD row l 0) (1 * 2 ^ q % 2 ^ 32))) c 0 < 2 ^ n-of t
+      small c (inl e) =
+          rw (eqb-eq c l e, put) (or-lt (n-of t) (getD row l 0) (2 ^ q) (w .small l) (pow-lt below-n))
+      small c (inr e) = rw (others c e) (w .small c)
+
+      rest :
+          (c r : ℕ) → c < 16 → (eqb c l ≡ true) ⊎ (eqb c l ≡ false) →
+          (has (getD (set row l (bitOr (getD row l 0) (1 * 2 ^ q % 2 ^ 32))) c 0) r || chain-has (m-of t) t x c r) ≡ edge t s c r
+      rest c r below (inl e) =
+          let before = w .rest c r below in
+          let step = chain-step v at c r from (w .link) in
+          let same = eqb-eq c l e in
+          let here : eqb (letter-of t at) c ≡ true = eq-eqb (sym (same ∙ el)) in
+          let written : has (getD (set row l (bitOr (getD row l 0) (1 * 2 ^ q % 2 ^ 32))) c 0) r ≡ (has (getD row c 0) r || eqb q r) =
+          rw (same, put, has-or (getD row l 0) (2 ^ q) r, has-single q r) in
+          let assoc = or-assoc (has (getD row c 0) r) (eqb q r) (chain-has (m-of t) t x c r) in cc
+      rest c r below (inr e) =
+          let before = w .rest c r below in
+          let step = chain-step v at c r from (w .link) in
+          let elsewhere : eqb (letter-of t at) c ≡ false =
+          ne-eqb (letter-of t at) c (λ same. eqb-ne c l e (sym (el ∙ same))) in
+          let kept = others c e in cc
+
+  pub walk-less :
+      (row : List ℕ) (at x : ℕ) → (at ≡ 0 → ⊥) → Walked t s row at → x ≡ next-of t at → left (m-of t) x < left (m-of t) at
+  unfolding left
+  walk-less row at x some w ex =
+      let l = w .link in
+      rw ex
+      let this : eqb at 0 ≡ false = ne-eqb at 0 some in
+      elim (next-later v at (omega arith) l) [
+        | inl e ↦ let ended : eqb (next-of t at) 0 ≡ true = rw e in rw (this, ended) (omega arith)
+        | inr f ↦
+            let more : eqb (next-of t at) 0 ≡ false = ne-eqb (next-of t at) 0 (λ e. omega arith) in
+            rw (this, more) (omega arith)
+      ]
+
+  -- past the end of the chain the sets are the state's targets
+  pub walk-end : (row : List ℕ) (at : ℕ) → at ≡ 0 → Walked t s row at → row ≡ row-of (meaning t) s
+  unfolding row-of targets-of meaning
+  walk-end row at none w =
+      ext-getD 0 row (tabulate 16 (targets-of (meaning t) s)) (w .whole ∙ sym (tabulate-length 16 (targets-of (meaning t) s)))
+      (λ c l.
+      let below : c < 16 = let e = w .whole in omega arith in
+      set-at c below ∙ sym (tabulate-at 16 (targets-of (meaning t) s) c 0 below))
+    where
+      set-at : (c : ℕ) → c < 16 → getD row c 0 ≡ targets-of (meaning t) s c
+      set-at c below =
+          ext (n-of t) (getD row c 0) (targets-of (meaning t) s c) (w .small c) (set-of-lt (n-of t) (meaning t .edge s c))
+          (λ q l.
+          let all = w .rest c q below in
+          let ended : chain-has (m-of t) t at c q ≡ false = rw none (chain-ends (m-of t) t c q) in
+          let left : ltb s (n-of t) ≡ true = lt-ltb inside in
+          let right : ltb q (n-of t) ≡ true = lt-ltb l in
+          let target = has-targets (meaning t) (meaning-closed v) s c q in
+          let same = or-none (has (getD row c 0) q) in
+          cc)

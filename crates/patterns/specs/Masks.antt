@@ -1,0 +1,23 @@
+-- The edges spread out by state and by letter (document 01, "Semi-determinism": "a table by state and by letter of target sets"): 32 rows
+-- of 16 sets, and what is computed over them. Assumes nothing: these are definitions.
+use mathlib.Core.Path.{_≡_}
+use mathlib.Core.List.{List, []}
+use Prim.Native.Nat.{ℕ, _<_}
+use Rattle.automata.specs.Automaton.{Automaton}
+use Rattle.automata.specs.Decision.{tabulate}
+use Rattle.tables.specs.Table.{pattern-range, table-refusal, n-of}
+use Rattle.patterns.specs.Pattern.{targets-of}
+
+-- a state's targets for each of 16 letters; a letter that the automaton lacks has none
+unfoldable pub row-of : Automaton → (state : ℕ) → List ℕ
+row-of a q = tabulate 16 (targets-of a q)
+
+-- the rows of 32 states; what is no state has no target
+unfoldable pub masks-of : Automaton → List (List ℕ)
+masks-of a = tabulate 32 (row-of a)
+
+-- what the walk along a state's chain asks: a pattern, its state count, and one of its states
+pub record Row-asks (table : List ℕ) (states state : ℕ) : Type 0 where
+  pub pattern : table-refusal pattern-range table ≡ 0
+  pub counted : states ≡ n-of table
+  pub inside : state < states
