@@ -105,7 +105,7 @@ module _ {X : Type 0} (s : System X) where
   edges-on-kept p (suc c) i x h =
       rw (edges-on-kept p c i x (λ d l. h d (omega arith)), edges-to-kept p i c (s .nexts x c) (h c (omega arith)))
 
-  edges-of-kept :
+  pub edges-of-kept :
       {xs all : List X} → Prefix xs all → (limit : ℕ) → limit ≤ length xs → Closed-below s limit xs →
       edges-of s all limit ≡ edges-of s xs limit
   unfolding edges-of

@@ -11,9 +11,9 @@ use lib.Seq.{take-suc, take-all}
 use Rattle.basics.proofs.Booleans.{either, eqb-eq, eqb-ne, leb-le, leb-gt}
 use Rattle.automata.specs.System.{System, Decides, Reached, onward, state-at, Distinct, At-most}
 use Rattle.automata.specs.System.{an-edge, Built, built, number-of}
-use Rattle.automata.specs.System.{add-edge, add-all, by-letters, expand, explore-from, begin, explore}
+use Rattle.automata.specs.System.{add-edge, add-all, by-letters, expand, explore-from, begin, explore, edges-of}
 use Rattle.automata.proofs.Members.{Prefix, prefix-self, prefix-append, prefix-then, prefix-length, with-prefix, state-prefix, member-left, with-known, with-new}
-use Rattle.automata.proofs.Explore.{Sound, Explored, explore-step, explore-end, sound-at-most, sound-all, sound-letters, explored-step, explored-begin, explore-at-most}
+use Rattle.automata.proofs.Explore.{Sound, Explored, edges-of-kept, explore-step, explore-end, sound-at-most, sound-all, sound-letters, explored-step, explored-begin, explore-at-most}
 
 -- GROWTH: the states and the edges of the second go on from those of the first
 pub record Grows {X : Type 0} (b later : Built X) : Type 0 where
@@ -180,6 +180,11 @@ module _ {X : Type 0} (s : System X) (decides : Decides s) (fuel : ℕ) (most : 
 
   pub state-grows : {i : ℕ} {b : Built X} → At-state s fuel i b → Grows b (explore fuel s)
   state-grows {i} {b} h = rw (← h .rest) (grows-explore s (h .left) i b)
+
+  -- the edges so far are those of the states before, with their numbers at the end
+  pub state-edges : {i : ℕ} {b : Built X} → At-state s fuel i b → b .edges ≡ edges-of s (explore fuel s .states) i
+  state-edges {i} h =
+      h .explored .edges ∙ sym (edges-of-kept s (state-grows h .states) i (h .explored .inside) (h .explored .closed))
 
   -- the loop over the letters
   pub letter-begin : {i : ℕ} {b : Built X} → i < length (b .states) → At-state s fuel i b → At-letter s fuel i 0 b
