@@ -1,13 +1,16 @@
 pub mod Breakpoint
 pub mod Disjoint
+pub mod Exists
 pub mod Fine
 pub mod Free
 pub mod Initials
 pub mod Lists
 pub mod Parting
 pub mod Pigeon
+pub mod Rational
 pub mod Reached
 pub mod Successors
 pub mod Targets
+pub mod Traces
 pub mod Tracked
 pub mod Unique

@@ -1,0 +1,180 @@
+-- Lemma 2 of document 004, for lassos: a lasso that the pattern does not take has an accepting run of quadruples. Assumes nothing.
+-- A mark that a path meets after more steps than the product has nodes lies on a cycle of the product.
+use mathlib.Core.Path.{_≡_, refl, sym, _∙_, ap}
+use mathlib.Core.Bool.{true}
+use mathlib.Core.List.{List}
+use Prim.Native.Nat.{ℕ, zero, suc, _+_, _*_, _-_, _/_, _%_, _≤_, _<_}
+use native.Mathlib.Omega.{arith}
+use native.Mathlib.Nat.{add-zero, add-suc, suc-add}
+use lib.Arith.{digits-lt, digits-div, digits-mod}
+use lib.ListN.{length}
+use Rattle.basics.proofs.Booleans.{not-both}
+use Rattle.basics.proofs.Bounded.{pigeonhole}
+use Rattle.automata.specs.Automaton.{Automaton, Takes, Closed}
+use Rattle.automata.specs.Lasso.{letter-at, position-at, position-letter, next-position, positions, Walk, stay, onward, Accepting-cycle}
+use Rattle.automata.proofs.Positions.{position-next, position-below, letter-position}
+use Rattle.automata.proofs.Cycles.{cycle-takes}
+use Rattle.sets.specs.Sets.{has}
+use Rattle.sets.proofs.Members.{has-lt}
+use Rattle.ncsb.specs.Moves.{Moves, Spread, Split}
+use Rattle.ncsb.specs.Step.{Ncsb-run}
+use Rattle.ncsb.specs.declared.Quadruple.{Quadruple}
+use Rattle.ncsb.proofs.Traces.{reached, next, trace, reached-back, next-edge, trace-add, trace-inside, trace-reached}
+use Rattle.ncsb.proofs.Rational.{rational, rational-run}
+
+-- WHAT FOLLOWS a place is decided by its position
+module _ (u v : List ℕ) (o : 1 ≤ length v) where
+  position-add :
+      (i j : ℕ) → position-at u v i ≡ position-at u v j → (k : ℕ) → position-at u v (i + k) ≡ position-at u v (j + k)
+  position-add i j e zero = rw (add-zero i, add-zero j) e
+  position-add i j e (suc k) =
+      let h = position-add i j e k in
+      rw (add-suc i k, add-suc j k) (position-next u v (i + k) ∙ ap (next-position u v) h ∙ sym (position-next u v (j + k)))
+
+  letter-same : (i j : ℕ) → position-at u v i ≡ position-at u v j → letter-at u v i ≡ letter-at u v j
+  letter-same i j e = letter-position u v o i ∙ ap (position-letter u v) e ∙ sym (letter-position u v o j)
+
+  trace-same :
+      (a : Automaton) (i j : ℕ) → position-at u v i ≡ position-at u v j → (q k : ℕ) →
+      trace a (letter-at u v) i q k ≡ trace a (letter-at u v) j q k
+  unfolding trace
+  trace-same a i j e q zero = refl
+  trace-same a i j e q (suc k) =
+      let e′ = position-next u v i ∙ ap (next-position u v) e ∙ sym (position-next u v j) in
+      trace-same a (suc i) (suc j) e′ (next a (letter-at u v i) q) k
+      ∙ ap (λ (c : ℕ). trace a (letter-at u v) (suc j) (next a c q) k) (letter-same i j e)
+
+module _ {a : Automaton} (closed : Closed a) (u v : List ℕ) (o : 1 ≤ length v) where
+  -- an edge on the letter of a place is one on the letter of its position
+  edge-at :
+      (i p q : ℕ) → a .edge p (letter-at u v i) q ≡ true → a .edge p (position-letter u v (position-at u v i)) q ≡ true
+  edge-at i p q e = rw (letter-position u v o i) at e
+
+  -- a reached state is walked to, and so is each state on its path
+  walk-reached :
+      (i q : ℕ) → reached a (letter-at u v) i q ≡ true →
+      (start : ℕ) × (a .initial start ≡ true) × Walk a u v 0 start (position-at u v i) q
+  unfolding reached position-at
+  walk-reached zero q h = (q, h, stay)
+  walk-reached (suc i) q h =
+      let (p, x, e) = reached-back closed (letter-at u v) i q h in
+      let (start, b, walk) = walk-reached i p x in
+      (start, b, onward q walk (edge-at i p q e))
+
+  walk-trace :
+      {j p : ℕ} (i q k : ℕ) → trace a (letter-at u v) i q k < a .states → Walk a u v j p (position-at u v i) q →
+      Walk a u v j p (position-at u v (i + k)) (trace a (letter-at u v) i q k)
+  unfolding trace
+  walk-trace i q zero l x = rw (add-zero i) x
+  walk-trace i q (suc k) l x =
+      let q′ = next a (letter-at u v i) q in
+      let e = next-edge closed (letter-at u v) (letter-at u v i) q (trace-inside closed (letter-at u v) (suc i) q′ k l) in
+      rw (add-suc i k, ← suc-add i k)
+      (walk-trace (suc i) q′ k l (rw (position-next u v i) (onward q′ x (edge-at i q q′ e))))
+
+  -- an accepting state to which its own path comes back
+  cycle-at :
+      (i q c : ℕ) → reached a (letter-at u v) i q ≡ true → a .accepting q ≡ true → q < a .states →
+      trace a (letter-at u v) i q (suc c) ≡ q → position-at u v (i + suc c) ≡ position-at u v i → Accepting-cycle a u v
+  unfolding trace
+  cycle-at i q c h accepts l back again =
+      let (start, b, walk) = walk-reached i q h in
+      let q′ = next a (letter-at u v i) q in
+      let l′ : trace a (letter-at u v) (suc i) q′ c < a .states = rw back l in
+      let e = next-edge closed (letter-at u v) (letter-at u v i) q (trace-inside closed (letter-at u v) (suc i) q′ c l′) in
+      let steps : suc i + c ≡ i + suc c = omega arith in
+      let there : position-at u v (suc i + c) ≡ position-at u v i = ap (position-at u v) steps ∙ again in
+      record {
+        start = start;
+        position = position-at u v i;
+        state = q;
+        behind = q′;
+        begins = b;
+        reached = walk;
+        accepts = accepts;
+        leaves = edge-at i q q′ e;
+        returns = rw (position-next u v i, there, back) at (walk-trace (suc i) q′ c l′ stay);
+      }
+
+  -- what recurs once on a path recurs from there on
+  recurs :
+      (i q x c z : ℕ) → trace a (letter-at u v) i q (x + suc c) ≡ trace a (letter-at u v) i q x →
+      position-at u v (i + (x + suc c)) ≡ position-at u v (i + x) →
+      (trace a (letter-at u v) (i + (x + z)) (trace a (letter-at u v) i q (x + z)) (suc c) ≡ trace a (letter-at u v) i q (x + z))
+      × (position-at u v ((i + (x + z)) + suc c) ≡ position-at u v (i + (x + z)))
+  recurs i q x c z e f =
+      let w = letter-at u v in
+      let places : (i + (x + z)) + suc c ≡ (i + (x + suc c)) + z = omega arith in
+      let steps : (x + z) + suc c ≡ (x + suc c) + z = omega arith in
+      let place : i + (x + z) ≡ (i + x) + z = omega arith in (
+        (sym (trace-add closed w i q (x + z) (suc c)) ∙ ap (λ (k : ℕ). trace a w i q k) steps
+            ∙ trace-add closed w i q (x + suc c) z ∙ ap (λ (p : ℕ). trace a w (i + (x + suc c)) p z) e
+            ∙ trace-same u v o a (i + (x + suc c)) (i + x) f (trace a w i q x) z ∙ sym (trace-add closed w i q x z)),
+        (ap (position-at u v) places ∙ position-add u v o (i + (x + suc c)) (i + x) f z ∙ ap (position-at u v) (sym place)),
+      )
+
+  -- more steps than nodes: some node recurs
+  node-recurs :
+      (i q k : ℕ) → positions u v * a .states ≤ k → trace a (letter-at u v) i q k < a .states →
+      (x : ℕ) × (c : ℕ) × (z : ℕ) × (x + z ≡ k)
+      × (trace a (letter-at u v) i q (x + suc c) ≡ trace a (letter-at u v) i q x)
+      × (position-at u v (i + (x + suc c)) ≡ position-at u v (i + x))
+  node-recurs i q k m l =
+      go (pigeonhole (positions u v * a .states) node (λ x h. digits-lt (position-below u v o (i + x)) (inside x (omega arith))))
+    where
+      inside : (x : ℕ) → x ≤ k → trace a (letter-at u v) i q x < a .states
+      inside x h =
+          let e : x + (k - x) ≡ k = omega arith in
+          let t : trace a (letter-at u v) i q k ≡ trace a (letter-at u v) (i + x) (trace a (letter-at u v) i q x) (k - x) =
+          ap (λ (n : ℕ). trace a (letter-at u v) i q n) (sym e) ∙ trace-add closed (letter-at u v) i q x (k - x) in
+          trace-inside closed (letter-at u v) (i + x) (trace a (letter-at u v) i q x) (k - x) (rw t at l)
+
+      node : ℕ → ℕ
+      node x = position-at u v (i + x) * a .states + trace a (letter-at u v) i q x
+
+      go :
+          (x : ℕ) × (y : ℕ) × (x < y) × (y ≤ positions u v * a .states) × (node x ≡ node y) →
+          (x : ℕ) × (c : ℕ) × (z : ℕ) × (x + z ≡ k)
+          × (trace a (letter-at u v) i q (x + suc c) ≡ trace a (letter-at u v) i q x)
+          × (position-at u v (i + (x + suc c)) ≡ position-at u v (i + x))
+      go (x, y, less, most, same) =
+          let e : y ≡ x + suc (y - suc x) = omega arith in
+          let lx = inside x (omega arith) in
+          let ly = inside y (omega arith) in
+          let state =
+          sym (digits-mod (position-at u v (i + y)) ly) ∙ ap (λ (n : ℕ). n % a .states) (sym same)
+          ∙ digits-mod (position-at u v (i + x)) lx in
+          let position =
+          sym (digits-div (position-at u v (i + y)) ly) ∙ ap (λ (n : ℕ). n / a .states) (sym same)
+          ∙ digits-div (position-at u v (i + x)) lx in (
+            x,
+            y - suc x,
+            k - x,
+            (omega arith),
+            ap (λ (n : ℕ). trace a (letter-at u v) i q n) (sym e) ∙ state,
+            ap (λ (n : ℕ). position-at u v (i + n)) (sym e) ∙ position,
+          )
+
+  late-cycle :
+      (i q k : ℕ) → reached a (letter-at u v) i q ≡ true → positions u v * a .states ≤ k →
+      trace a (letter-at u v) i q k < a .states → a .accepting (trace a (letter-at u v) i q k) ≡ true →
+      Accepting-cycle a u v
+  late-cycle i q k h m l accepts =
+      let (x, c, z, e, state, position) = node-recurs i q k m l in
+      let (back, again) = recurs i q x c z state position in
+      let reach = trace-reached closed (letter-at u v) i q k h l in
+      cycle-at (i + k) (trace a (letter-at u v) i q k) c reach accepts l (rw e at back) (rw e at again)
+
+-- LEMMA 2: the complement accepts a word that the pattern does not accept
+pub run-exists :
+    {a : Automaton} {d : Moves} → Spread a d → Split a d → Closed a → (u v : List ℕ) → 1 ≤ length v →
+    (Takes a (letter-at u v) → ⊥) → (f : ℕ → Quadruple) × Ncsb-run a d (letter-at u v) f
+run-exists {a} {d} spread split closed u v o rejects = (
+  rational a d (letter-at u v) (positions u v * a .states),
+  rational-run spread split closed (letter-at u v) (positions u v * a .states)
+      (λ i q h k m.
+      not-both (has (d .marks) (trace a (letter-at u v) i q k))
+      (λ mark.
+      let l = rw (spread .states) at (has-lt (d .states) (d .marks) (trace a (letter-at u v) i q k) (spread .marks-small) mark) in
+      rejects (cycle-takes closed o (late-cycle closed u v o i q k h m l (split .within (trace a (letter-at u v) i q k) mark .1))))),
+)

@@ -1,0 +1,100 @@
+-- The paths of an automaton over a word: the states reached at each place, and the path that takes the first target at each letter.
+-- In Q2, where there is at most one target, it is the only path. A path that has ended stands on no state. Assumes nothing.
+use mathlib.Core.Path.{_≡_}
+use mathlib.Core.Bool.{Bool, true, _&&_, cond}
+use mathlib.Core.Logic.{inl, inr}
+use Prim.Native.Nat.{ℕ, zero, suc, _+_, _<_}
+use native.Mathlib.Omega.{arith}
+use native.Mathlib.Nat.{zero-add, add-zero, suc-add, add-suc}
+use Rattle.basics.specs.Bounded.{any}
+use Rattle.basics.proofs.Booleans.{either, and-l, and-r, and-make}
+use Rattle.basics.proofs.Bounded.{any-find, any-make}
+use Rattle.automata.specs.Automaton.{Automaton, Closed}
+
+-- the least number below the limit of which the test holds, or the limit
+first : (limit : ℕ) → (ℕ → Bool) → ℕ
+first zero f = 0
+first (suc k) f = cond (f 0) 0 (suc (first k (λ i. f (suc i))))
+
+first-holds : (k : ℕ) (f : ℕ → Bool) → first k f < k → f (first k f) ≡ true
+unfolding first
+first-holds zero f l = absurd (omega arith)
+first-holds (suc k) f l =
+    elim (either (f 0)) [
+      | inl e ↦ rw e e
+      | inr e ↦ let l′ : suc (first k (λ i. f (suc i))) < suc k = rw e at l in rw e (first-holds k (λ i. f (suc i)) (omega arith))
+    ]
+
+first-below : (k : ℕ) (f : ℕ → Bool) (i : ℕ) → i < k → f i ≡ true → first k f < k
+unfolding first
+first-below zero f i l h = absurd (omega arith)
+first-below (suc k) f zero l h = rw h (omega arith)
+first-below (suc k) f (suc i) l h =
+    elim (either (f 0)) [
+      | inl e ↦ rw e (omega arith)
+      | inr e ↦ let m = first-below k (λ i. f (suc i)) i (omega arith) h in rw e (omega arith)
+    ]
+
+-- some path from an initial state is in the state at the place
+unfoldable pub reached : Automaton → (word : ℕ → ℕ) → (place state : ℕ) → Bool
+reached a w zero q = a .initial q
+reached a w (suc i) q = any (a .states) (λ p. reached a w i p && a .edge p (w i) q)
+
+-- the first target, or no state
+pub next : Automaton → (letter state : ℕ) → ℕ
+next a c p = first (a .states) (a .edge p c)
+
+-- where the path that begins at a place and a state is after some steps
+unfoldable pub trace : Automaton → (word : ℕ → ℕ) → (place state steps : ℕ) → ℕ
+trace a w i q zero = q
+trace a w i q (suc k) = trace a w (suc i) (next a (w i) q) k
+
+module _ {a : Automaton} (closed : Closed a) (w : ℕ → ℕ) where
+  pub reached-back :
+      (i q : ℕ) → reached a w (suc i) q ≡ true → (p : ℕ) × (reached a w i p ≡ true) × (a .edge p (w i) q ≡ true)
+  unfolding reached
+  reached-back i q h =
+      let (p, l, e) = any-find (a .states) (λ p. reached a w i p && a .edge p (w i) q) h in
+      (p, and-l (a .edge p (w i) q) e, and-r (reached a w i p) e)
+
+  pub reached-on : (i p q : ℕ) → reached a w i p ≡ true → a .edge p (w i) q ≡ true → reached a w (suc i) q ≡ true
+  unfolding reached
+  reached-on i p q h e =
+      any-make (a .states) (λ p. reached a w i p && a .edge p (w i) q) p (closed .edge p (w i) q e .0) (and-make h e)
+
+  pub reached-inside : (i q : ℕ) → reached a w i q ≡ true → q < a .states
+  unfolding reached
+  reached-inside zero q h = closed .initial q h
+  reached-inside (suc i) q h = let (p, x, e) = reached-back i q h in closed .edge p (w i) q e .2
+
+  -- the next state of a path that goes on
+  pub next-edge : (c p : ℕ) → next a c p < a .states → a .edge p c (next a c p) ≡ true
+  unfolding next
+  next-edge c p l = first-holds (a .states) (a .edge p c) l
+
+  pub next-found : (c p q : ℕ) → a .edge p c q ≡ true → next a c p < a .states
+  unfolding next
+  next-found c p q e = first-below (a .states) (a .edge p c) q (closed .edge p c q e .2) e
+
+  -- a path goes on from where it is
+  pub trace-add : (i q m k : ℕ) → trace a w i q (m + k) ≡ trace a w (i + m) (trace a w i q m) k
+  unfolding trace
+  trace-add i q zero k = rw (zero-add k, add-zero i)
+  trace-add i q (suc m) k = rw (suc-add m k, add-suc i m, ← suc-add i m) (trace-add (suc i) (next a (w i) q) m k)
+
+  -- where a path has not ended, it had not ended before
+  pub trace-inside : (i q k : ℕ) → trace a w i q k < a .states → q < a .states
+  unfolding trace
+  trace-inside i q zero l = l
+  trace-inside i q (suc k) l =
+      closed .edge q (w i) (next a (w i) q) (next-edge (w i) q (trace-inside (suc i) (next a (w i) q) k l)) .0
+
+  -- and it is reached where its first state is
+  pub trace-reached :
+      (i q k : ℕ) → reached a w i q ≡ true → trace a w i q k < a .states → reached a w (i + k) (trace a w i q k) ≡ true
+  unfolding trace
+  trace-reached i q zero h l = rw (add-zero i) h
+  trace-reached i q (suc k) h l =
+      rw (add-suc i k, ← suc-add i k)
+      (trace-reached (suc i) (next a (w i) q) k
+      (reached-on i q (next a (w i) q) h (next-edge (w i) q (trace-inside (suc i) (next a (w i) q) k l))) l)
