@@ -1,5 +1,5 @@
--- The rational run of section 4.2 of document 004, for a word over which no path in Q2 meets a mark after a bounded number of
--- steps: N tracks Q1, S holds the states whose path meets no mark, C the others of Q2. Lemma 2: it is an accepting run. Assumes nothing.
+-- The rational run of section 4.2 of document 004, for a word over which no path of a reached state meets a mark after a bounded
+-- number of steps: N tracks Q1, S holds the states of Q2 whose path meets no mark, C the others. It is accepting. Assumes nothing.
 use mathlib.Core.Path.{_≡_, refl, sym, _∙_, ap}
 use mathlib.Core.Bool.{Bool, true, false, _&&_, _||_, not, cond}
 use mathlib.Core.Logic.{_⊎_, inl, inr, _↔_}
@@ -78,6 +78,25 @@ followers-make a d c b y q l m h (p, x, e) =
 
 module _ {a : Automaton} {d : Moves} (spread : Spread a d) (split : Split a d) (closed : Closed a) (w : ℕ → ℕ) (n : ℕ)
     (quiet : (i q : ℕ) → reached a w i q ≡ true → (k : ℕ) → n ≤ k → has (d .marks) (trace a w i q k) ≡ false) where
+  -- short names for what the section speaks of
+  abbrev marked : (place state steps : ℕ) → Bool
+  marked i q k = has (d .marks) (trace a w i q k)
+
+  abbrev safe-at : (place state : ℕ) → Bool
+  safe-at = safe a d w n
+
+  abbrev N-at : (place : ℕ) → ℕ
+  N-at = rational-N a d w
+
+  abbrev C-at : (place : ℕ) → ℕ
+  C-at = rational-C a d w n
+
+  abbrev S-at : (place : ℕ) → ℕ
+  S-at = rational-S a d w n
+
+  abbrev B-at : (place : ℕ) → ℕ
+  B-at = rational-B a d w n
+
   below-states : (i q : ℕ) → reached a w i q ≡ true → q < d .states
   below-states i q h = rw (spread .states) (reached-inside closed w i q h)
 
@@ -93,190 +112,157 @@ module _ {a : Automaton} {d : Moves} (spread : Spread a d) (split : Split a d) (
       ap (λ (r : ℕ). trace a w (suc i) r k) same
 
   -- SAFE: the path meets no mark at all
-  safe-all :
-      (i q : ℕ) → reached a w i q ≡ true → safe a d w n i q ≡ true →
-      (k : ℕ) → has (d .marks) (trace a w i q k) ≡ false
+  safe-all : (i q : ℕ) → reached a w i q ≡ true → safe-at i q ≡ true → (k : ℕ) → marked i q k ≡ false
   unfolding safe
   safe-all i q h s k =
       elim (either (ltb k n)) [
-        | inl e ↦
-            true-not (has (d .marks) (trace a w i q k))
-            (each-all n (λ k. not (has (d .marks) (trace a w i q k))) s k (ltb-lt k n e))
+        | inl e ↦ true-not (marked i q k) (each-all n _ s k (ltb-lt k n e))
         | inr e ↦ quiet i q h k (ltb-ge k n e)
       ]
 
-  safe-make : (i q : ℕ) → ((k : ℕ) → has (d .marks) (trace a w i q k) ≡ false) → safe a d w n i q ≡ true
+  safe-make : (i q : ℕ) → ((k : ℕ) → marked i q k ≡ false) → safe-at i q ≡ true
   unfolding safe
-  safe-make i q h = each-make n (λ k. not (has (d .marks) (trace a w i q k))) (λ k l. not-false (h k))
+  safe-make i q h = each-make n _ (λ k l. not-false (h k))
 
-  unsafe-find : (i q : ℕ) → safe a d w n i q ≡ false → (k : ℕ) × (has (d .marks) (trace a w i q k) ≡ true)
+  unsafe-find : (i q : ℕ) → safe-at i q ≡ false → (k : ℕ) × (marked i q k ≡ true)
   unfolding safe
-  unsafe-find i q h = go (search-to n (λ k. has (d .marks) (trace a w i q k)))
+  unsafe-find i q h = go (search-to n (marked i q))
     where
       go :
-          ((k : ℕ) × (k < n) × (has (d .marks) (trace a w i q k) ≡ true))
-          ⊎ ((k : ℕ) → k < n → has (d .marks) (trace a w i q k) ≡ false) →
-          (k : ℕ) × (has (d .marks) (trace a w i q k) ≡ true)
+          ((k : ℕ) × (k < n) × (marked i q k ≡ true)) ⊎ ((k : ℕ) → k < n → marked i q k ≡ false) →
+          (k : ℕ) × (marked i q k ≡ true)
       go (inl r) = (r .0, r .2)
-      go (inr none) =
-          absurd
-          (clash (each-make n (λ k. not (has (d .marks) (trace a w i q k))) (λ k l. not-false (none k l))) h)
+      go (inr none) = absurd (clash (each-make n _ (λ k l. not-false (none k l))) h)
 
   -- MEMBERS of the four sets
-  N-back : (i q : ℕ) → has (rational-N a d w i) q ≡ true → (reached a w i q ≡ true) × (has (d .inner) q ≡ false)
+  N-back : (i q : ℕ) → has (N-at i) q ≡ true → (reached a w i q ≡ true) × (has (d .inner) q ≡ false)
   unfolding rational-N
   N-back i q h =
-      let e = passed-back (d .states) (λ q. reached a w i q && not (has (d .inner) q)) q h in
+      let e = passed-back (d .states) _ q h in
       (and-l (not (has (d .inner) q)) e, true-not (has (d .inner) q) (and-r (reached a w i q) e))
 
-  N-make : (i q : ℕ) → reached a w i q ≡ true → has (d .inner) q ≡ false → has (rational-N a d w i) q ≡ true
+  N-make : (i q : ℕ) → reached a w i q ≡ true → has (d .inner) q ≡ false → has (N-at i) q ≡ true
   unfolding rational-N
-  N-make i q h t =
-      passed-make (d .states) (λ q. reached a w i q && not (has (d .inner) q)) q (below-states i q h)
-      (and-make h (not-false t))
+  N-make i q h t = passed-make (d .states) _ q (below-states i q h) (and-make h (not-false t))
 
   C-back :
-      (i q : ℕ) → has (rational-C a d w n i) q ≡ true →
-      (reached a w i q ≡ true) × (has (d .inner) q ≡ true) × (safe a d w n i q ≡ false)
+      (i q : ℕ) → has (C-at i) q ≡ true →
+      (reached a w i q ≡ true) × (has (d .inner) q ≡ true) × (safe-at i q ≡ false)
   unfolding rational-C
   C-back i q h =
-      let e =
-      passed-back (d .states) (λ q. (reached a w i q && has (d .inner) q) && not (safe a d w n i q)) q h in
-      let both = and-l (not (safe a d w n i q)) e in (
+      let e = passed-back (d .states) _ q h in
+      let both = and-l (not (safe-at i q)) e in (
         and-l (has (d .inner) q) both,
         and-r (reached a w i q) both,
-        true-not (safe a d w n i q) (and-r (reached a w i q && has (d .inner) q) e),
+        true-not (safe-at i q) (and-r (reached a w i q && has (d .inner) q) e),
       )
 
   C-make :
-      (i q : ℕ) → reached a w i q ≡ true → has (d .inner) q ≡ true → safe a d w n i q ≡ false →
-      has (rational-C a d w n i) q ≡ true
+      (i q : ℕ) → reached a w i q ≡ true → has (d .inner) q ≡ true → safe-at i q ≡ false → has (C-at i) q ≡ true
   unfolding rational-C
-  C-make i q h t s =
-      passed-make (d .states) (λ q. (reached a w i q && has (d .inner) q) && not (safe a d w n i q)) q
-      (below-states i q h) (and-make (and-make h t) (not-false s))
+  C-make i q h t s = passed-make (d .states) _ q (below-states i q h) (and-make (and-make h t) (not-false s))
 
   S-back :
-      (i q : ℕ) → has (rational-S a d w n i) q ≡ true →
-      (reached a w i q ≡ true) × (has (d .inner) q ≡ true) × (safe a d w n i q ≡ true)
+      (i q : ℕ) → has (S-at i) q ≡ true →
+      (reached a w i q ≡ true) × (has (d .inner) q ≡ true) × (safe-at i q ≡ true)
   unfolding rational-S
   S-back i q h =
-      let e = passed-back (d .states) (λ q. (reached a w i q && has (d .inner) q) && safe a d w n i q) q h in
-      let both = and-l (safe a d w n i q) e in (
+      let e = passed-back (d .states) _ q h in
+      let both = and-l (safe-at i q) e in (
         and-l (has (d .inner) q) both,
         and-r (reached a w i q) both,
         and-r (reached a w i q && has (d .inner) q) e,
       )
 
   S-make :
-      (i q : ℕ) → reached a w i q ≡ true → has (d .inner) q ≡ true → safe a d w n i q ≡ true →
-      has (rational-S a d w n i) q ≡ true
+      (i q : ℕ) → reached a w i q ≡ true → has (d .inner) q ≡ true → safe-at i q ≡ true → has (S-at i) q ≡ true
   unfolding rational-S
-  S-make i q h t s =
-      passed-make (d .states) (λ q. (reached a w i q && has (d .inner) q) && safe a d w n i q) q (below-states i q h)
-      (and-make (and-make h t) s)
+  S-make i q h t s = passed-make (d .states) _ q (below-states i q h) (and-make (and-make h t) s)
 
   CS-back :
-      (i q : ℕ) → (has (rational-C a d w n i) q || has (rational-S a d w n i) q) ≡ true →
-      (reached a w i q ≡ true) × (has (d .inner) q ≡ true)
+      (i q : ℕ) → (has (C-at i) q || has (S-at i) q) ≡ true → (reached a w i q ≡ true) × (has (d .inner) q ≡ true)
   CS-back i q h =
-      elim (or-true (has (rational-C a d w n i) q) (has (rational-S a d w n i) q) h) [
+      elim (or-true (has (C-at i) q) (has (S-at i) q) h) [
         | inl c ↦ let x = C-back i q c in (x .0, x .1)
         | inr s ↦ let x = S-back i q s in (x .0, x .1)
       ]
 
   CS-make :
-      (i q : ℕ) → reached a w i q ≡ true → has (d .inner) q ≡ true →
-      (has (rational-C a d w n i) q || has (rational-S a d w n i) q) ≡ true
+      (i q : ℕ) → reached a w i q ≡ true → has (d .inner) q ≡ true → (has (C-at i) q || has (S-at i) q) ≡ true
   CS-make i q h t =
-      elim (either (safe a d w n i q)) [
-        | inl s ↦ or-r (has (rational-C a d w n i) q) (S-make i q h t s)
-        | inr s ↦ or-l (has (rational-S a d w n i) q) (C-make i q h t s)
+      elim (either (safe-at i q)) [
+        | inl s ↦ or-r (has (C-at i) q) (S-make i q h t s)
+        | inr s ↦ or-l (has (S-at i) q) (C-make i q h t s)
       ]
 
   -- together they hold the reached states
-  all-back :
-      (i q : ℕ) →
-      (has (rational-N a d w i) q || (has (rational-C a d w n i) q || has (rational-S a d w n i) q)) ≡ true →
-      reached a w i q ≡ true
+  all-back : (i q : ℕ) → (has (N-at i) q || (has (C-at i) q || has (S-at i) q)) ≡ true → reached a w i q ≡ true
   all-back i q h =
-      elim
-      (or-true (has (rational-N a d w i) q) (has (rational-C a d w n i) q || has (rational-S a d w n i) q) h) [
+      elim (or-true (has (N-at i) q) (has (C-at i) q || has (S-at i) q) h) [
         | inl x ↦ N-back i q x .0
         | inr x ↦ CS-back i q x .0
       ]
 
-  all-make :
-      (i q : ℕ) → reached a w i q ≡ true →
-      (has (rational-N a d w i) q || (has (rational-C a d w n i) q || has (rational-S a d w n i) q)) ≡ true
+  all-make : (i q : ℕ) → reached a w i q ≡ true → (has (N-at i) q || (has (C-at i) q || has (S-at i) q)) ≡ true
   all-make i q h =
       elim (either (has (d .inner) q)) [
-        | inl t ↦ or-r (has (rational-N a d w i) q) (CS-make i q h t)
-        | inr t ↦ or-l (has (rational-C a d w n i) q || has (rational-S a d w n i) q) (N-make i q h t)
+        | inl t ↦ or-r (has (N-at i) q) (CS-make i q h t)
+        | inr t ↦ or-l (has (C-at i) q || has (S-at i) q) (N-make i q h t)
       ]
 
-  rational-disjoint : (i q : ℕ) → (has (rational-C a d w n i) q && has (rational-S a d w n i) q) ≡ false
+  rational-disjoint : (i q : ℕ) → (has (C-at i) q && has (S-at i) q) ≡ false
   rational-disjoint i q =
-      not-both (has (rational-C a d w n i) q && has (rational-S a d w n i) q)
-      (λ h.
-      clash (S-back i q (and-r (has (rational-C a d w n i) q) h) .2)
-      (C-back i q (and-l (has (rational-S a d w n i) q) h) .2))
+      not-both (has (C-at i) q && has (S-at i) q)
+      (λ h. clash (S-back i q (and-r (has (C-at i) q) h) .2) (C-back i q (and-l (has (S-at i) q) h) .2))
 
-  rational-unmarked : (i q : ℕ) → (has (rational-S a d w n i) q && has (d .marks) q) ≡ false
+  rational-unmarked : (i q : ℕ) → (has (S-at i) q && has (d .marks) q) ≡ false
   unfolding trace
   rational-unmarked i q =
-      not-both (has (rational-S a d w n i) q && has (d .marks) q)
+      not-both (has (S-at i) q && has (d .marks) q)
       (λ h.
       let (x, t, s) = S-back i q (and-l (has (d .marks) q) h) in
-      clash (and-r (has (rational-S a d w n i) q) h) (safe-all i q x s 0))
+      clash (and-r (has (S-at i) q) h) (safe-all i q x s 0))
 
-  B-small : (i : ℕ) → rational-B a d w n i < 2 ^ d .states
+  B-small : (i : ℕ) → B-at i < 2 ^ d .states
   unfolding rational-B rational-C followers
-  B-small zero = set-of-lt (d .states) (λ q. (reached a w 0 q && has (d .inner) q) && not (safe a d w n 0 q))
+  B-small zero = set-of-lt (d .states) _
   B-small (suc i) =
-      let b = rational-B a d w n i in
-      let c = rational-C a d w n (suc i) in
-      elim (either (eqb b 0)) [
-        | inl e ↦
-            rw e
-            (set-of-lt (d .states) (λ q. (reached a w (suc i) q && has (d .inner) q) && not (safe a d w n (suc i) q)))
-        | inr e ↦
-            rw e (set-of-lt (d .states) (λ q. has c q && any (d .states) (λ p. has b p && a .edge p (w i) q)))
+      elim (either (eqb (B-at i) 0)) [
+        | inl e ↦ rw e (set-of-lt (d .states) _)
+        | inr e ↦ rw e (set-of-lt (d .states) _)
       ]
 
   rational-small : (i : ℕ) → Small (d .states) (rational a d w n i)
   unfolding rational rational-N rational-C rational-S
   rational-small i =
       record {
-        small-N = set-of-lt (d .states) (λ q. reached a w i q && not (has (d .inner) q));
-        small-C = set-of-lt (d .states) (λ q. (reached a w i q && has (d .inner) q) && not (safe a d w n i q));
-        small-S = set-of-lt (d .states) (λ q. (reached a w i q && has (d .inner) q) && safe a d w n i q);
+        small-N = set-of-lt (d .states) _;
+        small-C = set-of-lt (d .states) _;
+        small-S = set-of-lt (d .states) _;
         small-B = B-small i;
       }
 
   -- THE BREAKPOINT
-  B-empty : (i : ℕ) → rational-B a d w n i ≡ 0 → rational-B a d w n (suc i) ≡ rational-C a d w n (suc i)
+  B-empty : (i : ℕ) → B-at i ≡ 0 → B-at (suc i) ≡ C-at (suc i)
   unfolding rational-B
-  B-empty i z = let e : eqb (rational-B a d w n i) 0 ≡ true = eq-eqb z in rw e
+  B-empty i z = let e : eqb (B-at i) 0 ≡ true = eq-eqb z in rw e
 
   B-kept :
-      (i : ℕ) → (rational-B a d w n i ≡ 0 → ⊥) → (q : ℕ) →
-      (has (rational-B a d w n (suc i)) q ≡ true)
-      ↔ ((has (rational-C a d w n (suc i)) q ≡ true) × Leads a (rational-B a d w n i) (w i) q)
+      (i : ℕ) → (B-at i ≡ 0 → ⊥) → (q : ℕ) →
+      (has (B-at (suc i)) q ≡ true) ↔ ((has (C-at (suc i)) q ≡ true) × Leads a (B-at i) (w i) q)
   unfolding Leads rational-B
   B-kept i z q =
-      let e : eqb (rational-B a d w n i) 0 ≡ false = ne-eqb (rational-B a d w n i) 0 z in
+      let e : eqb (B-at i) 0 ≡ false = ne-eqb (B-at i) 0 z in
       rw e (
-        followers-back a d (w i) (rational-B a d w n i) (rational-C a d w n (suc i)) q,
+        followers-back a d (w i) (B-at i) (C-at (suc i)) q,
         (λ h.
-            followers-make a d (w i) (rational-B a d w n i) (rational-C a d w n (suc i)) q
+            followers-make a d (w i) (B-at i) (C-at (suc i)) q
             (below-states (suc i) q (C-back (suc i) q (h .0) .0)) (B-small i) (h .0) (h .1)),
       )
 
   -- THE STEP
   safe-stays :
-      (i p q : ℕ) → has (rational-S a d w n i) p ≡ true → a .edge p (w i) q ≡ true →
-      has (rational-S a d w n (suc i)) q ≡ true
+      (i p q : ℕ) → has (S-at i) p ≡ true → a .edge p (w i) q ≡ true → has (S-at (suc i)) q ≡ true
   safe-stays i p q h e =
       let (x, t, s) = S-back i p h in
       S-make (suc i) q (reached-on closed w i p q x e) (split .closed p (w i) q t e)
@@ -285,29 +271,29 @@ module _ {a : Automaton} {d : Moves} (spread : Spread a d) (split : Split a d) (
   -- a state outside the marks is safe if its target is
   safe-before :
       (i p q : ℕ) → has (d .inner) p ≡ true → has (d .marks) p ≡ false → a .edge p (w i) q ≡ true →
-      ((k : ℕ) → has (d .marks) (trace a w (suc i) q k) ≡ false) → safe a d w n i p ≡ true
+      ((k : ℕ) → marked (suc i) q k ≡ false) → safe-at i p ≡ true
   unfolding trace
   safe-before i p q t m e h = safe-make i p go
     where
-      go : (k : ℕ) → has (d .marks) (trace a w i p k) ≡ false
+      go : (k : ℕ) → marked i p k ≡ false
       go zero = m
       go (suc k) = rw (trace-target i p q k t e) (h k)
 
   only-leaving :
-      (i p q : ℕ) → has (rational-C a d w n i) p ≡ true → has (d .marks) p ≡ false → a .edge p (w i) q ≡ true →
-      has (rational-C a d w n (suc i)) q ≡ true
+      (i p q : ℕ) → has (C-at i) p ≡ true → has (d .marks) p ≡ false → a .edge p (w i) q ≡ true →
+      has (C-at (suc i)) q ≡ true
   only-leaving i p q h m e =
       let (x, t, s) = C-back i p h in
       let y = reached-on closed w i p q x e in
       let r = split .closed p (w i) q t e in
-      C-make (suc i) q y r (not-both (safe a d w n (suc i) q) (λ v. clash (safe-before i p q t m e (safe-all (suc i) q y v)) s))
+      C-make (suc i) q y r (not-both (safe-at (suc i) q) (λ v. clash (safe-before i p q t m e (safe-all (suc i) q y v)) s))
 
   no-dead-end :
-      (i p : ℕ) → has (rational-C a d w n i) p ≡ true → has (d .marks) p ≡ false → (q : ℕ) × (a .edge p (w i) q ≡ true)
+      (i p : ℕ) → has (C-at i) p ≡ true → has (d .marks) p ≡ false → (q : ℕ) × (a .edge p (w i) q ≡ true)
   unfolding trace
   no-dead-end i p h m = go (unsafe-find i p (C-back i p h .2))
     where
-      go : (k : ℕ) × (has (d .marks) (trace a w i p k) ≡ true) → (q : ℕ) × (a .edge p (w i) q ≡ true)
+      go : (k : ℕ) × (marked i p k ≡ true) → (q : ℕ) × (a .edge p (w i) q ≡ true)
       go (zero, e) = absurd (clash e m)
       go (suc k, e) = (
         next a (w i) p,
@@ -361,21 +347,20 @@ module _ {a : Automaton} {d : Moves} (spread : Spread a d) (split : Split a d) (
         breakpoint-kept = B-kept i;
       }
 
-  B-in-C : (i q : ℕ) → has (rational-B a d w n i) q ≡ true → has (rational-C a d w n i) q ≡ true
+  B-in-C : (i q : ℕ) → has (B-at i) q ≡ true → has (C-at i) q ≡ true
   unfolding rational rational-B
   B-in-C zero q h = h
   B-in-C (suc i) q h = step-fine (rational-step i) .tracked q h
 
   -- while B is not empty, what it holds lies on the path of what it held
   B-traced :
-      (i m : ℕ) → ((k : ℕ) → k < m → rational-B a d w n (i + k) ≡ 0 → ⊥) → (q : ℕ) →
-      has (rational-B a d w n (i + m)) q ≡ true →
+      (i m : ℕ) → ((k : ℕ) → k < m → B-at (i + k) ≡ 0 → ⊥) → (q : ℕ) → has (B-at (i + m)) q ≡ true →
       (p : ℕ) × (reached a w i p ≡ true) × (trace a w i p m ≡ q)
   unfolding trace Leads
   B-traced i zero some q h =
       let (x, t, s) = C-back i q (B-in-C i q (rw (add-zero i) at h)) in (q, x, refl)
   B-traced i (suc m) some q h =
-      let h′ : has (rational-B a d w n (suc (i + m))) q ≡ true = rw (add-suc i m) at h in
+      let h′ : has (B-at (suc (i + m))) q ≡ true = rw (add-suc i m) at h in
       let (c, (r, b, e)) = B-kept (i + m) (some m (omega arith)) q .0 h′ in
       let (p, x, same) = B-traced i m (λ k l. some k (omega arith)) r b in
       let one : trace a w (i + m) r 1 ≡ q =
@@ -388,8 +373,7 @@ module _ {a : Automaton} {d : Moves} (spread : Spread a d) (split : Split a d) (
 
   -- which meets no mark after the bound: so B is empty by then
   B-empty-at :
-      (i : ℕ) → ((k : ℕ) → k < n → rational-B a d w n (i + k) ≡ 0 → ⊥) → (q : ℕ) →
-      has (rational-B a d w n (i + n)) q ≡ true → ⊥
+      (i : ℕ) → ((k : ℕ) → k < n → B-at (i + k) ≡ 0 → ⊥) → (q : ℕ) → has (B-at (i + n)) q ≡ true → ⊥
   B-empty-at i some q h =
       let (p, x, same) = B-traced i n some q h in
       let (k, mark) = unsafe-find (i + n) q (C-back (i + n) q (B-in-C (i + n) q h) .2) in
@@ -397,22 +381,22 @@ module _ {a : Automaton} {d : Moves} (spread : Spread a d) (split : Split a d) (
       trace-add closed w i p n k ∙ ap (λ (s : ℕ). trace a w (i + n) s k) same in
       clash mark (rw joined at (quiet i p x (n + k) (omega arith)))
 
-  rational-accepting : (i : ℕ) → (j : ℕ) × (i ≤ j) × (rational-B a d w n j ≡ 0)
-  rational-accepting i = go (search-to n (λ k. eqb (rational-B a d w n (i + k)) 0))
+  rational-accepting : (i : ℕ) → (j : ℕ) × (i ≤ j) × (B-at j ≡ 0)
+  rational-accepting i = go (search-to n (λ k. eqb (B-at (i + k)) 0))
     where
       go :
-          ((k : ℕ) × (k < n) × (eqb (rational-B a d w n (i + k)) 0 ≡ true))
-          ⊎ ((k : ℕ) → k < n → eqb (rational-B a d w n (i + k)) 0 ≡ false) →
-          (j : ℕ) × (i ≤ j) × (rational-B a d w n j ≡ 0)
-      go (inl (k, l, e)) = (i + k, (omega arith), eqb-eq (rational-B a d w n (i + k)) 0 e)
+          ((k : ℕ) × (k < n) × (eqb (B-at (i + k)) 0 ≡ true)) ⊎ ((k : ℕ) → k < n → eqb (B-at (i + k)) 0 ≡ false) →
+          (j : ℕ) × (i ≤ j) × (B-at j ≡ 0)
+      go (inl (k, l, e)) = (i + k, (omega arith), eqb-eq (B-at (i + k)) 0 e)
       go (inr none) = (
         i + n,
         (omega arith),
-        empty (d .states) (rational-B a d w n (i + n)) (B-small (i + n))
-            (λ q l. not-both (has (rational-B a d w n (i + n)) q)
-            (B-empty-at i (λ k m. eqb-ne (rational-B a d w n (i + k)) 0 (none k m)) q)),
+        empty (d .states) (B-at (i + n)) (B-small (i + n))
+            (λ q l. not-both (has (B-at (i + n)) q)
+            (B-empty-at i (λ k m. eqb-ne (B-at (i + k)) 0 (none k m)) q)),
       )
 
+  -- LEMMA 2, but for the bound
   pub rational-run : Ncsb-run a d w (rational a d w n)
   unfolding rational
   rational-run = record { begins = rational-start; goes-on = rational-step; accepting = rational-accepting }
