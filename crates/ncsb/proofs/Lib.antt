@@ -1,3 +1,4 @@
+pub mod Bound
 pub mod Breakpoint
 pub mod Disjoint
 pub mod Exists
@@ -7,6 +8,7 @@ pub mod Initials
 pub mod Lists
 pub mod Parting
 pub mod Pigeon
+pub mod Radix
 pub mod Rational
 pub mod Reached
 pub mod Successors
