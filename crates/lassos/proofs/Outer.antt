@@ -1,0 +1,431 @@
+-- Laws of the outer search: each of its steps keeps the invariant; a grey node that the inner search meets closes a cycle; and
+-- where the stack is empty and every start is visited, no accepting node that is reached lies on a cycle. Assumes nothing.
+use mathlib.Core.Path.{_≡_, refl, sym, _∙_, ap}
+use mathlib.Core.Bool.{Bool, true, false}
+use mathlib.Core.List.{List}
+use mathlib.Core.Logic.{_⊎_, inl, inr}
+use Prim.Native.Nat.{ℕ, zero, suc, _+_, _*_, _-_, _≤_, _<_}
+use native.Mathlib.Omega.{arith}
+use lib.Dec.{eqb}
+use lib.ListN.{length}
+use Rattle.basics.specs.Bounded.{count}
+use Rattle.basics.proofs.Booleans.{eqb-eq, eq-eqb, eqb-ne, ne-eqb, clash}
+use Rattle.basics.proofs.Bounded.{count-mono, count-less}
+use Rattle.lassos.specs.Graph.{Graph, Leads, Bounded, Way, stay, onward, Reached, Cycle, Found}
+use Rattle.lassos.specs.Search.{colour, stacked, cursor, waiting, whites, blacks, Search, Grows, Redder, Red-closed, Inner-asks, Inner-says, met, none}
+use Rattle.lassos.proofs.Stores.{same-or, Recolours, Enters, Advances}
+
+-- WAYS
+pub way-way : {g : Graph} {x y z : ℕ} → Way g x y → Way g y z → Way g x z
+way-way p stay = p
+way-way p (onward z q e) = onward z (way-way p q) e
+
+-- COLOURS. Where no node turns white, there are no more white nodes
+pub whites-mono : (n : ℕ) (w w′ : List ℕ) → ((x : ℕ) → x < n → colour w′ x ≡ 0 → colour w x ≡ 0) → whites n w′ ≤ whites n w
+unfolding whites
+whites-mono n w w′ h =
+    count-mono n (λ x. eqb (colour w′ x) 0) (λ x. eqb (colour w x) 0)
+    (λ x l e. eq-eqb (h x l (eqb-eq (colour w′ x) 0 e)))
+
+-- and fewer, where a white one has got a colour
+pub whites-less :
+    (n : ℕ) (w w′ : List ℕ) → ((x : ℕ) → x < n → colour w′ x ≡ 0 → colour w x ≡ 0) → (x : ℕ) → x < n → colour w x ≡ 0 →
+    1 ≤ colour w′ x → whites n w′ < whites n w
+unfolding whites
+whites-less n w w′ h x l e o =
+    count-less n (λ x. eqb (colour w′ x) 0) (λ x. eqb (colour w x) 0)
+    (λ x l e. eq-eqb (h x l (eqb-eq (colour w′ x) 0 e))) x l (ne-eqb (colour w′ x) 0 (λ z. omega arith)) (eq-eqb e)
+
+pub blacks-mono : (n : ℕ) (w w′ : List ℕ) → ((x : ℕ) → x < n → colour w′ x ≡ 2 → colour w x ≡ 2) → blacks n w′ ≤ blacks n w
+unfolding blacks
+blacks-mono n w w′ h =
+    count-mono n (λ x. eqb (colour w′ x) 2) (λ x. eqb (colour w x) 2)
+    (λ x l e. eq-eqb (h x l (eqb-eq (colour w′ x) 2 e)))
+
+pub blacks-less :
+    (n : ℕ) (w w′ : List ℕ) → ((x : ℕ) → x < n → colour w′ x ≡ 2 → colour w x ≡ 2) → (x : ℕ) → x < n → colour w x ≡ 2 →
+    colour w′ x ≡ 3 → blacks n w′ < blacks n w
+unfolding blacks
+blacks-less n w w′ h x l e o =
+    count-less n (λ x. eqb (colour w′ x) 2) (λ x. eqb (colour w x) 2)
+    (λ x l e. eq-eqb (h x l (eqb-eq (colour w′ x) 2 e))) x l (ne-eqb (colour w′ x) 2 (λ z. omega arith)) (eq-eqb e)
+
+-- VISITED
+pub grows-grows : {n : ℕ} {w w1 w2 : List ℕ} → Grows n w w1 → Grows n w1 w2 → Grows n w w2
+grows-grows p q = record { stays = λ x l o. q .stays x l (p .stays x l o) }
+
+pub grows-same : {n : ℕ} {w : List ℕ} → Grows n w w
+grows-same = record { stays = λ x l o. o }
+
+module _ {g : Graph} (closed : Bounded g) where
+  -- A NODE ENTERS: a white node that is reached, with an edge from the top of the stack
+  module _ {w w′ : List ℕ} {d x : ℕ} (h : Search g w d) (l : x < g .size) (white : colour w x ≡ 0) (e : Enters (g .size) w w′ x (g .first x) d) where
+    enter-colour : (y : ℕ) → y < g .size → (y ≡ x) ⊎ (colour w′ y ≡ colour w y)
+    enter-colour y b = elim (same-or y x) [ inl s ↦ inl s | inr ne ↦ inr (e .others y b ne) ]
+
+    pub enter-grows : Grows (g .size) w w′
+    enter-grows =
+        record {
+          stays =
+              λ y b o.
+              elim (enter-colour y b) [ inl s ↦ (let k = e .here in rw s (omega arith)) | inr s ↦ omega arith ];
+        }
+
+    pub enter-whites : whites (g .size) w′ < whites (g .size) w
+    enter-whites =
+        whites-less (g .size) w w′
+        (λ y b z. elim (enter-colour y b) [ inl s ↦ rw s white | inr s ↦ sym s ∙ z ])
+        x l white (let k = e .here in omega arith)
+
+    module _ (found : Reached g x) (small : g .first x ≤ g .last)
+        (link : (i : ℕ) → suc i ≡ d → Leads g (stacked (g .size) w i) x) where
+      -- nodes of the stack are grey, so that they are others
+      other-stacked : (i : ℕ) → i < d → stacked (g .size) w i ≡ x → ⊥
+      other-stacked i b s = let k = h .grey i b in let z : colour w x ≡ 1 = rw s at k in omega arith
+
+      kept-colour : (i : ℕ) → i < d → colour w′ (stacked (g .size) w i) ≡ 1
+      kept-colour i b = e .others (stacked (g .size) w i) (h .inside i b) (other-stacked i b) ∙ h .grey i b
+
+      enter-stack : (i : ℕ) → i < suc d → ((i ≡ d) × (stacked (g .size) w′ i ≡ x)) ⊎ ((i < d) × (stacked (g .size) w′ i ≡ stacked (g .size) w i))
+      enter-stack i b =
+          elim (same-or i d) [
+            | inl s ↦ inl (s, rw s (e .top))
+            | inr ne ↦ let lt : i < d = omega arith in inr (lt, e .below i lt)
+          ]
+
+      enter-linked : (i : ℕ) → suc i < suc d → Leads g (stacked (g .size) w′ i) (stacked (g .size) w′ (suc i))
+      enter-linked i b =
+          let lt : i < d = omega arith in
+          elim (enter-stack (suc i) b) [
+            | inl s ↦ rw (s .1, e .below i lt) (link i (s .0))
+            | inr s ↦ rw (s .1, e .below i lt) (h .linked i (s .0))
+          ]
+
+      enter-distinct : (i j : ℕ) → i < j → j < suc d → stacked (g .size) w′ i ≡ stacked (g .size) w′ j → ⊥
+      enter-distinct i j lt b s =
+          let li : i < d = omega arith in
+          let below = e .below i li in
+          elim (enter-stack j b) [
+            | inl t ↦ other-stacked i li (sym below ∙ s ∙ t .1)
+            | inr t ↦ h .distinct i j lt (t .0) (sym below ∙ s ∙ t .1)
+          ]
+
+      enter-found : (y : ℕ) → y < g .size → colour w′ y ≡ 1 → (i : ℕ) × (i < suc d) × (stacked (g .size) w′ i ≡ y)
+      enter-found y b k =
+          elim (enter-colour y b) [
+            | inl s ↦ (d, (omega arith), e .top ∙ sym s)
+            | inr s ↦ let r = h .on-stack y b (sym s ∙ k) in (r .0, (let t = r .1 in omega arith), e .below (r .0) (r .1) ∙ r .2)
+          ]
+
+      enter-ahead :
+          (y z : ℕ) → y < g .size → 1 ≤ colour w′ y → Leads g y z →
+          (1 ≤ colour w′ z) ⊎ g .Ahead y (cursor (g .size) w′ y) z
+      enter-ahead y z b o t =
+          elim (same-or y x) [
+            | inl s ↦ inr (rw (s, e .at-first) (rw s at t))
+            | inr ne ↦
+                let k = e .others y b ne in
+                elim (h .ahead y z b (omega arith) t) [
+                  | inl v ↦ inl (enter-grows .stays z (closed .edge y z b t) v)
+                  | inr v ↦ inr (rw (e .cursors y b ne) v)
+                ]
+          ]
+
+      enter-old : (y : ℕ) → y < g .size → 2 ≤ colour w′ y → colour w′ y ≡ colour w y
+      enter-old y b o = e .others y b (λ s. let k = e .here in let z : 2 ≤ colour w′ x = rw s at o in omega arith)
+
+      enter-red : (y z : ℕ) → y < g .size → colour w′ y ≡ 3 → Leads g y z → colour w′ z ≡ 3
+      enter-red y z b o t =
+          let k = h .red y z b (sym (enter-old y b (omega arith)) ∙ o) t in
+          e .others z (closed .edge y z b t) (λ s. let q : colour w x ≡ 3 = rw s at k in omega arith) ∙ k
+
+      pub enter-keeps : Search g w′ (suc d)
+      enter-keeps =
+          record {
+            long = let k = e .size in let j = h .long in omega arith;
+            colours =
+                λ y b.
+                elim (enter-colour y b) [ inl s ↦ (let k = e .here in rw s (omega arith)) | inr s ↦ (let k = h .colours y b in omega arith) ];
+            room = let k = h .room in let j = enter-whites in omega arith;
+            inside = λ i b. elim (enter-stack i b) [ inl s ↦ rw (s .1) l | inr s ↦ rw (s .1) (h .inside i (s .0)) ];
+            grey = λ i b. elim (enter-stack i b) [ inl s ↦ rw (s .1) (e .here) | inr s ↦ rw (s .1) (kept-colour i (s .0)) ];
+            distinct = enter-distinct;
+            on-stack = enter-found;
+            linked = enter-linked;
+            reached =
+                λ y b o. elim (enter-colour y b) [ inl s ↦ rw s found | inr s ↦ h .reached y b (omega arith) ];
+            cursors =
+                λ y b o.
+                elim (same-or y x) [
+                  | inl s ↦ rw (s, e .at-first) small
+                  | inr ne ↦ let k = e .others y b ne in rw (e .cursors y b ne) (h .cursors y b (omega arith))
+                ];
+            ahead = enter-ahead;
+            finished =
+                λ y z b o t.
+                enter-grows .stays z (closed .edge y z b t) (h .finished y z b (let k = enter-old y b o in omega arith) t);
+            red = enter-red;
+            fruitless = λ y b o. h .fruitless y b (let k = enter-old y b o in omega arith);
+          }
+
+  -- THE CURSOR MOVES ON: past records whose targets are visited
+  module _ {w w′ : List ℕ} {d x r : ℕ} (h : Search g w d) (e : Advances (g .size) w w′ x r) where
+    pub advance-grows : Grows (g .size) w w′
+    advance-grows = record { stays = λ y b o. let k = e .colours y b in omega arith }
+
+    pub advance-whites : whites (g .size) w′ ≤ whites (g .size) w
+    advance-whites = whites-mono (g .size) w w′ (λ y b z. sym (e .colours y b) ∙ z)
+
+    pub advance-keeps :
+        r ≤ g .last → ((y : ℕ) → g .Ahead x (cursor (g .size) w x) y → (1 ≤ colour w y) ⊎ g .Ahead x r y) →
+        Search g w′ d
+    advance-keeps small passed =
+        let fits : d ≤ g .size = (let k = h .room in omega arith) in
+        record {
+          long = let k = e .size in let j = h .long in omega arith;
+          colours = λ y b. rw (e .colours y b) (h .colours y b);
+          room = let k = h .room in let j = advance-whites in omega arith;
+          inside = λ i b. rw (e .stack i (omega arith)) (h .inside i b);
+          grey = λ i b. rw (e .stack i (omega arith)) (e .colours (stacked (g .size) w i) (h .inside i b) ∙ h .grey i b);
+          distinct = λ i j lt b s. h .distinct i j lt b (sym (e .stack i (omega arith)) ∙ s ∙ e .stack j (omega arith));
+          on-stack =
+              λ y b k.
+              let s = h .on-stack y b (sym (e .colours y b) ∙ k) in
+              (s .0, s .1, e .stack (s .0) (let t = s .1 in omega arith) ∙ s .2);
+          linked = λ i b. rw (e .stack i (omega arith), e .stack (suc i) (omega arith)) (h .linked i b);
+          reached = λ y b o. h .reached y b (let k = e .colours y b in omega arith);
+          cursors =
+              λ y b o.
+              elim (same-or y x) [
+                | inl s ↦ rw (s, e .here) small
+                | inr ne ↦ let k = e .colours y b in rw (e .others y ne) (h .cursors y b (omega arith))
+              ];
+          ahead =
+              λ y z b o t.
+              let k = e .colours y b in
+              let old = h .ahead y z b (omega arith) t in
+              let lift : 1 ≤ colour w z → 1 ≤ colour w′ z = advance-grows .stays z (closed .edge y z b t) in
+              elim (same-or y x) [
+                | inl s ↦
+                    elim old [
+                      | inl v ↦ inl (lift v)
+                      | inr v ↦ elim (passed z (rw s at v)) [ inl q ↦ inl (lift q) | inr q ↦ inr (rw (s, e .here) q) ]
+                    ]
+                | inr ne ↦ elim old [ inl v ↦ inl (lift v) | inr v ↦ inr (rw (e .others y ne) v) ]
+              ];
+          finished =
+              λ y z b o t.
+              advance-grows .stays z (closed .edge y z b t) (h .finished y z b (let k = e .colours y b in omega arith) t);
+          red =
+              λ y z b o t. e .colours z (closed .edge y z b t) ∙ h .red y z b (sym (e .colours y b) ∙ o) t;
+          fruitless = λ y b o. h .fruitless y b (let k = e .colours y b in omega arith);
+        }
+
+  -- THE TOP LEAVES the stack, black or red
+  module _ {w w′ : List ℕ} {d c : ℕ} (h : Search g w (suc d)) (e : Recolours (g .size) w w′ (stacked (g .size) w d) c)
+      (low : 2 ≤ c) (high : c ≤ 3) where
+    leave-colour : (y : ℕ) → (y ≡ stacked (g .size) w d) ⊎ (colour w′ y ≡ colour w y)
+    leave-colour y = elim (same-or y (stacked (g .size) w d)) [ inl s ↦ inl s | inr ne ↦ inr (e .others y ne) ]
+
+    pub leave-grows : Grows (g .size) w w′
+    leave-grows =
+        record {
+          stays =
+              λ y b o. elim (leave-colour y) [ inl s ↦ (let k = e .here in rw s (omega arith)) | inr s ↦ omega arith ];
+        }
+
+    pub leave-whites : whites (g .size) w′ ≤ whites (g .size) w
+    leave-whites =
+        whites-mono (g .size) w w′
+        (λ y b z.
+        elim (leave-colour y) [
+          | inl s ↦ absurd (let k = e .here in let q : colour w′ (stacked (g .size) w d) ≡ 0 = rw s at z in omega arith)
+          | inr s ↦ sym s ∙ z
+        ])
+
+    leave-other : (i : ℕ) → i < d → stacked (g .size) w i ≡ stacked (g .size) w d → ⊥
+    leave-other i b = h .distinct i d b (omega arith)
+
+    module _ (done : (y : ℕ) → Leads g (stacked (g .size) w d) y → 1 ≤ colour w y)
+        (reds : c ≡ 3 → (y : ℕ) → Leads g (stacked (g .size) w d) y → colour w y ≡ 3)
+        (fruitless : g .accepts (stacked (g .size) w d) ≡ true → Cycle g (stacked (g .size) w d) → ⊥) where
+      leave-found : (y : ℕ) → y < g .size → colour w′ y ≡ 1 → (i : ℕ) × (i < d) × (stacked (g .size) w′ i ≡ y)
+      leave-found y b k =
+          let ne : (y ≡ stacked (g .size) w d → ⊥) =
+          λ s. (let q = e .here in let z : colour w′ (stacked (g .size) w d) ≡ 1 = rw s at k in omega arith) in
+          let r = h .on-stack y b (sym (e .others y ne) ∙ k) in
+          let top : (r .0 ≡ d → ⊥) = λ s. ne (sym (r .2) ∙ ap (stacked (g .size) w) s) in
+          let lt : r .0 < d = (let t = r .1 in omega arith) in
+          (r .0, lt, e .stack (r .0) (let k = h .room in omega arith) ∙ r .2)
+
+      leave-red : (y z : ℕ) → y < g .size → colour w′ y ≡ 3 → Leads g y z → colour w′ z ≡ 3
+      leave-red y z b o t =
+          let grey = h .grey d (omega arith) in
+          let keep : colour w z ≡ 3 → colour w′ z ≡ 3 =
+          λ k. e .others z (λ s. let q : colour w (stacked (g .size) w d) ≡ 3 = rw s at k in omega arith) ∙ k in
+          elim (leave-colour y) [
+            | inl s ↦ keep (reds (sym (e .here) ∙ rw s at o) z (rw s at t))
+            | inr s ↦ keep (h .red y z b (sym s ∙ o) t)
+          ]
+
+      pub leave-keeps : Search g w′ d
+      leave-keeps =
+          let fits : suc d ≤ g .size = (let k = h .room in omega arith) in
+          record {
+            long = let k = e .size in let j = h .long in omega arith;
+            colours =
+                λ y b.
+                elim (leave-colour y) [ inl s ↦ (let k = e .here in rw s (omega arith)) | inr s ↦ (let k = h .colours y b in omega arith) ];
+            room = let k = h .room in let j = leave-whites in omega arith;
+            inside = λ i b. rw (e .stack i (omega arith)) (h .inside i (omega arith));
+            grey =
+                λ i b. rw (e .stack i (omega arith)) (e .others (stacked (g .size) w i) (leave-other i b) ∙ h .grey i (omega arith));
+            distinct = λ i j lt b s. h .distinct i j lt (omega arith) (sym (e .stack i (omega arith)) ∙ s ∙ e .stack j (omega arith));
+            on-stack = leave-found;
+            linked = λ i b. rw (e .stack i (omega arith), e .stack (suc i) (omega arith)) (h .linked i (omega arith));
+            reached =
+                λ y b o.
+                elim (leave-colour y) [
+                  | inl s ↦ rw s (h .reached (stacked (g .size) w d) (h .inside d (omega arith)) (let k = h .grey d (omega arith) in omega arith))
+                  | inr s ↦ h .reached y b (omega arith)
+                ];
+            cursors =
+                λ y b o.
+                rw (e .cursors y b)
+                (elim (leave-colour y) [
+                  | inl s ↦ h .cursors y b (let k = h .grey d (omega arith) in rw s (omega arith))
+                  | inr s ↦ h .cursors y b (omega arith)
+                ]);
+            ahead =
+                λ y z b o t.
+                let lift : 1 ≤ colour w z → 1 ≤ colour w′ z = leave-grows .stays z (closed .edge y z b t) in
+                elim (leave-colour y) [
+                  | inl s ↦ inl (lift (done z (rw s at t)))
+                  | inr s ↦
+                      elim (h .ahead y z b (omega arith) t) [ inl v ↦ inl (lift v) | inr v ↦ inr (rw (e .cursors y b) v) ]
+                ];
+            finished =
+                λ y z b o t.
+                leave-grows .stays z (closed .edge y z b t)
+                (elim (leave-colour y) [ inl s ↦ done z (rw s at t) | inr s ↦ h .finished y z b (omega arith) t ]);
+            red = leave-red;
+            fruitless =
+                λ y b o a q.
+                elim (leave-colour y) [
+                  | inl s ↦ fruitless (rw s at a) (rw s at q)
+                  | inr s ↦ h .fruitless y b (omega arith) a q
+                ];
+          }
+
+  -- THE INNER SEARCH in between keeps everything
+  module _ {w w′ : List ℕ} {d : ℕ} (h : Search g w d) (r : Redder (g .size) w w′) where
+    pub redder-grows : Grows (g .size) w w′
+    redder-grows =
+        record { stays = λ y b o. elim (r .turned y b) [ inl s ↦ omega arith | inr s ↦ (let k = s .1 in omega arith) ] }
+
+    pub redder-whites : whites (g .size) w′ ≤ whites (g .size) w
+    redder-whites =
+        whites-mono (g .size) w w′
+        (λ y b z. elim (r .turned y b) [ inl s ↦ sym s ∙ z | inr s ↦ absurd (let k = s .1 in omega arith) ])
+
+    pub redder-grey : (y : ℕ) → y < g .size → colour w y ≡ 1 → colour w′ y ≡ 1
+    redder-grey y b k = elim (r .turned y b) [ inl s ↦ s ∙ k | inr s ↦ absurd (let j = s .0 in omega arith) ]
+
+    pub grey-redder : (y : ℕ) → y < g .size → colour w′ y ≡ 1 → colour w y ≡ 1
+    grey-redder y b k = elim (r .turned y b) [ inl s ↦ sym s ∙ k | inr s ↦ absurd (let j = s .1 in omega arith) ]
+
+    visited-before : (y : ℕ) → y < g .size → 1 ≤ colour w′ y → 1 ≤ colour w y
+    visited-before y b o = elim (r .turned y b) [ inl s ↦ omega arith | inr s ↦ (let j = s .0 in omega arith) ]
+
+    finished-before : (y : ℕ) → y < g .size → 2 ≤ colour w′ y → 2 ≤ colour w y
+    finished-before y b o = elim (r .turned y b) [ inl s ↦ omega arith | inr s ↦ (let j = s .0 in omega arith) ]
+
+    pub redder-keeps : length w′ ≡ length w → Red-closed g w′ → Search g w′ d
+    redder-keeps same reds =
+        let fits : d ≤ g .size = (let k = h .room in omega arith) in
+        record {
+          long = let j = h .long in omega arith;
+          colours =
+              λ y b.
+              elim (r .turned y b) [ inl s ↦ (let k = h .colours y b in omega arith) | inr s ↦ (let k = s .1 in omega arith) ];
+          room = let k = h .room in let j = redder-whites in omega arith;
+          inside = λ i b. rw (r .stack i (omega arith)) (h .inside i b);
+          grey = λ i b. rw (r .stack i (omega arith)) (redder-grey (stacked (g .size) w i) (h .inside i b) (h .grey i b));
+          distinct = λ i j lt b s. h .distinct i j lt b (sym (r .stack i (omega arith)) ∙ s ∙ r .stack j (omega arith));
+          on-stack =
+              λ y b k.
+              let s = h .on-stack y b (grey-redder y b k) in
+              (s .0, s .1, r .stack (s .0) (let t = s .1 in omega arith) ∙ s .2);
+          linked = λ i b. rw (r .stack i (omega arith), r .stack (suc i) (omega arith)) (h .linked i b);
+          reached = λ y b o. h .reached y b (visited-before y b o);
+          cursors = λ y b o. rw (r .cursors y b) (h .cursors y b (visited-before y b o));
+          ahead =
+              λ y z b o t.
+              elim (h .ahead y z b (visited-before y b o) t) [
+                | inl v ↦ inl (redder-grows .stays z (closed .edge y z b t) v)
+                | inr v ↦ inr (rw (r .cursors y b) v)
+              ];
+          finished =
+              λ y z b o t. redder-grows .stays z (closed .edge y z b t) (h .finished y z b (finished-before y b o) t);
+          red = reds .edges;
+          fruitless = λ y b o. h .fruitless y b (finished-before y b o);
+        }
+
+  -- a way from a red node leads to red nodes
+  red-way : {w : List ℕ} {x y : ℕ} → Red-closed g w → x < g .size → colour w x ≡ 3 → Way g x y → (y < g .size) × (colour w y ≡ 3)
+  red-way c l k stay = (l, k)
+  red-way c l k (onward {y} z p t) =
+      let q = red-way c l k p in (closed .edge y z (q .0) t, c .edges y z (q .0) (q .1) t)
+
+  -- so a node that is not red, and whose targets are red, lies on no cycle
+  pub red-no-cycle :
+      {w : List ℕ} {x : ℕ} → Red-closed g w → x < g .size → colour w x ≡ 1 → ((y : ℕ) → Leads g x y → colour w y ≡ 3) →
+      Cycle g x → ⊥
+  red-no-cycle {w} {x} c l k reds q =
+      let s = red-way c (closed .edge x (q .behind) l (q .leaves)) (reds (q .behind) (q .leaves)) (q .returns) in
+      let z = s .1 in omega arith
+
+  -- A GREY NODE that the inner search meets: from it the stack leads on to the top
+  stack-way : {w : List ℕ} {d : ℕ} → Search g w d → (i j : ℕ) → i ≤ j → j < d → Way g (stacked (g .size) w i) (stacked (g .size) w j)
+  stack-way h i zero l b = let z : i ≡ 0 = omega arith in rw z stay
+  stack-way {w} h i (suc j) l b =
+      elim (same-or i (suc j)) [
+        | inl e ↦ rw e stay
+        | inr ne ↦ onward (stacked (g .size) w (suc j)) (stack-way h i j (omega arith) (omega arith)) (h .linked j b)
+      ]
+
+  pub grey-cycle :
+      {w : List ℕ} {d : ℕ} → Search g w (suc d) → (y z : ℕ) → Leads g (stacked (g .size) w d) z → Way g z y → y < g .size →
+      colour w y ≡ 1 → g .accepts (stacked (g .size) w d) ≡ true → Found g
+  grey-cycle {w} {d} h y z t p b k a =
+      let s = h .on-stack y b k in
+      let back : Way g y (stacked (g .size) w d) =
+      rw (s .2) at (stack-way h (s .0) d (let m = s .1 in omega arith) (omega arith)) in
+      record {
+        node = stacked (g .size) w d;
+        reached = h .reached (stacked (g .size) w d) (h .inside d (omega arith)) (let j = h .grey d (omega arith) in omega arith);
+        accepts = a;
+        cycle = record { behind = z; leaves = t; returns = way-way p back };
+      }
+
+  -- THE END: the stack is empty, so that every visited node is finished
+  module _ {w : List ℕ} (h : Search g w 0) (all : (x : ℕ) → g .starts x ≡ true → 1 ≤ colour w x) where
+    not-grey : (x : ℕ) → x < g .size → 1 ≤ colour w x → 2 ≤ colour w x
+    not-grey x l o =
+        elim (same-or (colour w x) 1) [
+          | inl k ↦ absurd (let s = h .on-stack x l k in let z = s .1 in omega arith)
+          | inr ne ↦ omega arith
+        ]
+
+    visited-way : {x y : ℕ} → x < g .size → 1 ≤ colour w x → Way g x y → (y < g .size) × (1 ≤ colour w y)
+    visited-way l o stay = (l, o)
+    visited-way l o (onward {y} z p t) =
+        let q = visited-way l o p in
+        (closed .edge y z (q .0) t, h .finished y z (q .0) (not-grey y (q .0) (q .1)) t)
+
+    -- no accepting node that is reached lies on a cycle
+    pub none-found : Found g → ⊥
+    none-found f =
+        let s = f .reached in
+        let q = visited-way (closed .start (s .start) (s .begins)) (all (s .start) (s .begins)) (s .way) in
+        h .fruitless (f .node) (q .0) (not-grey (f .node) (q .0) (q .1)) (f .accepts) (f .cycle)

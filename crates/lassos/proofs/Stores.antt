@@ -1,0 +1,130 @@
+-- What a store in one block of the work words changes, and that it changes nothing else. Assumes nothing.
+use mathlib.Core.Path.{_≡_, refl, sym, _∙_}
+use mathlib.Core.List.{List}
+use mathlib.Core.Logic.{_⊎_, inl, inr}
+use Prim.Native.Nat.{ℕ, _+_, _*_, _≤_, _<_}
+use native.Mathlib.Omega.{arith}
+use lib.Dec.{eqb, ltb}
+use lib.ListN.{length, getD, set, length-set}
+use lib.Seq.{getD-set-same, getD-set-other}
+use Rattle.basics.proofs.Booleans.{either, eqb-eq, eqb-ne, ltb-lt, ltb-ge}
+use Rattle.lassos.specs.Search.{colour, stacked, cursor, waiting, recoloured, entered, advanced, reddened}
+
+-- the same number, or not
+pub same-or : (x y : ℕ) → (x ≡ y) ⊎ (x ≡ y → ⊥)
+same-or x y = elim (either (eqb x y)) [ inl e ↦ inl (eqb-eq x y e) | inr e ↦ inr (eqb-ne x y e) ]
+
+-- below, or not
+pub below-or : (i k : ℕ) → (i < k) ⊎ (k ≤ i)
+below-or i k = elim (either (ltb i k)) [ inl e ↦ inl (ltb-lt i k e) | inr e ↦ inr (ltb-ge i k e) ]
+
+-- one node gets another colour
+pub record Recolours (n : ℕ) (w w′ : List ℕ) (x c : ℕ) : Type 0 where
+  pub size : length w′ ≡ length w
+  pub here : colour w′ x ≡ c
+  pub others : (y : ℕ) → (y ≡ x → ⊥) → colour w′ y ≡ colour w y
+  pub stack : (i : ℕ) → i < n → stacked n w′ i ≡ stacked n w i
+  pub cursors : (y : ℕ) → y < n → cursor n w′ y ≡ cursor n w y
+
+pub recolours : (n : ℕ) (w : List ℕ) (x c : ℕ) → 4 * n ≤ length w → x < n → Recolours n w (recoloured w x c) x c
+unfolding colour stacked cursor recoloured
+recolours n w x c long l =
+    record {
+      size = length-set w x c;
+      here = getD-set-same w x c 0 (omega arith);
+      others = λ y ne. getD-set-other w x y c 0 ne;
+      stack = λ i m. getD-set-other w x (n + i) c 0 (λ e. omega arith);
+      cursors = λ y m. getD-set-other w x (2 * n + y) c 0 (λ e. omega arith);
+    }
+
+-- a node turns grey and goes on the stack
+pub record Enters (n : ℕ) (w w′ : List ℕ) (x first depth : ℕ) : Type 0 where
+  pub size : length w′ ≡ length w
+  pub here : colour w′ x ≡ 1
+  pub others : (y : ℕ) → y < n → (y ≡ x → ⊥) → colour w′ y ≡ colour w y
+  pub top : stacked n w′ depth ≡ x
+  pub below : (i : ℕ) → i < depth → stacked n w′ i ≡ stacked n w i
+  pub at-first : cursor n w′ x ≡ first
+  pub cursors : (y : ℕ) → y < n → (y ≡ x → ⊥) → cursor n w′ y ≡ cursor n w y
+
+module _ (n : ℕ) (w : List ℕ) (x r d : ℕ) (long : 4 * n ≤ length w) (l : x < n) (m : d < n) where
+  pub enters : Enters n w (entered n w x r d) x r d
+  unfolding colour stacked cursor entered
+  enters =
+      let w1 = set w x 1 in
+      let w2 = set w1 (n + d) x in
+      let e1 : length w1 ≡ length w = length-set w x 1 in
+      let e2 : length w2 ≡ length w1 = length-set w1 (n + d) x in
+      record {
+        size = length-set w2 (2 * n + x) r ∙ e2 ∙ e1;
+        here =
+            getD-set-other w2 (2 * n + x) x r 0 (λ e. omega arith) ∙ getD-set-other w1 (n + d) x x 0 (λ e. omega arith)
+            ∙ getD-set-same w x 1 0 (omega arith);
+        others =
+            λ y b ne.
+            getD-set-other w2 (2 * n + x) y r 0 (λ e. omega arith) ∙ getD-set-other w1 (n + d) y x 0 (λ e. omega arith)
+            ∙ getD-set-other w x y 1 0 ne;
+        top =
+            getD-set-other w2 (2 * n + x) (n + d) r 0 (λ e. omega arith) ∙ getD-set-same w1 (n + d) x 0 (omega arith);
+        below =
+            λ i b.
+            getD-set-other w2 (2 * n + x) (n + i) r 0 (λ e. omega arith)
+            ∙ getD-set-other w1 (n + d) (n + i) x 0 (λ e. omega arith)
+            ∙ getD-set-other w x (n + i) 1 0 (λ e. omega arith);
+        at-first = getD-set-same w2 (2 * n + x) r 0 (omega arith);
+        cursors =
+            λ y b ne.
+            getD-set-other w2 (2 * n + x) (2 * n + y) r 0 (λ e. ne (omega arith))
+            ∙ getD-set-other w1 (n + d) (2 * n + y) x 0 (λ e. omega arith)
+            ∙ getD-set-other w x (2 * n + y) 1 0 (λ e. omega arith);
+      }
+
+-- the cursor of a node moves on
+pub record Advances (n : ℕ) (w w′ : List ℕ) (x r : ℕ) : Type 0 where
+  pub size : length w′ ≡ length w
+  pub colours : (y : ℕ) → y < n → colour w′ y ≡ colour w y
+  pub stack : (i : ℕ) → i < n → stacked n w′ i ≡ stacked n w i
+  pub here : cursor n w′ x ≡ r
+  pub others : (y : ℕ) → (y ≡ x → ⊥) → cursor n w′ y ≡ cursor n w y
+
+pub advances : (n : ℕ) (w : List ℕ) (x r : ℕ) → 4 * n ≤ length w → x < n → Advances n w (advanced n w x r) x r
+unfolding colour stacked cursor advanced
+advances n w x r long l =
+    record {
+      size = length-set w (2 * n + x) r;
+      colours = λ y b. getD-set-other w (2 * n + x) y r 0 (λ e. omega arith);
+      stack = λ i b. getD-set-other w (2 * n + x) (n + i) r 0 (λ e. omega arith);
+      here = getD-set-same w (2 * n + x) r 0 (omega arith);
+      others = λ y ne. getD-set-other w (2 * n + x) (2 * n + y) r 0 (λ e. ne (omega arith));
+    }
+
+-- a node turns red and waits
+pub record Reddens (n : ℕ) (w w′ : List ℕ) (x i : ℕ) : Type 0 where
+  pub here : colour w′ x ≡ 3
+  pub others : (y : ℕ) → y < n → (y ≡ x → ⊥) → colour w′ y ≡ colour w y
+  pub stack : (i : ℕ) → i < n → stacked n w′ i ≡ stacked n w i
+  pub cursors : (y : ℕ) → y < n → cursor n w′ y ≡ cursor n w y
+  pub last : waiting n w′ i ≡ x
+  pub before : (j : ℕ) → j < i → waiting n w′ j ≡ waiting n w j
+
+module _ (n : ℕ) (w : List ℕ) (x i : ℕ) (long : 4 * n ≤ length w) (l : x < n) (m : i < n) where
+  pub reddens : Reddens n w (reddened n w x i) x i
+  unfolding colour stacked cursor waiting reddened
+  reddens =
+      let w1 = set w x 3 in
+      let e1 : length w1 ≡ length w = length-set w x 3 in
+      record {
+        here = getD-set-other w1 (3 * n + i) x x 0 (λ e. omega arith) ∙ getD-set-same w x 3 0 (omega arith);
+        others = λ y b ne. getD-set-other w1 (3 * n + i) y x 0 (λ e. omega arith) ∙ getD-set-other w x y 3 0 ne;
+        stack =
+            λ j b. getD-set-other w1 (3 * n + i) (n + j) x 0 (λ e. omega arith) ∙ getD-set-other w x (n + j) 3 0 (λ e. omega arith);
+        cursors =
+            λ y b.
+            getD-set-other w1 (3 * n + i) (2 * n + y) x 0 (λ e. omega arith)
+            ∙ getD-set-other w x (2 * n + y) 3 0 (λ e. omega arith);
+        last = getD-set-same w1 (3 * n + i) x 0 (omega arith);
+        before =
+            λ j b.
+            getD-set-other w1 (3 * n + i) (3 * n + j) x 0 (λ e. omega arith)
+            ∙ getD-set-other w x (3 * n + j) 3 0 (λ e. omega arith);
+      }

@@ -1,0 +1,151 @@
+-- The state of the search in the work words, and its invariant. Assumes nothing: these are definitions.
+use mathlib.Core.Path.{_≡_}
+use mathlib.Core.Bool.{Bool, true, false}
+use mathlib.Core.List.{List}
+use mathlib.Core.Logic.{_⊎_}
+use Prim.Native.Nat.{ℕ, suc, _+_, _*_, _≤_, _<_}
+use lib.Dec.{eqb}
+use lib.ListN.{length, getD, set}
+use Rattle.basics.specs.Bounded.{count}
+use Rattle.lassos.specs.Graph.{Graph, Leads, Way, Reached, Cycle}
+
+-- THE WORK WORDS are four blocks of `size` words, one word in each for every node.
+-- Block 0: the colour of a node: 0 white (not met), 1 grey (on the stack), 2 black (finished), 3 red (finished, and leads to red nodes only)
+unfoldable pub colour : (words : List ℕ) → (node : ℕ) → ℕ
+colour w x = getD w x 0
+
+-- Block 1: the stack of grey nodes
+unfoldable pub stacked : (size : ℕ) → (words : List ℕ) → (index : ℕ) → ℕ
+stacked n w i = getD w (n + i) 0
+
+-- Block 2: the record of a node's chain to look at next
+unfoldable pub cursor : (size : ℕ) → (words : List ℕ) → (node : ℕ) → ℕ
+cursor n w x = getD w (2 * n + x) 0
+
+-- Block 3: red nodes whose edges the inner search has yet to follow
+unfoldable pub waiting : (size : ℕ) → (words : List ℕ) → (index : ℕ) → ℕ
+waiting n w i = getD w (3 * n + i) 0
+
+-- how many nodes are white, and black
+unfoldable pub whites : (size : ℕ) → (words : List ℕ) → ℕ
+whites n w = count n (λ x. eqb (colour w x) 0)
+
+unfoldable pub blacks : (size : ℕ) → (words : List ℕ) → ℕ
+blacks n w = count n (λ x. eqb (colour w x) 2)
+
+-- THE STORES
+-- a node gets a colour
+unfoldable pub recoloured : (words : List ℕ) → (node colour : ℕ) → List ℕ
+recoloured w x c = set w x c
+
+-- a white node turns grey, lies on the stack, and its cursor stands at its first record
+unfoldable pub entered : (size : ℕ) → (words : List ℕ) → (node first depth : ℕ) → List ℕ
+entered n w x r d = set (set (set w x 1) (n + d) x) (2 * n + x) r
+
+-- the cursor of a node moves on
+unfoldable pub advanced : (size : ℕ) → (words : List ℕ) → (node number : ℕ) → List ℕ
+advanced n w x r = set w (2 * n + x) r
+
+-- a black node turns red and waits
+unfoldable pub reddened : (size : ℕ) → (words : List ℕ) → (node wait : ℕ) → List ℕ
+reddened n w x i = set (set w x 3) (3 * n + i) x
+
+-- THE INVARIANT of the outer search, depth first: so many nodes are on the stack
+pub record Search (g : Graph) (w : List ℕ) (depth : ℕ) : Type 0 where
+  pub long : 4 * g .size ≤ length w
+  pub colours : (x : ℕ) → x < g .size → colour w x ≤ 3
+  pub room : depth + whites (g .size) w ≤ g .size
+  -- the stack: nodes, grey, distinct, all the grey ones, each with an edge to the next
+  pub inside : (i : ℕ) → i < depth → stacked (g .size) w i < g .size
+  pub grey : (i : ℕ) → i < depth → colour w (stacked (g .size) w i) ≡ 1
+  pub distinct : (i j : ℕ) → i < j → j < depth → stacked (g .size) w i ≡ stacked (g .size) w j → ⊥
+  pub on-stack : (x : ℕ) → x < g .size → colour w x ≡ 1 → (i : ℕ) × (i < depth) × (stacked (g .size) w i ≡ x)
+  pub linked : (i : ℕ) → suc i < depth → Leads g (stacked (g .size) w i) (stacked (g .size) w (suc i))
+  -- visited nodes are reached; their targets are visited or still ahead of the cursor
+  pub reached : (x : ℕ) → x < g .size → 1 ≤ colour w x → Reached g x
+  pub cursors : (x : ℕ) → x < g .size → 1 ≤ colour w x → cursor (g .size) w x ≤ g .last
+  pub ahead :
+      (x y : ℕ) → x < g .size → 1 ≤ colour w x → Leads g x y →
+      (1 ≤ colour w y) ⊎ g .Ahead x (cursor (g .size) w x) y
+  -- finished nodes: their targets are visited, those of red ones red, and no accepting one lies on a cycle
+  pub finished : (x y : ℕ) → x < g .size → 2 ≤ colour w x → Leads g x y → 1 ≤ colour w y
+  pub red : (x y : ℕ) → x < g .size → colour w x ≡ 3 → Leads g x y → colour w y ≡ 3
+  pub fruitless : (x : ℕ) → x < g .size → 2 ≤ colour w x → g .accepts x ≡ true → Cycle g x → ⊥
+
+-- what was visited stays visited
+pub record Grows (size : ℕ) (w w-now : List ℕ) : Type 0 where
+  pub stays : (x : ℕ) → x < size → 1 ≤ colour w x → 1 ≤ colour w-now x
+
+-- THE INNER SEARCH turns black nodes red and touches neither stack nor cursors
+pub record Redder (size : ℕ) (w w-now : List ℕ) : Type 0 where
+  pub turned :
+      (x : ℕ) → x < size → (colour w-now x ≡ colour w x) ⊎ ((colour w x ≡ 2) × (colour w-now x ≡ 3))
+  pub stack : (i : ℕ) → i < size → stacked size w-now i ≡ stacked size w i
+  pub cursors : (x : ℕ) → x < size → cursor size w-now x ≡ cursor size w x
+
+-- all edges of red nodes lead to red nodes
+pub record Red-closed (g : Graph) (w : List ℕ) : Type 0 where
+  pub edges : (x y : ℕ) → x < g .size → colour w x ≡ 3 → Leads g x y → colour w y ≡ 3
+
+-- what the inner search asks: its node's targets are visited, and so are those of finished nodes
+pub record Inner-asks (g : Graph) (s : ℕ) (w : List ℕ) : Type 0 where
+  pub long : 4 * g .size ≤ length w
+  pub inside : s < g .size
+  pub colours : (x : ℕ) → x < g .size → colour w x ≤ 3
+  pub begun : (y : ℕ) → Leads g s y → 1 ≤ colour w y
+  pub finished : (x y : ℕ) → x < g .size → 2 ≤ colour w x → Leads g x y → 1 ≤ colour w y
+  pub closed : Red-closed g w
+
+-- what it answers: a way over at least one edge to a grey node, or all that is reached so is red
+pub data Inner-says (g : Graph) (s : ℕ) (w w-now : List ℕ) : (met : Bool) → Type 0 where
+  met : (y z : ℕ) → Leads g s z → Way g z y → y < g .size → colour w y ≡ 1 → Inner-says g s w w-now true
+  none :
+      Redder (g .size) w w-now → Red-closed g w-now → ((y : ℕ) → Leads g s y → colour w-now y ≡ 3) →
+      Inner-says g s w w-now false
+
+-- the edges of one node, followed: black targets turn red and wait; `Left` is what is left of its targets `To`
+pub record Spread (size : ℕ) (To Left : ℕ → Type 0) (w w-now : List ℕ) (from to : ℕ) : Type 0 where
+  pub redder : Redder size w w-now
+  pub rises : from ≤ to
+  pub room : to + blacks size w-now ≤ from + blacks size w
+  pub fewer : blacks size w-now ≤ blacks size w
+  pub old : (i : ℕ) → i < from → waiting size w-now i ≡ waiting size w i
+  pub inside : (i : ℕ) → from ≤ i → i < to → waiting size w-now i < size
+  pub targets : (i : ℕ) → from ≤ i → i < to → To (waiting size w-now i)
+  pub reds : (i : ℕ) → from ≤ i → i < to → colour w-now (waiting size w-now i) ≡ 3
+  pub waits :
+      (x : ℕ) → x < size → colour w x ≡ 2 → colour w-now x ≡ 3 →
+      (i : ℕ) × (from ≤ i) × (i < to) × (waiting size w-now i ≡ x)
+  pub within : (y : ℕ) → Left y → To y
+  pub passed : (y : ℕ) → To y → Left y ⊎ ((colour w y ≡ 0) ⊎ (colour w-now y ≡ 3))
+
+-- nothing
+pub data None (y : ℕ) : Type 0 where
+
+-- one more than the size where a grey node was met, else how many nodes wait now
+pub data Spread-says (size : ℕ) (To : ℕ → Type 0) (w w-now : List ℕ) (from r : ℕ) : Type 0 where
+  met : (y : ℕ) → To y → y < size → colour w y ≡ 1 → r ≡ size + 1 → Spread-says size To w w-now from r
+  spread : r ≤ size → Spread size To None w w-now from r → Spread-says size To w w-now from r
+
+-- THE INVARIANT of the inner search: so many red nodes wait, and the edges of all other red nodes lead to red nodes
+pub record Waiting (g : Graph) (w : List ℕ) (wait : ℕ) : Type 0 where
+  pub long : 4 * g .size ≤ length w
+  pub room : wait + blacks (g .size) w ≤ g .size
+  pub colours : (x : ℕ) → x < g .size → colour w x ≤ 3
+  pub inside : (i : ℕ) → i < wait → waiting (g .size) w i < g .size
+  pub reds : (i : ℕ) → i < wait → colour w (waiting (g .size) w i) ≡ 3
+  pub finished : (x y : ℕ) → x < g .size → 2 ≤ colour w x → Leads g x y → 1 ≤ colour w y
+  pub red :
+      (x : ℕ) → x < g .size → colour w x ≡ 3 →
+      ((i : ℕ) × (i < wait) × (waiting (g .size) w i ≡ x)) ⊎ ((y : ℕ) → Leads g x y → colour w y ≡ 3)
+
+-- every waiting node is reached from one that waited at first
+pub record Since (g : Graph) (w : List ℕ) (wait : ℕ) (w-now : List ℕ) (wait-now : ℕ) : Type 0 where
+  pub redder : Redder (g .size) w w-now
+  pub origin :
+      (i : ℕ) → i < wait-now → (j : ℕ) × (j < wait) × Way g (waiting (g .size) w j) (waiting (g .size) w-now i)
+
+-- what emptying the waiting nodes answers
+pub data Drained (g : Graph) (w w-now : List ℕ) (wait : ℕ) : (met : Bool) → Type 0 where
+  met : (i y : ℕ) → i < wait → Way g (waiting (g .size) w i) y → y < g .size → colour w y ≡ 1 → Drained g w w-now wait true
+  none : Redder (g .size) w w-now → Red-closed g w-now → Drained g w w-now wait false
