@@ -1,3 +1,4 @@
 pub mod Inner
 pub mod Outer
+pub mod Product
 pub mod Stores

@@ -1,3 +1,4 @@
 pub mod Graph
+pub mod Product
 pub mod Refusals
 pub mod Search

@@ -1,0 +1,170 @@
+-- The product graph of a valid table and a lasso: its edges stay inside, and an accepting node that is reached and lies on a
+-- cycle is an accepting cycle of the table's automaton over the lasso, and back. Assumes nothing.
+use mathlib.Core.Path.{_≡_, refl, sym, _∙_, ap}
+use mathlib.Core.Bool.{Bool, true, false, _&&_, _||_, not}
+use mathlib.Core.List.{List}
+use mathlib.Core.Logic.{_⊎_, inl, inr}
+use Prim.Native.Nat.{ℕ, zero, suc, _+_, _*_, _-_, _/_, _%_, _≤_, _<_}
+use native.Mathlib.Omega.{arith}
+use native.Mathlib.Nat.{mod-lt, mod-eq-of-lt, div-eq-of-lt, zero-add, zero-mul}
+use lib.Arith.{digits-lt, digits-div, digits-mod}
+use lib.Dec.{ltb, eqb}
+use lib.ListN.{length}
+use Rattle.basics.proofs.Booleans.{and-l, and-r, and-make, or-l, or-r, or-true, true-not, eqb-eq, eqb-self, eq-eqb, eqb-ne, ltb-lt, lt-ltb, clash}
+use Rattle.automata.specs.Automaton.{Automaton}
+use Rattle.automata.specs.Lasso.{positions, position-letter, next-position, Walk, stay, onward, Accepting-cycle}
+use Rattle.automata.proofs.Positions.{next-below}
+use Rattle.tables.specs.Table.{Limits, n-of, m-of, head-of, letter-of, target-of, next-of, is-initial, is-accepting, chain-has, edge, meaning}
+use Rattle.tables.proofs.Laws.{Valid, chain-step, chain-ends}
+use Rattle.lassos.specs.Graph.{Graph, Leads, Bounded, Way, Reached, Cycle, Found}
+use Rattle.lassos.specs.Product.{Chain-to, here, later, node-letter, node-base, product}
+
+-- CHAINS
+-- zero ends a chain
+pub chain-zero : {t : List ℕ} {c b y : ℕ} → Chain-to t c b y 0 → ⊥
+chain-zero {t} {c} {b} {y} h = at-zero h refl
+  where
+    at-zero : {r : ℕ} → Chain-to t c b y r → r ≡ 0 → ⊥
+    at-zero (here o p q) e = omega arith
+    at-zero (later o h) e = omega arith
+
+-- a record's own edge, or one of the chain from the next record on
+pub chain-parts : {t : List ℕ} {c b y r : ℕ} → Chain-to t c b y r → ((letter-of t r ≡ c) × (b + target-of t r ≡ y)) ⊎ Chain-to t c b y (next-of t r)
+chain-parts (here o p q) = inl (p, q)
+chain-parts (later o h) = inr h
+
+module _ {l : Limits} {t : List ℕ} (v : Valid l t) where
+  -- what a chain leads to is an edge of the table
+  pub chain-edge :
+      {c b y r : ℕ} → Chain-to t c b y r → r ≤ m-of t →
+      (q : ℕ) × (q < n-of t) × (b + q ≡ y) × (chain-has (m-of t) t r c q ≡ true)
+  chain-edge {c} {b} {y} {r} (here o p q) s = (
+    target-of t r,
+    v .target r o s,
+    q,
+    chain-step v r c (target-of t r) o s ∙ or-l (chain-has (m-of t) t (next-of t r) c (target-of t r)) (and-make (eq-eqb p) (eqb-self (target-of t r))),
+  )
+  chain-edge {c} {b} {y} {r} (later o h) s =
+      let w = chain-edge h (v .next r o s) in (
+        w .0,
+        w .1,
+        w .2,
+        chain-step v r c (w .0) o s ∙ or-r (eqb (letter-of t r) c && eqb (target-of t r) (w .0)) (w .3),
+      )
+
+-- and back
+pub edge-chain : (f : ℕ) (t : List ℕ) (r c b q : ℕ) → chain-has f t r c q ≡ true → Chain-to t c b (b + q) r
+unfolding chain-has
+edge-chain zero t r c b q h = absurd (clash h refl)
+edge-chain (suc f) t r c b q h =
+    let this = (eqb (letter-of t r) c && eqb (target-of t r) q) in
+    let rest = chain-has f t (next-of t r) c q in
+    let ne = eqb-ne r 0 (true-not (eqb r 0) (and-l (this || rest) h)) in
+    let o : 1 ≤ r = omega arith in
+    elim (or-true this rest (and-r (not (eqb r 0)) h)) [
+      | inl e ↦
+          here o (eqb-eq (letter-of t r) c (and-l (eqb (target-of t r) q) e))
+          (ap (λ (z : ℕ). b + z) (eqb-eq (target-of t r) q (and-r (eqb (letter-of t r) c) e)))
+      | inr e ↦ later o (edge-chain f t (next-of t r) c b q e)
+    ]
+
+module _ {l : Limits} {t : List ℕ} (valid : Valid l t) (u v : List ℕ) (o : 1 ≤ length v) where
+  -- EDGES of the product are edges of the table, from a position to the next
+  leads-edge :
+      (x y : ℕ) → Leads (product t u v) x y →
+      (y / n-of t ≡ next-position u v (x / n-of t)) ×
+      (meaning t .edge (x % n-of t) (position-letter u v (x / n-of t)) (y % n-of t) ≡ true)
+  unfolding product node-letter node-base meaning edge
+  leads-edge x y h =
+      let small : x % n-of t < n-of t = mod-lt x (valid .states-from) in
+      let w = chain-edge valid h (valid .head (x % n-of t) small) in
+      let b = next-position u v (x / n-of t) in
+      let q = w .0 in
+      let at : b * n-of t + q ≡ y = w .2 in
+      let state : y % n-of t ≡ q = ap (λ (z : ℕ). z % n-of t) (sym at) ∙ digits-mod b (w .1) in
+      let position : y / n-of t ≡ b = ap (λ (z : ℕ). z / n-of t) (sym at) ∙ digits-div b (w .1) in
+      (position, rw state (and-make (and-make (lt-ltb small) (lt-ltb (w .1))) (w .3)))
+
+  edge-leads :
+      (i p q : ℕ) → meaning t .edge p (position-letter u v i) q ≡ true →
+      (q < n-of t) × Leads (product t u v) (i * n-of t + p) (next-position u v i * n-of t + q)
+  unfolding product node-letter node-base meaning edge
+  edge-leads i p q h =
+      let ends = and-l (chain-has (m-of t) t (head-of t p) (position-letter u v i) q) h in
+      let lp = ltb-lt p (n-of t) (and-l (ltb q (n-of t)) ends) in
+      let lq = ltb-lt q (n-of t) (and-r (ltb p (n-of t)) ends) in (
+        lq,
+        rw (digits-div i lp, digits-mod i lp)
+            (edge-chain (m-of t) t (head-of t p) (position-letter u v i) (next-position u v i * n-of t) q (and-r (ltb p (n-of t) && ltb q (n-of t)) h)),
+      )
+
+  -- every edge and every start stays inside
+  edge-inside : (x y : ℕ) → Leads (product t u v) x y → y < product t u v .size
+  unfolding product node-base
+  edge-inside x y h =
+      let small : x % n-of t < n-of t = mod-lt x (valid .states-from) in
+      let w = chain-edge valid h (valid .head (x % n-of t) small) in
+      let at = w .2 in rw (← at) (digits-lt (next-below u v o (x / n-of t)) (w .1))
+
+  start-inside : (x : ℕ) → product t u v .starts x ≡ true → x < product t u v .size
+  unfolding product positions
+  start-inside x h =
+      let b = ltb-lt x (n-of t) (and-l (is-initial t x) h) in
+      let z : 0 < length u + length v = omega arith in
+      rw (zero-mul, zero-add) at (digits-lt {q = 0} {r = x} z b)
+
+  pub product-bounded : Bounded (product t u v)
+  product-bounded = record { edge = λ x y b h. edge-inside x y h; start = start-inside }
+
+  -- WAYS are walks
+  way-walk :
+      {x y : ℕ} → Way (product t u v) x y → Walk (meaning t) u v (x / n-of t) (x % n-of t) (y / n-of t) (y % n-of t)
+  way-walk Way.stay = Walk.stay
+  way-walk (Way.onward {y} z p h) =
+      let e = leads-edge y z h in rw (e .0) (Walk.onward (z % n-of t) (way-walk p) (e .1))
+
+  walk-way :
+      {i p j q : ℕ} → p < n-of t → Walk (meaning t) u v i p j q →
+      (q < n-of t) × Way (product t u v) (i * n-of t + p) (j * n-of t + q)
+  walk-way b Walk.stay = (b, Way.stay)
+  walk-way b (Walk.onward {j} {q} r w h) =
+      let e = edge-leads j q r h in
+      let s = walk-way b w in
+      (e .0, Way.onward (next-position u v j * n-of t + r) (s .1) (e .1))
+
+  -- an accepting node on a cycle is an accepting cycle of the automaton
+  pub found-cycle : Found (product t u v) → Accepting-cycle (meaning t) u v
+  unfolding product meaning
+  found-cycle f =
+      let s = f .reached .start in
+      let x = f .node in
+      let b = ltb-lt s (n-of t) (and-l (is-initial t s) (f .reached .begins)) in
+      let p = way-walk (f .reached .way) in
+      let e = leads-edge x (f .cycle .behind) (f .cycle .leaves) in
+      let q = way-walk (f .cycle .returns) in
+      record {
+        start = s;
+        position = x / n-of t;
+        state = x % n-of t;
+        behind = f .cycle .behind % n-of t;
+        begins = f .reached .begins;
+        reached = rw (div-eq-of-lt b, mod-eq-of-lt b) at p;
+        accepts = and-make (lt-ltb (mod-lt x (valid .states-from))) (f .accepts);
+        leaves = e .1;
+        returns = rw (e .0) at q;
+      }
+
+  -- and back
+  pub cycle-found : Accepting-cycle (meaning t) u v → Found (product t u v)
+  unfolding product meaning
+  cycle-found c =
+      let b = ltb-lt (c .start) (n-of t) (and-l (is-initial t (c .start)) (c .begins)) in
+      let p = walk-way b (c .reached) in
+      let e = edge-leads (c .position) (c .state) (c .behind) (c .leaves) in
+      let q = walk-way (e .0) (c .returns) in
+      record {
+        node = c .position * n-of t + c .state;
+        reached = record { start = c .start; begins = c .begins; way = rw (zero-mul, zero-add) at (p .1) };
+        accepts = rw (digits-mod (c .position) (p .0)) (and-r (ltb (c .state) (n-of t)) (c .accepts));
+        cycle = record { behind = next-position u v (c .position) * n-of t + c .behind; leaves = e .1; returns = q .1 };
+      }
