@@ -1,5 +1,5 @@
 -- A table [[u32; 16]; 32] that is passed by value has 32 rows of 16 words, each below 2 ^ 32. Assumes nothing.
-use mathlib.Core.Path.{_≡_, refl, sym, _∙_}
+use mathlib.Core.Path.{_≡_}
 use mathlib.Core.List.{List, [], _∷_}
 use Prim.Native.Nat.{ℕ, zero, suc, _^_, _≤_, _<_}
 use native.Mathlib.Omega.{arith}

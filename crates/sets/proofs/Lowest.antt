@@ -1,13 +1,13 @@
 -- The lowest state of a set: the count of trailing zeros names it, and s & (s - 1) takes just it away. Assumes nothing.
-use mathlib.Core.Path.{_≡_, refl, sym, _∙_, ap}
-use mathlib.Core.Bool.{Bool, true, false, _&&_, not}
+use mathlib.Core.Path.{_≡_, sym, _∙_, ap}
+use mathlib.Core.Bool.{true, false, _&&_, not}
 use mathlib.Core.Logic.{inl, inr}
-use Prim.Native.Nat.{ℕ, zero, suc, _+_, _-_, _*_, _/_, _%_, _^_, _≤_, _<_, min}
+use Prim.Native.Nat.{ℕ, zero, suc, _+_, _-_, _*_, _/_, _%_, _^_, _<_, min}
 use native.Mathlib.Omega.{arith}
 use native.Mathlib.Nat.{pow-suc}
 use lib.Bits.{bitAnd, and-step, and-self}
-use lib.Count.{trailingZeros, under}
-use lib.Dec.{eqb, eqb·zero-suc, eqb·suc-zero, eqb·suc-suc}
+use lib.Count.{trailingZeros}
+use lib.Dec.{eqb, eqb·suc-zero, eqb·suc-suc}
 use lib.Pow.{pow-pos}
 use Rattle.basics.proofs.Booleans.{either, and-l, and-false-r, not-true, eqb-self, ne-eqb}
 use Rattle.sets.specs.Sets.{has, size}

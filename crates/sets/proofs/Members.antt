@@ -1,17 +1,17 @@
 -- Members of sets of states: what the operations on numbers do to each member, when two sets are equal, and bounds. Assumes nothing.
 -- Halving carries the laws between a number and its members: state 0 is the lowest digit, and state q + 1 of a set is state q of its half.
-use mathlib.Core.Path.{_≡_, refl, sym, _∙_, ap, subst}
+use mathlib.Core.Path.{_≡_, refl, sym, _∙_, ap}
 use mathlib.Core.Bool.{Bool, true, false, _&&_, _||_, not, cond}
 use mathlib.Core.Logic.{_⊎_, inl, inr}
 use Prim.Native.Nat.{ℕ, zero, suc, _+_, _-_, _*_, _/_, _%_, _^_, _≤_, _<_, min, max}
 use native.Mathlib.Omega.{arith}
-use native.Mathlib.Nat.{pow-suc, div-div-eq-div-mul, div-eq-of-lt, zero-div, mul-comm, one-mul, pow-succ', div-one, add-comm, add-zero, zero-add, lt-of-lt-of-le, lt-of-le-of-lt, sub-le}
+use native.Mathlib.Nat.{pow-suc, div-div-eq-div-mul, div-eq-of-lt, one-mul, pow-succ', div-one, add-comm, add-zero, zero-add, lt-of-lt-of-le, lt-of-le-of-lt, sub-le}
 use lib.Dec.{eqb, ltb, eqb·zero-suc, eqb·suc-zero, eqb·suc-suc}
 use lib.Arith.{mod-mul}
 use lib.Pow.{pow-pos, pow-mono}
-use lib.Bits.{bitAnd, bitOr, and-step, or-step, and-le-l, and-le-r, or-lt, or-shifted, or-disjoint}
+use lib.Bits.{bitAnd, bitOr, and-step, or-step, and-le-l, or-lt, or-shifted, or-disjoint}
 use Rattle.basics.specs.Bounded.{any}
-use Rattle.basics.proofs.Booleans.{either, clash, and-l, and-r, and-make, eqb-eq, eq-eqb, eqb-ne, ne-eqb, lt-ltb, ge-ltb, ltb-lt, ltb-ge, same-truth}
+use Rattle.basics.proofs.Booleans.{either, clash, eqb-eq, eq-eqb, eqb-ne, ne-eqb, lt-ltb, ge-ltb, ltb-lt, ltb-ge, same-truth}
 use Rattle.basics.proofs.Bounded.{search-to}
 use Rattle.sets.specs.Sets.{has, without, set-of, union}
 

@@ -1,6 +1,6 @@
 -- How many states a set has: the count of a number's set digits, and how it grows. Assumes nothing.
-use mathlib.Core.Path.{_≡_, refl, sym, _∙_, ap}
-use mathlib.Core.Bool.{Bool, true, false, _&&_, not, cond}
+use mathlib.Core.Path.{_≡_, sym, _∙_, ap}
+use mathlib.Core.Bool.{Bool, true, false, _&&_, not}
 use mathlib.Core.Logic.{inl, inr}
 use Prim.Native.Nat.{ℕ, zero, suc, _+_, _/_, _%_, _^_, _≤_, _<_}
 use native.Mathlib.Omega.{arith}
@@ -9,11 +9,11 @@ use lib.Bits.{bitAnd}
 use lib.Count.{ones, onesIn, ones-step}
 use lib.Dec.{ltb}
 use Rattle.basics.specs.Bounded.{count}
-use Rattle.basics.proofs.Booleans.{either, clash, lt-ltb}
+use Rattle.basics.proofs.Booleans.{either, lt-ltb}
 use Rattle.basics.proofs.Bounded.{count-same, count-le, count-mono, count-less}
 use Rattle.sets.specs.Sets.{has, size, without, set-of}
 use Rattle.sets.proofs.Counting.{count-front, count-none, count-hit, count-longer, count-past, count-split}
-use Rattle.sets.proofs.Members.{has-half, has-zero, has-and, has-without, has-out, has-some, has-set-of, empty, first-in, first-out}
+use Rattle.sets.proofs.Members.{has-half, has-zero, has-and, has-without, has-out, has-set-of, empty, first-in, first-out}
 
 -- the lowest digit, and the size of the half
 pub size-step : (k s : ℕ) → size (suc k) s ≡ s % 2 + size k (s / 2)

@@ -2,20 +2,20 @@
 -- The i-th one takes the members of the set that stand at the set digits of i. Assumes nothing.
 use mathlib.Core.Path.{_≡_, refl, sym, _∙_, ap}
 use mathlib.Core.Bool.{Bool, true, false, _&&_, _||_, not, cond}
-use mathlib.Core.List.{List, [], _∷_, _++_, map}
+use mathlib.Core.List.{List, [], _∷_, map}
 use mathlib.Core.Logic.{_⊎_, inl, inr, _↔_}
-use Prim.Native.Nat.{ℕ, zero, suc, _+_, _-_, _*_, _/_, _%_, _^_, _≤_, _<_}
+use Prim.Native.Nat.{ℕ, zero, suc, _+_, _-_, _/_, _%_, _^_, _≤_, _<_}
 use native.Mathlib.Omega.{arith}
-use native.Mathlib.Nat.{pow-suc, add-zero, lt-of-lt-of-le, mod-lt}
+use native.Mathlib.Nat.{pow-suc, add-zero, lt-of-lt-of-le}
 use native.Mathlib.Numerals.{add-one}
 use lib.Dec.{eqb, ltb}
 use lib.ListN.{length, getD, length-append, length-map, List·getD-append}
-use lib.Pow.{pow-pos, pow-mono}
+use lib.Pow.{pow-mono}
 use lib.Seq.{getD-append-add}
 use Rattle.basics.proofs.Booleans.{either, clash, and-l, and-r, and-false-l, and-false-r, eqb-eq, eqb-ne, eqb-self, ne-eqb, lt-ltb, ltb-lt, ltb-ge, not-true, or-l, or-r}
 use Rattle.sets.specs.Sets.{has, size, set-of, subsets}
 use Rattle.sets.proofs.Lowest.{Lowest, lowest-size, lowest-none}
-use Rattle.sets.proofs.Members.{ext-all, has-half, has-lt, has-mod, has-nonzero, has-out, has-put, has-set-of, has-top, has-zero, set-of-lt, set-of-same}
+use Rattle.sets.proofs.Members.{ext-all, has-half, has-lt, has-mod, has-out, has-put, has-set-of, has-top, has-zero, set-of-lt, set-of-same}
 use Rattle.sets.proofs.Size.{size-hit, size-longer}
 
 -- the part of s that i chooses: the member with j members below it is taken where digit j of i is set

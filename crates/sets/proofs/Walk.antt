@@ -1,18 +1,18 @@
 -- Laws for walking the members of a set from the lowest one up, and for the operations of 32-bit words. Assumes nothing.
 use mathlib.Core.Path.{_≡_, refl, sym, _∙_, ap}
-use mathlib.Core.Bool.{Bool, true, false, _&&_, _||_, not, cond}
-use mathlib.Core.Logic.{_⊎_, inl, inr}
-use Prim.Native.Nat.{ℕ, zero, suc, _+_, _-_, _*_, _/_, _%_, _^_, _≤_, _<_}
+use mathlib.Core.Bool.{Bool, true, false, _&&_, _||_, not}
+use mathlib.Core.Logic.{inl, inr}
+use Prim.Native.Nat.{ℕ, zero, suc, _+_, _-_, _*_, _/_, _%_, _^_, _<_}
 use native.Mathlib.Omega.{arith}
 use native.Mathlib.Nat.{pow-suc, one-mul, mod-eq-of-lt, mod-lt, lt-of-le-of-lt}
 use lib.Bits.{bitAnd, bitOr, and-le-l, or-zero-r}
 use lib.Count.{trailingZeros}
-use lib.Dec.{eqb, ltb}
+use lib.Dec.{eqb}
 use lib.ListN.{getD}
 use lib.Pow.{pow-lt, pow-pos}
 use Rattle.basics.specs.Bounded.{any}
 use Rattle.basics.proofs.Booleans.{either, and-l, and-make, and-r, eqb-eq, not-false, or-l, or-r, or-true, same-truth}
-use Rattle.basics.proofs.Bounded.{any-find, any-make, any-none}
+use Rattle.basics.proofs.Bounded.{any-find, any-make}
 use Rattle.sets.specs.Sets.{has, size, subsets, union, without}
 use Rattle.sets.proofs.Lowest.{Lowest, lowest, lowest-less, lowest-lt, lowest-part}
 use Rattle.sets.proofs.Members.{ext, ext-all, first-in, first-made, first-out, first-unmade, has-and, has-half, has-lt, has-or, has-union, has-without, has-zero, without-lt}

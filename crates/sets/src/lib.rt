@@ -45,15 +45,15 @@ pub fn choices(set: u32) -> u64
 pub fn nth_subset(set: u32, choice: u32) -> u32
     ensures { λ r. ⌜ r ≡ getD (subsets 32 set) (choice % 2 ^ size 32 set) 0 ⌝ }
 {
-    let mut left = set;
+    let mut members = set;
     let mut digits = choice;
     let mut part: u32 = 0;
-    while left != 0 {
+    while members != 0 {
         if digits % 2 == 1 {
-            part += 1 << u32::trailing_zeros(left);
+            part += 1 << u32::trailing_zeros(members);
         }
         digits /= 2;
-        left &= left - 1;
+        members &= members - 1;
     }
     part
 }

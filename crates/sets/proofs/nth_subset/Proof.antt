@@ -1,6 +1,6 @@
 -- `sets::nth_subset` meets its contract. The loop's invariant: the part so far, with what the digits left choose of the members left, is what the choice chooses of the set.
 -- The measure is the set of the members left, as a number. Assumes nothing.
-use mathlib.Core.Path.{_≡_, sym, _∙_, ap}
+use mathlib.Core.Path.{_≡_}
 use mathlib.Core.Logic.{⊎-elim}
 use Prim.Native.Nat.{_+_, _^_, _<_}
 use native.Mathlib.Omega.{arith}
@@ -11,18 +11,18 @@ use Rattle.sets.proofs.nth_subset.Statement.{statement}
 use Rattle.sets.proofs.nth_subset.Tie as tie
 
 abbrev Inv-loop : tie.InvT-loop
-Inv-loop set choice left₀ digits₀ part₀ left digits part =
-    (left < 2 ^ 32) × (part + spread 32 left digits ≡ spread 32 set choice)
+Inv-loop set choice members₀ digits₀ part₀ members digits part =
+    (members < 2 ^ 32) × (part + spread 32 members digits ≡ spread 32 set choice)
 
 abbrev μ-loop : tie.MeasureT-loop
-μ-loop set choice left₀ digits₀ part₀ left digits part = left
+μ-loop set choice members₀ digits₀ part₀ members digits part = members
 
 loop-holds : tie.Need-loop-holds Inv-loop μ-loop
 loop-holds c = (c .fits .set .fits, omega arith)
 
 shl-part : tie.Need-shl-part Inv-loop μ-loop
 shl-part c =
-    lowest-lt 32 (c .before .before .loop .left) (c .before .before .loop .inv .0) (c .before .loop-test .taken)
+    lowest-lt 32 (c .before .before .loop .members) (c .before .before .loop .inv .0) (c .before .loop-test .taken)
 
 add-part : tie.Need-add-part Inv-loop μ-loop
 add-part c =
@@ -30,29 +30,29 @@ add-part c =
     let args = c .before .before .before .args in
     record {
       fits =
-          take-fits 32 (at .left) (at .digits) (at .part) (args .set) (args .choice) (at .inv .0)
+          take-fits 32 (at .members) (at .digits) (at .part) (args .set) (args .choice) (at .inv .0)
           (c .before .loop-test .taken) (at .inv .1) (c .if1 .taken);
     }
 
-sub-left : tie.Need-sub-left Inv-loop μ-loop
-sub-left c = let n = c .before .loop-test .taken in omega arith
+sub-members : tie.Need-sub-members Inv-loop μ-loop
+sub-members c = let n = c .before .loop-test .taken in omega arith
 
 loop-less : tie.Need-loop-less Inv-loop μ-loop
 loop-less c =
-    clear-less 32 (c .before .before .loop .left) (c .before .before .loop .inv .0) (c .before .loop-test .taken)
+    clear-less 32 (c .before .before .loop .members) (c .before .before .loop .inv .0) (c .before .loop-test .taken)
 
 loop-again : tie.Need-loop-again Inv-loop μ-loop
 loop-again c =
     let at = c .before .before .loop in
     let args = c .before .before .before .args in
     let n = c .before .loop-test .taken in (
-      clear-lt 32 (at .left) (at .inv .0),
+      clear-lt 32 (at .members) (at .inv .0),
       ⊎-elim
           (λ w.
-          take-turn 32 (at .left) (at .digits) (at .part) (args .set) (args .choice) (at .inv .0) n (at .inv .1)
+          take-turn 32 (at .members) (at .digits) (at .part) (args .set) (args .choice) (at .inv .0) n (at .inv .1)
           (c .if1 .part) (w .0 .taken) (w .1))
           (λ w.
-          leave-turn 32 (at .left) (at .digits) (at .part) (args .set) (args .choice) (at .inv .0) n (at .inv .1)
+          leave-turn 32 (at .members) (at .digits) (at .part) (args .set) (args .choice) (at .inv .0) n (at .inv .1)
           (c .if1 .part) (w .0 .left) (w .1))
           (c .if1 .came),
     )
@@ -61,9 +61,9 @@ returns : tie.Need-returns Inv-loop μ-loop
 returns c =
     let at = c .before .loop in
     let args = c .before .before .args in
-    choose-end 32 (at .left) (at .digits) (at .part) (args .set) (args .choice) (c .loop-test .left) (at .inv .1)
+    choose-end 32 (at .members) (at .digits) (at .part) (args .set) (args .choice) (c .loop-test .left) (at .inv .1)
 
 pub nth-subset-spec : {M : Type 1} → statement M
 nth-subset-spec =
     tie.close
-    (tie.spec Inv-loop μ-loop loop-holds shl-part add-part sub-left loop-less loop-again returns)
+    (tie.spec Inv-loop μ-loop loop-holds shl-part add-part sub-members loop-less loop-again returns)

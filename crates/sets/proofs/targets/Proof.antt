@@ -2,7 +2,7 @@
 -- The measure is the set of the members left, as a number. Assumes nothing.
 use mathlib.Core.Path.{_≡_, refl, sym}
 use mathlib.Core.List.{[]}
-use Prim.Native.Nat.{ℕ, _^_, _<_}
+use Prim.Native.Nat.{_^_, _<_}
 use native.Mathlib.Omega.{arith}
 use lib.Bits.{bitOr}
 use lib.ListN.{getD}
@@ -47,7 +47,7 @@ index-1-all : tie.Need-index-1-all Inv-loop μ-loop
 index-1-all c = lowest-lt 32 (c .before .loop .left) (c .before .loop .inv .0) (c .loop-test .taken)
 
 index-2-all : tie.Need-index-2-all Inv-loop μ-loop
-index-2-all c = c .before .before .if1 .left
+index-2-all c = omega arith
 
 sub-left : tie.Need-sub-left Inv-loop μ-loop
 sub-left c = let n = c .before .loop-test .taken in omega arith
