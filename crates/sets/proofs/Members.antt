@@ -11,7 +11,7 @@ use lib.Arith.{mod-mul}
 use lib.Pow.{pow-pos, pow-mono}
 use lib.Bits.{bitAnd, bitOr, and-step, or-step, and-le-l, or-lt, or-shifted, or-disjoint}
 use Rattle.basics.specs.Bounded.{any}
-use Rattle.basics.proofs.Booleans.{either, clash, eqb-eq, eq-eqb, eqb-ne, ne-eqb, lt-ltb, ge-ltb, ltb-lt, ltb-ge, same-truth}
+use Rattle.basics.proofs.Booleans.{either, false-not, clash, eqb-eq, eq-eqb, eqb-ne, ne-eqb, lt-ltb, ge-ltb, ltb-lt, ltb-ge, same-truth}
 use Rattle.basics.proofs.Bounded.{search-to}
 use Rattle.sets.specs.Sets.{has, without, set-of, union}
 
@@ -194,17 +194,37 @@ has-top k s q l =
     let e : bitOr (2 ^ k) s ≡ 2 ^ k + s = rw (one-mul (2 ^ k)) at (or-shifted 1 k s l) in
     cc (e, has-or (2 ^ k) s q, has-single k q)
 
--- sets with no state in common add
-pub sum-join : (a b : ℕ) → ((q : ℕ) → has a q ≡ true → has b q ≡ false) → a + b ≡ bitOr a b
-sum-join a b apart =
-    sym
-    (or-disjoint a b
-    (ext-all (bitAnd a b) 0
+-- two sets have no state in common exactly if their meet is empty
+pub apart-make : (a b : ℕ) → ((q : ℕ) → has a q ≡ true → has b q ≡ false) → bitAnd a b ≡ 0
+apart-make a b apart =
+    ext-all (bitAnd a b) 0
     (λ q.
     elim (either (has a q)) [
       | inl h ↦ let n = apart q h in cc (has-and a b q, has-zero q)
       | inr h ↦ cc (has-and a b q, has-zero q)
-    ])))
+    ])
+
+pub apart-has : (a b q : ℕ) → bitAnd a b ≡ 0 → has a q ≡ true → has b q ≡ false
+apart-has a b q e h = let n = empty-no (bitAnd a b) q e in cc (has-and a b q)
+
+-- a is a part of b exactly if nothing of a is outside b
+pub part-make : (a b : ℕ) → ((q : ℕ) → has a q ≡ true → has b q ≡ true) → without a b ≡ 0
+part-make a b inside =
+    ext-all (without a b) 0
+    (λ q.
+    elim (either (has a q)) [
+      | inl h ↦ let n = inside q h in cc (has-without a b q, has-zero q)
+      | inr h ↦ cc (has-without a b q, has-zero q)
+    ])
+
+pub part-has : (a b q : ℕ) → without a b ≡ 0 → has a q ≡ true → has b q ≡ true
+part-has a b q e h =
+    let n = empty-no (without a b) q e in
+    let f : not (has b q) ≡ false = cc (has-without a b q) in false-not (has b q) f
+
+-- sets with no state in common add
+pub sum-join : (a b : ℕ) → ((q : ℕ) → has a q ≡ true → has b q ≡ false) → a + b ≡ bitOr a b
+sum-join a b apart = sym (or-disjoint a b (apart-make a b apart))
 
 pub has-sum :
     (a b : ℕ) → ((q : ℕ) → has a q ≡ true → has b q ≡ false) → (q : ℕ) → has (a + b) q ≡ (has a q || has b q)

@@ -76,11 +76,9 @@ unfolding subsets size Rattle.basics.specs.Bounded.count
 subsets-length zero s = refl
 subsets-length (suc k) s =
     let ih = subsets-length k s in
-    let r = subsets k s in
     elim (either (has s k)) [
       | inl h ↦
-          let p = pow-suc 2 (size k s) in
-          rw (h, length-append r (map (λ x. 2 ^ k + x) r), length-map r (λ x. 2 ^ k + x), add-one (size k s)) (omega arith)
+          let p = pow-suc 2 (size k s) in rw (h, length-append, length-map, add-one (size k s)) (omega arith)
       | inr h ↦ rw (h, add-zero (size k s)) ih
     ]
 
