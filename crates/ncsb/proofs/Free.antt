@@ -1,11 +1,12 @@
 -- Which targets are free, what is tracked, and when nothing blocks, one state at a time. Assumes nothing.
 use mathlib.Core.Path.{_≡_, refl, sym, _∙_}
 use mathlib.Core.Bool.{Bool, true, false, _&&_, _||_, not, true≢false}
+use mathlib.Core.Logic.{_↔_}
 use Prim.Native.Nat.{ℕ, _<_}
 use lib.Dec.{eqb}
 use lib.Bits.{bitAnd, bitOr}
 use Rattle.basics.proofs.Booleans.{clash, and-l, and-r, and-make, or-false, not-true, not-both, eqb-eq, eq-eqb}
-use Rattle.basics.proofs.Bounded.{any-no, any-none}
+use Rattle.basics.proofs.Bounded.{any-find, any-make}
 use Rattle.sets.specs.Sets.{has, without}
 use Rattle.sets.proofs.Members.{has-or, has-without}
 use Rattle.ncsb.specs.Moves.{Moves}
@@ -87,30 +88,41 @@ pub record Unblocked (d : Moves) (x : Quadruple) (c : ℕ) : Type 0 where
   pub apart : (q : ℕ) → has (staying-safe d x c) q ≡ true → has (staying d x c) q ≡ false
 
 module _ (d : Moves) (x : Quadruple) (c : ℕ) where
+  -- a dead end is a state of C without F that has no target
+  dead-end-means :
+      (dead-end d x c ≡ true)
+      ↔ ((p : ℕ) × (p < d .states) × (has (without (x .C) (d .marks)) p ≡ true) × (d .move p c ≡ 0))
+  unfolding dead-end
+  dead-end-means = (
+    (λ h.
+        let r = any-find (d .states) (λ q. has (without (x .C) (d .marks)) q && eqb (d .move q c) 0) h in (
+          r .0,
+          r .1,
+          and-l (eqb (d .move (r .0) c) 0) (r .2),
+          eqb-eq (d .move (r .0) c) 0 (and-r (has (without (x .C) (d .marks)) (r .0)) (r .2)),
+        )),
+    (λ r.
+        any-make (d .states) (λ q. has (without (x .C) (d .marks)) q && eqb (d .move q c) 0) (r .0) (r .1)
+        (and-make (r .2) (eq-eqb (r .3)))),
+  )
+
   pub blocked-no : blocked d x c ≡ false → Unblocked d x c
-  unfolding blocked dead-end
+  unfolding blocked
   blocked-no h =
       let safe = staying-safe d x c in
       let r =
       block-parts (dead-end d x c) (eqb (bitAnd safe (d .marks)) 0) (eqb (bitAnd safe (staying d x c)) 0) h in
       record {
-        no-dead-end =
-            λ p l m e.
-            clash (and-make m (eq-eqb e))
-            (any-no (d .states) (λ q. has (without (x .C) (d .marks)) q && eqb (d .move q c) 0) (r .0) p l);
+        no-dead-end = λ p l m e. clash (dead-end-means .1 (p, l, m, e)) (r .0);
         safe-unmarked = none-meet safe (d .marks) (eqb-eq (bitAnd safe (d .marks)) 0 (r .1));
         apart = none-meet safe (staying d x c) (eqb-eq (bitAnd safe (staying d x c)) 0 (r .2));
       }
 
   pub no-blocked : Unblocked d x c → blocked d x c ≡ false
-  unfolding blocked dead-end
+  unfolding blocked
   no-blocked u =
       or-false
-      (any-none (d .states) (λ q. has (without (x .C) (d .marks)) q && eqb (d .move q c) 0)
-      (λ p m.
-      not-both (has (without (x .C) (d .marks)) p && eqb (d .move p c) 0)
-      (λ h.
-      u .no-dead-end p m (and-l (eqb (d .move p c) 0) h)
-      (eqb-eq (d .move p c) 0 (and-r (has (without (x .C) (d .marks)) p) h)))))
+      (not-both (dead-end d x c)
+      (λ h. let r = dead-end-means .0 h in u .no-dead-end (r .0) (r .1) (r .2) (r .3)))
       (or-false (not-true (eq-eqb (meet-none (staying-safe d x c) (d .marks) (u .safe-unmarked))))
       (not-true (eq-eqb (meet-none (staying-safe d x c) (staying d x c) (u .apart)))))

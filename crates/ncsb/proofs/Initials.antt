@@ -1,6 +1,7 @@
 -- The initial quadruples that the construction computes are exactly those of section 3.2, each once, by rising S. Assumes nothing.
 use mathlib.Core.Path.{_≡_, refl, sym, _∙_, ap}
 use mathlib.Core.Bool.{true, false, _&&_, _||_, not}
+use mathlib.Core.List.{List, map}
 use mathlib.Core.Logic.{_↔_}
 use Prim.Native.Nat.{ℕ, _<_, _^_}
 use native.Mathlib.Omega.{arith}
@@ -154,10 +155,14 @@ module _ {a : Automaton} {d : Moves} (sp : Spread a d) {x : Quadruple} (start : 
 
 -- THE LIST, by index
 module _ (d : Moves) where
-  pub initials-length : length (initials d) ≡ 2 ^ size (d .states) (initial-free d)
+  initials-some : initials d ≡ map (initial-for d) (subsets (d .states) (initial-free d))
   unfolding initials
+  initials-some = refl
+
+  pub initials-length : length (initials d) ≡ 2 ^ size (d .states) (initial-free d)
   initials-length =
-      length-map (subsets (d .states) (initial-free d)) (initial-for d) ∙ subsets-length (d .states) (initial-free d)
+      ap length initials-some ∙ length-map (subsets (d .states) (initial-free d)) (initial-for d)
+      ∙ subsets-length (d .states) (initial-free d)
 
   module _ (i : ℕ) (l : i < length (initials d)) where
     initials-choice : i < length (subsets (d .states) (initial-free d))
@@ -168,9 +173,9 @@ module _ (d : Moves) where
     pub initials-at :
         (blank : Quadruple) →
         getD (initials d) i blank ≡ initial-for d (getD (subsets (d .states) (initial-free d)) i 0)
-    unfolding initials
     initials-at blank =
-        getD-map (initial-for d) (subsets (d .states) (initial-free d)) 0 blank i initials-choice
+        ap (λ (ys : List Quadruple). getD ys i blank) initials-some
+        ∙ getD-map (initial-for d) (subsets (d .states) (initial-free d)) 0 blank i initials-choice
 
     initials-is-choice : Choice (d .states) (initial-free d) (getD (subsets (d .states) (initial-free d)) i 0)
     initials-is-choice = choice-at (d .states) (initial-free d) i initials-choice

@@ -26,7 +26,7 @@ use Rattle.ncsb.proofs.Free.{free-from, free-unmarked, free-not-safe, f
 use Rattle.ncsb.proofs.Lists.{member-index, getD-map}
 use Rattle.ncsb.proofs.Parting.{Choice, choice-at, choice-index, parted-all, parted-apart, rest-of, meet-none, same-parts}
 use Rattle.ncsb.proofs.Targets.{targets-small, targets-lead, lead-targets}
-use Rattle.ncsb.proofs.Tracked.{safe-lead, lead-safe, staying-lead, lead-staying, Tracked-by, tracked-lead, lead-tracked, safe-small, tracked-small, next-B-small}
+use Rattle.ncsb.proofs.Tracked.{safe-lead, lead-safe, staying-lead, lead-staying, Tracked-by, tracked-lead, lead-tracked, safe-small, tracked-small}
 
 -- THE SUCCESSOR FOR A CHOICE of free targets, one state at a time
 module _ (d : Moves) (x : Quadruple) (c f q : ℕ) where
@@ -93,16 +93,28 @@ module _
       ∙ or-r (has (entering d x c) q || has (leaving d x c) q) (or-l (has (staying-safe d x c) q) h))
       (not-false (not-both (has (successor-for d x c f .S) q) (λ s. clash h (choice-not-staying q s))))
 
+  choice-small-C : successor-for d x c f .C < 2 ^ d .states
+  unfolding successor-for quadruple
+  choice-small-C = without-lt (d .states) (tracked d x c) (bitOr (staying-safe d x c) f) (tracked-small sp x c)
+
+  -- B' is within C', whether B was empty or not
+  choice-small-B : successor-for d x c f .B < 2 ^ d .states
+  choice-small-B =
+      elim (either (eqb (x .B) 0)) [
+        | inl e ↦ rw (new-B-empty d x c f (eqb-eq (x .B) 0 e)) choice-small-C
+        | inr e ↦
+            rw (new-B-kept d x c f (eqb-ne (x .B) 0 e))
+            (lt-of-le-of-lt (and-le-r (targets d (x .B) c) (successor-for d x c f .C)) choice-small-C)
+      ]
+
   choice-small : Small (d .states) (successor-for d x c f)
   unfolding successor-for quadruple next-N
   choice-small =
-      let new-C = without (tracked d x c) (bitOr (staying-safe d x c) f) in
-      let small = without-lt (d .states) (tracked d x c) (bitOr (staying-safe d x c) f) (tracked-small sp x c) in
       record {
         small-N = without-lt (d .states) (targets d (x .N) c) (d .inner) (targets-small sp (x .N) c);
-        small-C = small;
+        small-C = choice-small-C;
         small-S = or-lt (d .states) (staying-safe d x c) f (safe-small sp x c) (choice .small);
-        small-B = next-B-small (d .states) d x c new-C small;
+        small-B = choice-small-B;
       }
 
   choice-kept :

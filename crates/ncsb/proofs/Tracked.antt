@@ -4,15 +4,14 @@ use mathlib.Core.Bool.{true, false, _&&_, _||_, not}
 use mathlib.Core.Logic.{inl, inr}
 use Prim.Native.Nat.{ℕ, _<_, _^_}
 use native.Mathlib.Nat.{lt-of-le-of-lt}
-use lib.Dec.{eqb}
-use lib.Bits.{bitAnd, bitOr, and-le-l, and-le-r, or-lt}
+use lib.Bits.{bitAnd, bitOr, and-le-l, or-lt}
 use Rattle.basics.proofs.Booleans.{either, and-l, and-r, and-make, or-l, or-r, or-true, not-false, true-not}
 use Rattle.automata.specs.Automaton.{Automaton}
 use Rattle.sets.specs.Sets.{has, without}
 use Rattle.sets.proofs.Members.{has-and, has-without, without-lt}
 use Rattle.ncsb.specs.Moves.{Moves, Spread, Split}
 use Rattle.ncsb.specs.Step.{Leads, Fine}
-use Rattle.ncsb.specs.Successors.{targets, entering, staying-safe, staying, leaving, tracked, next-B}
+use Rattle.ncsb.specs.Successors.{targets, entering, staying-safe, staying, leaving, tracked}
 use Rattle.ncsb.specs.declared.Quadruple.{Quadruple}
 use Rattle.ncsb.proofs.Free.{has-tracked}
 use Rattle.ncsb.proofs.Targets.{targets-small, targets-lead, lead-targets}
@@ -149,11 +148,3 @@ module _ {a : Automaton} {d : Moves} (sp : Spread a d) (x : Quadruple) (c : ℕ)
       (targets-small sp (bitAnd (x .C) (d .marks)) c))
       (or-lt (d .states) (staying d x c) (staying-safe d x c) (targets-small sp (without (x .C) (d .marks)) c)
       (targets-small sp (x .S) c))
-
-pub next-B-small : (k : ℕ) (d : Moves) (x : Quadruple) (c y : ℕ) → y < 2 ^ k → next-B d x c y < 2 ^ k
-unfolding next-B
-next-B-small k d x c y l =
-    elim (either (eqb (x .B) 0)) [
-      | inl e ↦ rw e l
-      | inr e ↦ rw e (lt-of-le-of-lt (and-le-r (targets d (x .B) c) y) l)
-    ]
