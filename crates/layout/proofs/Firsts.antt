@@ -1,0 +1,184 @@
+-- What the first record of a source and the record behind a record are; in edges with rising sources each record is named exactly once, as the
+-- first of its source or behind the one before. Assumes nothing.
+use mathlib.Core.Path.{_≡_, refl, sym, _∙_}
+use mathlib.Core.Bool.{Bool, true, false, _&&_, cond}
+use mathlib.Core.List.{List, [], _∷_}
+use mathlib.Core.Logic.{_⊎_, inl, inr}
+use Prim.Native.Nat.{ℕ, zero, suc, _+_, _≤_, _<_}
+use native.Mathlib.Omega.{arith}
+use lib.Dec.{ltb, eqb}
+use lib.ListN.{length}
+use Rattle.basics.specs.Bounded.{count}
+use Rattle.basics.proofs.Booleans.{either, clash, and-l, and-r, and-make, and-false-r, not-both, eqb-eq, eq-eqb, eqb-ne, ne-eqb, ltb-lt, ltb-ge, lt-ltb, ge-ltb}
+use Rattle.automata.specs.Automaton.{Automaton}
+use Rattle.automata.specs.System.{Edge, edge-at}
+use Rattle.layout.specs.Chained.{first-record, next-record}
+use Rattle.layout.specs.Orderly.{Orderly}
+use Rattle.layout.proofs.Counting.{count-only}
+
+-- x is the number of the first edge with source i, where numbers begin at s; or zero, and there is none
+pub data First (s i : ℕ) (es : List Edge) (x : ℕ) : Type 0 where
+  absent : x ≡ 0 → ((e : ℕ) → e < length es → edge-at es e .source ≡ i → ⊥) → First s i es x
+  first-at :
+      (e : ℕ) → x ≡ s + e → e < length es → edge-at es e .source ≡ i →
+      ((d : ℕ) → d < e → edge-at es d .source ≡ i → ⊥) → First s i es x
+
+pub first-is : (s i : ℕ) (es : List Edge) → First s i es (first-record s i es)
+unfolding first-record edge-at
+first-is s i [] = absent refl (λ e l q. omega arith)
+first-is s i (f ∷ es) = go (either (eqb (f .source) i)) (first-is (suc s) i es)
+  where
+    later : (f .source ≡ i → ⊥) → (e : ℕ) → ((d : ℕ) → d < e → edge-at es d .source ≡ i → ⊥) → (d : ℕ) → d < suc e → edge-at (f ∷ es) d .source ≡ i → ⊥
+    later ne e before zero l q = ne q
+    later ne e before (suc d) l q = before d (omega arith) q
+
+    go :
+        (eqb (f .source) i ≡ true) ⊎ (eqb (f .source) i ≡ false) → First (suc s) i es (first-record (suc s) i es) →
+        First s i (f ∷ es) (cond (eqb (f .source) i) s (first-record (suc s) i es))
+    go (inl q) rest = first-at 0 (rw q (omega arith)) (omega arith) (eqb-eq (f .source) i q) (λ d l. absurd (omega arith))
+    go (inr q) (absent z before) =
+        absent (rw q z) (later (eqb-ne (f .source) i q) (length es) before)
+    go (inr q) (first-at e z l h before) =
+        first-at (suc e) (rw q (omega arith)) (omega arith) h (later (eqb-ne (f .source) i q) e before)
+
+-- an edge is the first of its source if no edge before has it
+pub first-new :
+    (es : List Edge) (r : ℕ) → r < length es → ((d : ℕ) → d < r → edge-at es d .source ≡ edge-at es r .source → ⊥) →
+    first-record 1 (edge-at es r .source) es ≡ suc r
+first-new es r l new = go (first-is 1 (edge-at es r .source) es)
+  where
+    go :
+        First 1 (edge-at es r .source) es (first-record 1 (edge-at es r .source) es) →
+        first-record 1 (edge-at es r .source) es ≡ suc r
+    go (absent z before) = absurd (before r l refl)
+    go (first-at e z m h before) =
+        elim (either (ltb e r)) [
+          | inl p ↦ absurd (new e (ltb-lt e r p) h)
+          | inr p ↦
+              elim (either (ltb r e)) [
+                | inl q ↦ absurd (before r (ltb-lt r e q) refl)
+                | inr q ↦ let x = ltb-ge e r p in let y = ltb-ge r e q in omega arith
+              ]
+        ]
+
+-- x is the number of the record behind record r + 1; or zero, and the edge behind edge r has another source or there is none
+pub data Next (es : List Edge) (r x : ℕ) : Type 0 where
+  ends : x ≡ 0 → (suc r < length es → edge-at es (suc r) .source ≡ edge-at es r .source → ⊥) → Next es r x
+  goes-on : x ≡ suc (suc r) → suc r < length es → edge-at es (suc r) .source ≡ edge-at es r .source → Next es r x
+
+pub next-is : (es : List Edge) (r : ℕ) → Next es r (next-record es r)
+unfolding next-record
+next-is es r = go (either (ltb (suc r) (length es) && same))
+  where
+    same : Bool
+    same = eqb (edge-at es (suc r) .source) (edge-at es r .source)
+
+    go :
+        ((ltb (suc r) (length es) && same) ≡ true) ⊎ ((ltb (suc r) (length es) && same) ≡ false) →
+        Next es r (cond (ltb (suc r) (length es) && same) (suc (suc r)) 0)
+    go (inl q) =
+        goes-on (rw q) (ltb-lt (suc r) (length es) (and-l same q))
+        (eqb-eq (edge-at es (suc r) .source) (edge-at es r .source) (and-r (ltb (suc r) (length es)) q))
+    go (inr q) = ends (rw q) (λ l e. clash (and-make (lt-ltb l) (eq-eqb e)) q)
+
+module _ {a : Automaton} {es : List Edge} (o : Orderly a es) where
+  -- sources rise from any edge to any later one
+  pub rising : (d e : ℕ) → d ≤ e → e < length es → edge-at es d .source ≤ edge-at es e .source
+  rising d zero l m = let z : d ≡ 0 = omega arith in rw z (omega arith)
+  rising d (suc e) l m =
+      elim (either (eqb d (suc e))) [
+        | inl q ↦ rw (eqb-eq d (suc e) q) (omega arith)
+        | inr q ↦
+            let ne = eqb-ne d (suc e) q in
+            let before = rising d e (omega arith) (omega arith) in
+            let step = o .rise e m in omega arith
+      ]
+
+  -- record r + 1 is a head of its source's chain alone, and next of the record before it alone
+  heads-of :
+      (r : ℕ) → r < length es →
+      count (a .states) (λ q. eqb (first-record 1 q es) (suc r)) ≡
+      cond (ltb (edge-at es r .source) (a .states) && eqb (first-record 1 (edge-at es r .source) es) (suc r)) 1 0
+  heads-of r l =
+      count-only (a .states) (λ q. eqb (first-record 1 q es) (suc r)) (edge-at es r .source)
+      (λ q m ne. ne-eqb (first-record 1 q es) (suc r) (λ e. other q ne e (first-is 1 q es)))
+    where
+      other : (q : ℕ) → (q ≡ edge-at es r .source → ⊥) → first-record 1 q es ≡ suc r → First 1 q es (first-record 1 q es) → ⊥
+      other q ne e (absent z before) = omega arith
+      other q ne e (first-at d z m h before) = let at : d ≡ r = omega arith in ne (sym (rw at at h))
+
+  nexts-of :
+      (p : ℕ) →
+      count (length es) (λ i. eqb (next-record es i) (suc (suc p))) ≡
+      cond (ltb p (length es) && eqb (next-record es p) (suc (suc p))) 1 0
+  nexts-of p =
+      count-only (length es) (λ i. eqb (next-record es i) (suc (suc p))) p
+      (λ i m ne. ne-eqb (next-record es i) (suc (suc p)) (λ e. other i ne e (next-is es i)))
+    where
+      other : (i : ℕ) → (i ≡ p → ⊥) → next-record es i ≡ suc (suc p) → Next es i (next-record es i) → ⊥
+      other i ne e (ends z stop) = omega arith
+      other i ne e (goes-on z m h) = ne (omega arith)
+
+  -- record r + 1 has a head or a record before it, and not both
+  no-next : count (length es) (λ i. eqb (next-record es i) 1) ≡ 0
+  no-next =
+      count-only (length es) (λ i. eqb (next-record es i) 1) (length es)
+      (λ i m ne. ne-eqb (next-record es i) 1 (λ e. other i e (next-is es i)))
+      ∙ (let out : ltb (length es) (length es) ≡ false = ge-ltb {m = length es} {n = length es} (omega arith) in cc)
+    where
+      other : (i : ℕ) → next-record es i ≡ 1 → Next es i (next-record es i) → ⊥
+      other i e (ends z stop) = omega arith
+      other i e (goes-on z m h) = omega arith
+
+  begins-chain :
+      (r : ℕ) → r < length es → ((d : ℕ) → d < r → edge-at es d .source ≡ edge-at es r .source → ⊥) →
+      count (a .states) (λ q. eqb (first-record 1 q es) (suc r)) ≡ 1
+  begins-chain r l new =
+      let state : ltb (edge-at es r .source) (a .states) ≡ true = lt-ltb (o .source r l) in
+      let head : eqb (first-record 1 (edge-at es r .source) es) (suc r) ≡ true = eq-eqb (first-new es r l new) in
+      heads-of r l ∙ cc
+
+  in-chain :
+      (p : ℕ) → suc p < length es → edge-at es p .source ≡ edge-at es (suc p) .source →
+      count (a .states) (λ q. eqb (first-record 1 q es) (suc (suc p))) ≡ 0
+  in-chain p l same =
+      let head : eqb (first-record 1 (edge-at es (suc p) .source) es) (suc (suc p)) ≡ false =
+      ne-eqb (first-record 1 (edge-at es (suc p) .source) es) (suc (suc p))
+      (λ e. other e (first-is 1 (edge-at es (suc p) .source) es)) in
+      heads-of (suc p) l ∙ (let none = and-false-r (ltb (edge-at es (suc p) .source) (a .states)) head in cc)
+    where
+      other :
+          first-record 1 (edge-at es (suc p) .source) es ≡ suc (suc p) →
+          First 1 (edge-at es (suc p) .source) es (first-record 1 (edge-at es (suc p) .source) es) → ⊥
+      other e (absent z before) = omega arith
+      other e (first-at d z m h before) = before p (omega arith) same
+
+  pub named-once :
+      (r : ℕ) → r < length es →
+      count (a .states) (λ q. eqb (first-record 1 q es) (suc r))
+      + count (length es) (λ i. eqb (next-record es i) (suc r)) ≡ 1
+  named-once zero l = rw (begins-chain 0 l (λ d m. absurd (omega arith)), no-next) (omega arith)
+  named-once (suc p) l = go (next-is es p)
+    where
+      earlier : ltb p (length es) ≡ true
+      earlier = lt-ltb {m = p} {n = length es} (omega arith)
+
+      go :
+          Next es p (next-record es p) →
+          count (a .states) (λ q. eqb (first-record 1 q es) (suc (suc p)))
+          + count (length es) (λ i. eqb (next-record es i) (suc (suc p))) ≡ 1
+      go (ends z stop) =
+          let link : eqb (next-record es p) (suc (suc p)) ≡ false =
+          ne-eqb (next-record es p) (suc (suc p)) (λ e. omega arith) in
+          let none : count (length es) (λ i. eqb (next-record es i) (suc (suc p))) ≡ 0 =
+          nexts-of p ∙ (let f = and-false-r (ltb p (length es)) link in cc) in
+          rw
+          (begins-chain (suc p) l
+          (λ d m e.
+          let up = rising d p (omega arith) (omega arith) in
+          let step = o .rise p l in stop l (omega arith)), none)
+          (omega arith)
+      go (goes-on z m h) =
+          let link : eqb (next-record es p) (suc (suc p)) ≡ true = eq-eqb z in
+          let one : count (length es) (λ i. eqb (next-record es i) (suc (suc p))) ≡ 1 = nexts-of p ∙ cc earlier in
+          rw (in-chain p l (sym h), one) (omega arith)

@@ -1,0 +1,110 @@
+-- The chained words of edges in the order of their sources pass refusals 2 to 9 of every range that has room for them. Assumes nothing.
+use mathlib.Core.Path.{_≡_, refl, sym, _∙_}
+use mathlib.Core.Bool.{Bool, true, false, cond}
+use mathlib.Core.List.{List}
+use mathlib.Core.Logic.{_⊎_, inl, inr}
+use Prim.Native.Nat.{ℕ, zero, suc, _+_, _*_, _≤_, _<_}
+use native.Mathlib.Omega.{arith}
+use lib.Dec.{eqb}
+use lib.ListN.{length, getD}
+use Rattle.basics.specs.Bounded.{count}
+use Rattle.basics.proofs.Bounded.{count-same}
+use Rattle.automata.specs.Automaton.{Automaton}
+use Rattle.automata.specs.System.{Edge, edge-at}
+use Rattle.tables.specs.Table.{Limits, n-of, k-of, m-of, flags-of, head-of, letter-of, target-of, next-of, named, table-refusal}
+use Rattle.tables.proofs.Laws.{Valid, valid-passes, words-fit}
+use Rattle.layout.specs.Chained.{first-record, next-record, flags-word, chained-words}
+use Rattle.layout.specs.Orderly.{Orderly}
+use Rattle.layout.proofs.Firsts.{First, absent, first-at, first-is, Next, ends, goes-on, next-is, named-once}
+use Rattle.layout.proofs.Words.{chained-length, chained-n, chained-k, chained-m, chained-flags, chained-head, chained-letter, chained-target, chained-next}
+
+pub flags-small : (a : Automaton) (i : ℕ) → flags-word a i ≤ 3
+unfolding flags-word
+flags-small a i = go (a .initial i) (a .accepting i)
+  where
+    go : (x y : Bool) → cond x 1 0 + cond y 2 0 ≤ 3
+    go true true = omega arith
+    go true false = omega arith
+    go false true = omega arith
+    go false false = omega arith
+
+head-small : (i : ℕ) (es : List Edge) → first-record 1 i es ≤ length es
+head-small i es = go (first-is 1 i es)
+  where
+    go : First 1 i es (first-record 1 i es) → first-record 1 i es ≤ length es
+    go (absent z before) = omega arith
+    go (first-at e z l h before) = omega arith
+
+next-small : (es : List Edge) (r : ℕ) → next-record es r ≤ length es
+next-small es r = go (next-is es r)
+  where
+    go : Next es r (next-record es r) → next-record es r ≤ length es
+    go (ends z stop) = omega arith
+    go (goes-on z l h) = omega arith
+
+next-rises : (es : List Edge) (r : ℕ) → (next-record es r ≡ 0) ⊎ (suc r < next-record es r)
+next-rises es r = go (next-is es r)
+  where
+    go : Next es r (next-record es r) → (next-record es r ≡ 0) ⊎ (suc r < next-record es r)
+    go (ends z stop) = inl z
+    go (goes-on z l h) = inr (omega arith)
+
+-- what holds of each record, from what holds of each edge
+each-edge : (m : ℕ) (P : ℕ → Type 0) → ((r : ℕ) → r < m → P (suc r)) → (x : ℕ) → 1 ≤ x → x ≤ m → P x
+each-edge m P h zero o l = absurd (omega arith)
+each-edge m P h (suc r) o l = h r l
+
+module _ (l : Limits) (a : Automaton) (es : List Edge) (o : Orderly a es) where
+  chained-once : (r : ℕ) → r < length es → named (chained-words a es) (suc r) ≡ 1
+  unfolding named
+  chained-once r m =
+      let t = chained-words a es in
+      let heads =
+      count-same (a .states) (λ q. eqb (head-of t q) (suc r)) (λ q. eqb (first-record 1 q es) (suc r))
+      (λ q i. let e = chained-head a es q i in cc) in
+      let nexts =
+      count-same (length es) (λ i. eqb (next-of t (suc i)) (suc r)) (λ i. eqb (next-record es i) (suc r))
+      (λ i j. let e = chained-next a es i j in cc) in
+      rw (chained-n a es, chained-m a es, heads, nexts) (named-once o r m)
+
+  pub chained-is-valid :
+      1 ≤ a .states → a .states ≤ l .states → 1 ≤ a .letters → a .letters ≤ 16 → length es ≤ l .records →
+      Valid l (chained-words a es)
+  chained-is-valid n₁ n₂ k₁ k₂ m₁ =
+      let t = chained-words a es in
+      let n = chained-n a es in
+      let k = chained-k a es in
+      let m = chained-m a es in
+      record {
+        states-from = omega arith;
+        states-to = omega arith;
+        letters-from = omega arith;
+        letters-to = omega arith;
+        records-to = omega arith;
+        whole = rw (n, m) (chained-length a es);
+        flags = λ q h. rw (chained-flags a es q (rw n at h)) (flags-small a q);
+        letter =
+            rw (m, k)
+            (each-edge (length es) (λ x. letter-of t x < a .letters) (λ r h. rw (chained-letter a es r h) (o .letter r h)));
+        target =
+            rw (m, n)
+            (each-edge (length es) (λ x. target-of t x < a .states) (λ r h. rw (chained-target a es r h) (o .target r h)));
+        head = λ q h. rw (chained-head a es q (rw n at h), m) (head-small q es);
+        next = rw m (each-edge (length es) (λ x. next-of t x ≤ length es) (λ r h. rw (chained-next a es r h) (next-small es r)));
+        rises =
+            rw m
+            (each-edge (length es) (λ x. (next-of t x ≡ 0) ⊎ (x < next-of t x))
+            (λ r h. rw (chained-next a es r h) (next-rises es r)));
+        once = rw m (each-edge (length es) (λ x. named t x ≡ 1) chained-once);
+      }
+
+  -- THE WORDS ARE A TABLE: no refusal of 2 to 9 holds of them
+  pub chained-valid :
+      1 ≤ a .states → a .states ≤ l .states → 1 ≤ a .letters → a .letters ≤ 16 → length es ≤ l .records →
+      table-refusal l (chained-words a es) ≡ 0
+  chained-valid n₁ n₂ k₁ k₂ m₁ = valid-passes l (chained-words a es) (chained-is-valid n₁ n₂ k₁ k₂ m₁)
+
+  pub chained-fits :
+      1 ≤ a .states → a .states ≤ l .states → 1 ≤ a .letters → a .letters ≤ 16 → length es ≤ l .records →
+      l .states ≤ 65535 → l .records ≤ 65535 → (i : ℕ) → getD (chained-words a es) i 0 < 65536
+  chained-fits n₁ n₂ k₁ k₂ m₁ = words-fit (chained-is-valid n₁ n₂ k₁ k₂ m₁)
