@@ -9,7 +9,7 @@ use native.Mathlib.Omega.{arith}
 use lib.Dec.{ltb, eqb}
 use lib.ListN.{length}
 use Rattle.basics.specs.Bounded.{count}
-use Rattle.basics.proofs.Booleans.{either, clash, and-l, and-r, and-make, and-false-r, not-both, eqb-eq, eq-eqb, eqb-ne, ne-eqb, ltb-lt, ltb-ge, lt-ltb, ge-ltb}
+use Rattle.basics.proofs.Booleans.{either, clash, and-l, and-r, and-make, and-false-r, eqb-eq, eq-eqb, eqb-ne, ne-eqb, ltb-lt, ltb-ge, lt-ltb, ge-ltb}
 use Rattle.automata.specs.Automaton.{Automaton}
 use Rattle.automata.specs.System.{Edge, edge-at}
 use Rattle.layout.specs.Chained.{first-record, next-record}
@@ -172,11 +172,13 @@ module _ {a : Automaton} {es : List Edge} (o : Orderly a es) where
           ne-eqb (next-record es p) (suc (suc p)) (λ e. omega arith) in
           let none : count (length es) (λ i. eqb (next-record es i) (suc (suc p))) ≡ 0 =
           nexts-of p ∙ (let f = and-false-r (ltb p (length es)) link in cc) in
-          rw
-          (begins-chain (suc p) l
-          (λ d m e.
-          let up = rising d p (omega arith) (omega arith) in
-          let step = o .rise p l in stop l (omega arith)), none)
+          rw (
+            begins-chain (suc p) l
+                (λ d m e.
+                let up = rising d p (omega arith) (omega arith) in
+                let step = o .rise p l in stop l (omega arith)),
+            none,
+          )
           (omega arith)
       go (goes-on z m h) =
           let link : eqb (next-record es p) (suc (suc p)) ≡ true = eq-eqb z in

@@ -1,16 +1,16 @@
 -- The chained words of an automaton mean that automaton: the chain of a state visits exactly the records with that source. Assumes nothing.
 use mathlib.Core.Path.{_≡_, refl, sym, _∙_}
-use mathlib.Core.Bool.{Bool, true, false, _&&_, _||_, not, cond}
+use mathlib.Core.Bool.{Bool, true, false, _&&_, not, cond}
 use mathlib.Core.List.{List, [], _∷_}
-use mathlib.Core.Logic.{_⊎_, inl, inr}
-use Prim.Native.Nat.{ℕ, zero, suc, _+_, _*_, _-_, _%_, _≤_, _<_}
+use mathlib.Core.Logic.{inl, inr}
+use Prim.Native.Nat.{ℕ, zero, suc, _+_, _-_, _%_, _≤_, _<_}
 use native.Mathlib.Omega.{arith}
 use lib.Dec.{ltb, leb, eqb}
 use lib.ListN.{length}
-use Rattle.basics.proofs.Booleans.{either, clash, and-l, and-r, and-make, and-false-l, or-l, or-r, or-true, same-truth, not-false, eqb-eq, eq-eqb, eqb-ne, ne-eqb, ltb-lt, ltb-ge, lt-ltb}
+use Rattle.basics.proofs.Booleans.{either, clash, and-l, and-r, and-make, or-l, or-r, or-true, same-truth, not-both, not-false, eqb-self, eqb-eq, eq-eqb, eqb-ne, ne-eqb, ltb-lt, ltb-ge, lt-ltb}
 use Rattle.automata.specs.Automaton.{Automaton, Same}
 use Rattle.automata.specs.System.{Edge, edge-at, listed}
-use Rattle.tables.specs.Table.{n-of, m-of, flags-of, head-of, letter-of, target-of, next-of, is-initial, is-accepting, chain-has, edge, meaning}
+use Rattle.tables.specs.Table.{letter-of, target-of, next-of, is-initial, is-accepting, chain-has, edge, meaning}
 use Rattle.tables.proofs.Laws.{chain-ends}
 use Rattle.layout.specs.Chained.{first-record, next-record, flags-word, chained-words}
 use Rattle.layout.specs.Orderly.{Orderly, Lists}
@@ -20,13 +20,32 @@ use Rattle.layout.proofs.Words.{chained-n, chained-k, chained-m, chaine
 -- an edge is listed where some place holds it
 pub listed-at : (es : List Edge) (e : ℕ) → e < length es → listed (edge-at es e .source) (edge-at es e .letter) (edge-at es e .target) es ≡ true
 unfolding listed edge-at
-listed-at es e l = ?
+listed-at [] e l = absurd (omega arith)
+listed-at (f ∷ es) zero l =
+    or-l (listed (f .source) (f .letter) (f .target) es)
+    (and-make (eqb-self (f .source)) (and-make (eqb-self (f .letter)) (eqb-self (f .target))))
+listed-at (f ∷ es) (suc e) l =
+    let g = edge-at es e in
+    or-r (eqb (f .source) (g .source) && (eqb (f .letter) (g .letter) && eqb (f .target) (g .target)))
+    (listed-at es e (omega arith))
 
 pub listed-find :
     (i c j : ℕ) (es : List Edge) → listed i c j es ≡ true →
     (e : ℕ) × (e < length es) × (edge-at es e .source ≡ i) × (edge-at es e .letter ≡ c) × (edge-at es e .target ≡ j)
 unfolding listed edge-at
-listed-find i c j es h = ?
+listed-find i c j [] h = absurd (clash h refl)
+listed-find i c j (f ∷ es) h =
+    elim (or-true (eqb (f .source) i && (eqb (f .letter) c && eqb (f .target) j)) (listed i c j es) h) [
+      | inl e ↦
+          let after = and-r (eqb (f .source) i) e in (
+            0,
+            omega arith,
+            eqb-eq (f .source) i (and-l (eqb (f .letter) c && eqb (f .target) j) e),
+            eqb-eq (f .letter) c (and-l (eqb (f .target) j) after),
+            eqb-eq (f .target) j (and-r (eqb (f .letter) c) after),
+          )
+      | inr e ↦ let (d, l, x, y, z) = listed-find i c j es e in (suc d, (omega arith), x, y, z)
+    ]
 
 -- the two flags of a flags word
 flag-initial : (x y : Bool) → eqb ((cond x 1 0 + cond y 2 0) % 2) 1 ≡ x
@@ -49,6 +68,9 @@ below-only n q x y h none =
       | inr e ↦ let s = none (ltb-ge q n e) in cc
     ]
 
+not-before : (e d : ℕ) → (e < d → ⊥) → d ≤ e
+not-before e d h = elim (either (ltb e d)) [ inl p ↦ absurd (h (ltb-lt e d p)) | inr p ↦ ltb-ge e d p ]
+
 module _ (a : Automaton) (es : List Edge) where
   pub chained-initial : (i : ℕ) → i < a .states → is-initial (chained-words a es) i ≡ a .initial i
   unfolding is-initial flags-word
@@ -63,7 +85,38 @@ module _ (a : Automaton) (es : List Edge) where
       (f r c q : ℕ) → r < length es → chain-has f (chained-words a es) (suc r) c q ≡ true →
       listed (edge-at es r .source) c q es ≡ true
   unfolding chain-has
-  chain-listed f r c q l h = ?
+  chain-listed zero r c q l h = absurd (clash h refl)
+  chain-listed (suc f) r c q l h =
+      let t = chained-words a es in
+      let this = (eqb (letter-of t (suc r)) c && eqb (target-of t (suc r)) q) in
+      elim (or-true this (chain-has f t (next-of t (suc r)) c q) (and-r (not (eqb (suc r) 0)) h)) [
+        | inl e ↦
+            let x = eqb-eq (letter-of t (suc r)) c (and-l (eqb (target-of t (suc r)) q) e) in
+            let y = eqb-eq (target-of t (suc r)) q (and-r (eqb (letter-of t (suc r)) c) e) in
+            let there = listed-at es r l in
+            let x′ : edge-at es r .letter ≡ c = sym (chained-letter a es r l) ∙ x in
+            let y′ : edge-at es r .target ≡ q = sym (chained-target a es r l) ∙ y in rw (x′, y′) at there
+        | inr e ↦ later f r c q (chain-listed f (suc r) c q) (rw (chained-next a es r l) at e) (next-is es r)
+      ]
+    where
+      later :
+          (f r c q : ℕ) →
+          (suc r < length es → chain-has f (chained-words a es) (suc (suc r)) c q ≡ true →
+          listed (edge-at es (suc r) .source) c q es ≡ true) →
+          chain-has f (chained-words a es) (next-record es r) c q ≡ true → Next es r (next-record es r) →
+          listed (edge-at es r .source) c q es ≡ true
+      later f r c q on h (ends z stop) = absurd (clash (rw z at h) (chain-ends f (chained-words a es) c q))
+      later f r c q on h (goes-on z m same) = rw same at (on m (rw z at h))
+
+  -- the record behind one with the same source
+  goes-behind :
+      (d : ℕ) → suc d < length es → edge-at es (suc d) .source ≡ edge-at es d .source →
+      next-of (chained-words a es) (suc d) ≡ suc (suc d)
+  goes-behind d l same = chained-next a es d (omega arith) ∙ go (next-is es d)
+    where
+      go : Next es d (next-record es d) → next-record es d ≡ suc (suc d)
+      go (ends z stop) = absurd (stop l same)
+      go (goes-on z m h) = z
 
   -- edges d to e have one source, and the chain from the one has the other
   chain-reaches :
@@ -71,12 +124,55 @@ module _ (a : Automaton) (es : List Edge) where
       ((x : ℕ) → d ≤ x → x ≤ e → edge-at es x .source ≡ edge-at es e .source) →
       chain-has f (chained-words a es) (suc d) (edge-at es e .letter) (edge-at es e .target) ≡ true
   unfolding chain-has
-  chain-reaches f d e l m n same = ?
+  chain-reaches zero d e l m n same = absurd (omega arith)
+  chain-reaches (suc f) d e l m n same =
+      let t = chained-words a es in
+      let c = edge-at es e .letter in
+      let q = edge-at es e .target in
+      let this = (eqb (letter-of t (suc d)) c && eqb (target-of t (suc d)) q) in
+      and-make (not-false (ne-eqb (suc d) 0 (λ z. omega arith)))
+      (elim (either (eqb d e)) [
+        | inl h ↦
+            let at = eqb-eq d e h in
+            let x : letter-of t (suc d) ≡ c = rw at (chained-letter a es e m) in
+            let y : target-of t (suc d) ≡ q = rw at (chained-target a es e m) in
+            or-l (chain-has f t (next-of t (suc d)) c q) (and-make (eq-eqb x) (eq-eqb y))
+        | inr h ↦
+            let ne = eqb-ne d e h in
+            let behind = goes-behind d (omega arith) (same (suc d) (omega arith) (omega arith) ∙ sym (same d (omega arith) l)) in
+            or-r this
+            (rw behind (chain-reaches f (suc d) e (omega arith) m (omega arith) (λ x i. same x (omega arith))))
+      ])
 
   module _ (o : Orderly a es) where
+    chain-finds :
+        (d e c q : ℕ) → d ≤ e → e < length es → edge-at es d .source ≡ edge-at es e .source → edge-at es e .letter ≡ c →
+        edge-at es e .target ≡ q → chain-has (length es) (chained-words a es) (suc d) c q ≡ true
+    chain-finds d e c q l m same x y =
+        rw (x, y)
+        at
+        (chain-reaches (length es) d e l m (omega arith)
+        (λ k i j. let u = rising o d k i (omega arith) in let v = rising o k e j m in omega arith))
+
     pub chained-edge : (i c j : ℕ) → i < a .states → edge (chained-words a es) i c j ≡ listed i c j es
     unfolding edge
-    chained-edge i c j l = ?
+    chained-edge i c j l = rw (chained-m a es, chained-head a es i l) (go (first-is 1 i es))
+      where
+        go :
+            First 1 i es (first-record 1 i es) →
+            chain-has (length es) (chained-words a es) (first-record 1 i es) c j ≡ listed i c j es
+        go (absent z before) =
+            let out : listed i c j es ≡ false =
+            not-both (listed i c j es) (λ h. let w = listed-find i c j es h in before (w .0) (w .1) (w .2)) in
+            rw z (chain-ends (length es) (chained-words a es) c j ∙ sym out)
+        go (first-at d z m h before) =
+            let at : first-record 1 i es ≡ suc d = omega arith in
+            rw at
+            (same-truth (chain-has (length es) (chained-words a es) (suc d) c j) (listed i c j es)
+            (λ p. rw h at (chain-listed (length es) d c j m p))
+            (λ p.
+            let w = listed-find i c j es p in
+            chain-finds d (w .0) c j (not-before (w .0) d (λ k. before (w .0) k (w .2))) (w .1) (h ∙ sym (w .2)) (w .3) (w .4)))
 
     -- THE WORDS MEAN THE AUTOMATON
     pub chained-meaning : Lists a es → Same (meaning (chained-words a es)) a
@@ -94,5 +190,16 @@ module _ (a : Automaton) (es : List Edge) where
               rw (chained-n a es)
               (below-only (a .states) q (is-accepting (chained-words a es) q) (a .accepting q) (chained-accepting q)
               (h .accepting q));
-          edge = λ p c q. rw (chained-n a es) ?;
+          edge =
+              λ p c q.
+              rw (chained-n a es, h .edge p c q)
+              (same-truth ((ltb p (a .states) && ltb q (a .states)) && edge (chained-words a es) p c q) (listed p c q es)
+              (λ e.
+              let l = ltb-lt p (a .states) (and-l (ltb q (a .states)) (and-l (edge (chained-words a es) p c q) e)) in
+              sym (chained-edge p c q l) ∙ and-r (ltb p (a .states) && ltb q (a .states)) e)
+              (λ e.
+              let w = listed-find p c q es e in
+              let x : p < a .states = rw (w .2) at (o .source (w .0) (w .1)) in
+              let y : q < a .states = rw (w .4) at (o .target (w .0) (w .1)) in
+              and-make (and-make (lt-ltb x) (lt-ltb y)) (chained-edge p c q x ∙ e)));
         }

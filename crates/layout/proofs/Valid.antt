@@ -1,17 +1,16 @@
 -- The chained words of edges in the order of their sources pass refusals 2 to 9 of every range that has room for them. Assumes nothing.
-use mathlib.Core.Path.{_≡_, refl, sym, _∙_}
+use mathlib.Core.Path.{_≡_}
 use mathlib.Core.Bool.{Bool, true, false, cond}
 use mathlib.Core.List.{List}
 use mathlib.Core.Logic.{_⊎_, inl, inr}
-use Prim.Native.Nat.{ℕ, zero, suc, _+_, _*_, _≤_, _<_}
+use Prim.Native.Nat.{ℕ, zero, suc, _+_, _≤_, _<_}
 use native.Mathlib.Omega.{arith}
 use lib.Dec.{eqb}
 use lib.ListN.{length, getD}
-use Rattle.basics.specs.Bounded.{count}
 use Rattle.basics.proofs.Bounded.{count-same}
 use Rattle.automata.specs.Automaton.{Automaton}
-use Rattle.automata.specs.System.{Edge, edge-at}
-use Rattle.tables.specs.Table.{Limits, n-of, k-of, m-of, flags-of, head-of, letter-of, target-of, next-of, named, table-refusal}
+use Rattle.automata.specs.System.{Edge}
+use Rattle.tables.specs.Table.{Limits, head-of, letter-of, target-of, next-of, named, table-refusal}
 use Rattle.tables.proofs.Laws.{Valid, valid-passes, words-fit}
 use Rattle.layout.specs.Chained.{first-record, next-record, flags-word, chained-words}
 use Rattle.layout.specs.Orderly.{Orderly}
