@@ -1,3 +1,4 @@
+pub mod Array
 pub mod Bound
 pub mod Breakpoint
 pub mod Disjoint
@@ -16,3 +17,4 @@ pub mod Targets
 pub mod Traces
 pub mod Tracked
 pub mod Unique
+pub mod Walking

@@ -1,3 +1,4 @@
+pub mod Array
 pub mod Bound
 pub mod Moves
 pub mod Step

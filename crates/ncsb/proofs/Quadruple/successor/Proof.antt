@@ -1,0 +1,55 @@
+-- `Quadruple::successor` meets its contract. Assumes nothing.
+use mathlib.Core.Path.{_≡_, refl, sym, _∙_}
+use Prim.Native.Nat.{ℕ}
+use lib.Bits.{bitAnd, bitOr}
+use borrow.Author.Needs.{needs}
+use Rattle.basics.proofs.Booleans.{eq-eqb, ne-eqb}
+use Rattle.sets.specs.Sets.{without}
+use Rattle.ncsb.specs.Array.{chosen, nth-successor}
+use Rattle.ncsb.specs.Successors.{quadruple}
+use Rattle.ncsb.specs.declared.Asked.{Asked}
+use Rattle.ncsb.specs.declared.Quadruple.{Quadruple}
+use Rattle.ncsb.proofs.Quadruple.successor.Statement.{statement}
+use Rattle.ncsb.proofs.Quadruple.successor.Tie as tie
+
+-- the two ways of the breakpoint
+module _
+    (x : Quadruple)
+    (a : Asked)
+    (i part rest : ℕ)
+    (picked : part ≡ chosen (a .free) i)
+    (left : rest ≡ without (a .tracked) (bitOr (a .safe) part))
+  where
+    anew : x .B ≡ 0 → quadruple (a .outer) rest (bitOr (a .safe) part) rest ≡ nth-successor x a i
+    unfolding nth-successor
+    anew z = rw (eq-eqb z, left, picked)
+
+    followed :
+        (x .B ≡ 0 → ⊥) → quadruple (a .outer) rest (bitOr (a .safe) part) (bitAnd (a .followed) rest) ≡ nth-successor x a i
+    unfolding nth-successor
+    followed n = rw (ne-eqb (x .B) 0 n, left, picked)
+
+nth-subset-requires : tie.Need-nth-subset-requires
+nth-subset-requires c κs = search needs
+
+without-requires : tie.Need-without-requires
+without-requires c κs = search needs
+
+returns : tie.Need-returns
+unfolding quadruple chosen
+returns c =
+    let args = c .before .before .before .before .before .args in
+    anew (args .self) (args .asked) (args .choice) (c .before .before .before .before .nth-subset .result)
+    (c .before .before .without .result) (c .before .before .before .before .nth-subset .ensures)
+    (c .before .before .without .ensures) (c .if1 .taken)
+
+returns-2 : tie.Need-returns-2
+unfolding quadruple chosen
+returns-2 c =
+    let args = c .before .before .before .before .before .before .args in
+    followed (args .self) (args .asked) (args .choice) (c .before .before .before .before .before .nth-subset .result)
+    (c .before .before .before .without .result) (c .before .before .before .before .before .nth-subset .ensures)
+    (c .before .before .before .without .ensures) (c .before .if1 .left)
+
+pub successor-spec : {M : Type 1} → statement M
+successor-spec = tie.close (tie.spec nth-subset-requires without-requires returns returns-2)
