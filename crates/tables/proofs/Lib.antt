@@ -1,1 +1,5 @@
+pub mod Checks
 pub mod Laws
+pub mod Marking
+pub mod Refusals
+pub mod Scans

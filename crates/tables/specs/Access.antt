@@ -2,7 +2,7 @@
 use mathlib.Core.Path.{_≡_}
 use mathlib.Core.List.{List}
 use Prim.Native.Nat.{ℕ, _≤_, _<_}
-use Rattle.tables.specs.Table.{n-of}
+use Rattle.tables.specs.Table.{Limits, n-of}
 
 -- the answer is this word of the table, and it has 16 bits
 pub record Word (answer word : ℕ) : Type 0 where
@@ -15,3 +15,7 @@ pub record Record-asks (table : List ℕ) (states number : ℕ) : Type 0 where
   pub few : states < 65536
   pub from-one : 1 ≤ number
   pub small : number < 65536
+
+-- a range, from its two numbers
+abbrev pub limits : (states records : ℕ) → Limits
+limits n m = record { states = n; records = m }

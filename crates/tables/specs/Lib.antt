@@ -1,2 +1,4 @@
 pub mod Access
+pub mod Marks
+pub mod Sizes
 pub mod Table

@@ -1,0 +1,42 @@
+-- A loop that tests each number below a limit and leaves at the first that fails: it computes `each`. Assumes nothing.
+use mathlib.Core.Path.{_≡_, refl, sym}
+use mathlib.Core.Bool.{Bool, true, false}
+use Prim.Native.Nat.{ℕ, zero, suc, _+_, _≤_, _<_}
+use native.Mathlib.Omega.{arith}
+use borrow.Author.Count.{below-more}
+use lib.Dec.{leb, ltb}
+use Rattle.basics.specs.Bounded.{each}
+use Rattle.basics.proofs.Booleans.{clash, not-both, le-leb, gt-leb, lt-ltb, ge-ltb}
+use Rattle.basics.proofs.Bounded.{each-all, each-make}
+
+-- the test holds of every number passed
+pub record Scan (f : ℕ → Bool) (limit i : ℕ) : Type 0 where
+  pub upto : i ≤ limit
+  pub passed : (j : ℕ) → j < i → f j ≡ true
+
+pub scan-start : {f : ℕ → Bool} {limit : ℕ} → Scan f limit 0
+scan-start = record { upto = omega arith; passed = λ j l. absurd (omega arith) }
+
+pub scan-more : {f : ℕ → Bool} {limit i : ℕ} → Scan f limit i → i < limit → f i ≡ true → Scan f limit (i + 1)
+scan-more {f} {limit} {i} s l e =
+    record { upto = omega arith; passed = below-more (λ j. f j ≡ true) i (s .passed) e }
+
+pub scan-done : {f : ℕ → Bool} {limit i : ℕ} → Scan f limit i → limit ≤ i → true ≡ each limit f
+scan-done {f} {limit} s l = sym (each-make limit f (λ j m. s .passed j (omega arith)))
+
+pub scan-fails : (f : ℕ → Bool) (limit i : ℕ) → i < limit → f i ≡ false → false ≡ each limit f
+scan-fails f limit i l e = sym (not-both (each limit f) (λ h. clash (each-all limit f h i l) e))
+
+-- a test of what was read, as the test of the words themselves
+module _ {a b x y : ℕ} (p : a ≡ x) (q : b ≡ y) where
+  pub read-le : a ≤ b → leb x y ≡ true
+  read-le l = rw (← p, ← q) (le-leb l)
+
+  pub read-gt : b < a → leb x y ≡ false
+  read-gt l = rw (← p, ← q) (gt-leb l)
+
+  pub read-lt : a < b → ltb x y ≡ true
+  read-lt l = rw (← p, ← q) (lt-ltb l)
+
+  pub read-ge : b ≤ a → ltb x y ≡ false
+  read-ge l = rw (← p, ← q) (ge-ltb l)

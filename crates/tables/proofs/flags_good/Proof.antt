@@ -1,0 +1,60 @@
+-- `tables::flags_good` meets its contract: the loop tests the flags of one state after the other. Assumes nothing.
+use borrow.Author.Needs.{needs}
+use native.Mathlib.Omega.{arith}
+use Prim.Native.Nat.{ℕ, _-_}
+use mathlib.Core.Path.{refl}
+use denote.Ref.{now}
+use lib.Dec.{leb}
+use Rattle.tables.specs.Table.{n-of, flags-of, flags-good}
+use Rattle.tables.proofs.Scans.{Scan, scan-start, scan-more, scan-done, scan-fails, read-le, read-gt}
+use Rattle.tables.proofs.flags_good.Statement.{statement}
+use Rattle.tables.proofs.flags_good.Tie as tie
+
+abbrev Inv-loop : tie.InvT-loop
+Inv-loop table n q₀ q = Scan (λ p. leb (flags-of table p) 3) (n-of table) q
+
+abbrev μ-loop : tie.MeasureT-loop
+μ-loop table n q₀ q = n - q
+
+states-of-requires : tie.Need-states-of-requires Inv-loop μ-loop
+states-of-requires c κs = search needs
+
+loop-holds : tie.Need-loop-holds Inv-loop μ-loop
+loop-holds c = scan-start
+
+flags-of-requires : tie.Need-flags-of-requires Inv-loop μ-loop
+flags-of-requires c κs = omega arith
+
+returns : tie.Need-returns Inv-loop μ-loop
+unfolding flags-good
+returns c =
+    scan-fails (λ p. leb (flags-of (now (c .before .before .before .before .before .before .args .table)) p) 3) _ (c .before .before .before .loop .q)
+    (omega arith) (read-gt (c .before .flags-of .ensures .is) refl (c .if1 .taken))
+
+add-q : tie.Need-add-q Inv-loop μ-loop
+add-q c = omega arith
+
+loop-less : tie.Need-loop-less Inv-loop μ-loop
+loop-less c = omega arith
+
+loop-again : tie.Need-loop-again Inv-loop μ-loop
+loop-again c = scan-more (c .before .before .before .loop .inv) (omega arith) (read-le (c .before .flags-of .ensures .is) refl (c .if1 .left))
+
+returns-2 : tie.Need-returns-2 Inv-loop μ-loop
+unfolding flags-good
+returns-2 c = scan-done (c .before .loop .inv) (omega arith)
+
+pub flags-good-spec : {M : Type 1} → statement M
+flags-good-spec =
+    tie.close
+    (tie.spec
+    Inv-loop
+    μ-loop
+    states-of-requires
+    loop-holds
+    flags-of-requires
+    returns
+    add-q
+    loop-less
+    loop-again
+    returns-2)

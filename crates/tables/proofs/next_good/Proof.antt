@@ -1,0 +1,16 @@
+-- `tables::next_good` meets its contract: its three tests, in the definition's order. Assumes nothing.
+use Rattle.tables.proofs.Checks.{next-far, next-none, next-link}
+use Rattle.tables.proofs.next_good.Statement.{statement}
+use Rattle.tables.proofs.next_good.Tie as tie
+
+returns : tie.Need-returns
+returns c = next-far (c .before .args .number) (c .if1 .taken)
+
+returns-2 : tie.Need-returns-2
+returns-2 c = next-none (c .before .before .args .number) (c .before .if1 .left) (c .if2 .taken)
+
+returns-3 : tie.Need-returns-3
+returns-3 c = next-link (c .before .before .args .number) (c .before .if1 .left) (c .if2 .left)
+
+pub next-good-spec : {M : Type 1} → statement M
+next-good-spec = tie.close (tie.spec returns returns-2 returns-3)
