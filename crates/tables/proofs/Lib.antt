@@ -1,5 +1,7 @@
 pub mod Checks
+pub mod Counts
 pub mod Laws
 pub mod Marking
 pub mod Refusals
+pub mod Rows
 pub mod Scans

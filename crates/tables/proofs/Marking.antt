@@ -15,25 +15,10 @@ use Rattle.basics.proofs.Bounded.{each-all, each-same}
 use Rattle.tables.specs.Marks.{Mark, nothing, first, again, Marks-ask, Marked, Marks, all, twice}
 use Rattle.tables.specs.Table.{n-of, m-of, head-of, next-of, heads-good, nexts-good, named}
 use Rattle.tables.proofs.Checks.{next-good}
+use Rattle.tables.proofs.Counts.{count-hit}
 use Rattle.tables.proofs.Scans.{scan-fails}
 
--- counting further finds no fewer, and one more past a hit
-count-further : (f : ℕ → Bool) (i k : ℕ) → i ≤ k → count i f ≤ count k f
-unfolding count
-count-further f i zero l = let e : i ≡ 0 = omega arith in rw e (omega arith)
-count-further f i (suc k) l =
-    elim (either (eqb i (suc k))) [
-      | inl e ↦ rw (eqb-eq i (suc k) e) (omega arith)
-      | inr e ↦
-          let ne = eqb-ne i (suc k) e in
-          let h = count-further f i k (omega arith) in omega arith
-    ]
-
-count-hit : (f : ℕ → Bool) (i k : ℕ) → i < k → f i ≡ true → count i f < count k f
-unfolding count
-count-hit f i k l e =
-    let h : count i f + 1 ≤ count k f = rw e at (count-further f (suc i) k l) in omega arith
-
+-- no link yet
 pub marked-start :
     (link : ℕ → ℕ) (m : ℕ) (seen : List ℕ) → ((x : ℕ) → 1 ≤ x → x ≤ m → getD seen x 0 ≤ 1) → Marked link 0 m seen seen
 unfolding count
@@ -102,6 +87,7 @@ module _ {link : ℕ → ℕ} {i m a : ℕ} {before seen after : List ℕ} {b : 
       let more = count-hit (λ j. eqb (link j) (link i)) i k l (eq-eqb {m = link i} refl) in
       twice (link i) (g .0) inside (omega arith)
 
+-- all links
 pub marked-all :
     {link : ℕ → ℕ} {i k m : ℕ} {before after : List ℕ} → Marked link i m before after → i ≡ k → Marks link k m before after true
 marked-all s e = all (rw e at s)
@@ -142,18 +128,18 @@ module _ (t : List ℕ) where
         once = λ x o m. rw (zeros k x) (omega arith);
       }
 
-  module _ (k : ℕ) {heads : List ℕ} {b : Bool} (first : Marks (head-of t) (n-of t) (m-of t) (replicate k 0) heads b) where
+  module _ (k : ℕ) {heads : List ℕ} {b : Bool} (marks : Marks (head-of t) (n-of t) (m-of t) (replicate k 0) heads b) where
     pub heads-twice : not b ≡ true → false ≡ each (m-of t) (λ i. eqb (named t (suc i)) 1)
     unfolding named
     heads-twice h =
-        let (x, o, l, g) = marks-twice first h in
+        let (x, o, l, g) = marks-twice marks h in
         let clear = zeros k x in
         let n : 2 ≤ named t x = omega arith in named-twice t x o l n
 
     pub nexts-ask : not b ≡ false → 65536 ≤ k → nexts-good t ≡ true → Marks-ask (λ i. next-of t (suc i)) (m-of t) (m-of t) heads
     unfolding nexts-good
     nexts-ask h l g =
-        let s = marks-all first h in
+        let s = marks-all marks h in
         record {
           long = rw (s .kept, length-replicate {A = ℕ} k 0) l;
           inside =
@@ -163,13 +149,13 @@ module _ (t : List ℕ) where
           once = s .once;
         }
 
-    module _ {nexts : List ℕ} {c : Bool} (h : not b ≡ false) (second : Marks (λ i. next-of t (suc i)) (m-of t) (m-of t) heads nexts c) where
+    module _ {nexts : List ℕ} {c : Bool} (h : not b ≡ false) (marks′ : Marks (λ i. next-of t (suc i)) (m-of t) (m-of t) heads nexts c) where
       pub nexts-twice : not c ≡ true → false ≡ each (m-of t) (λ i. eqb (named t (suc i)) 1)
       unfolding named
       nexts-twice g =
-          let (x, o, l, w) = marks-twice second g in
+          let (x, o, l, w) = marks-twice marks′ g in
           let clear = zeros k x in
-          let a = marks-all first h .adds x o l in
+          let a = marks-all marks h .adds x o l in
           let n : 2 ≤ named t x = omega arith in named-twice t x o l n
 
       pub named-answer :
@@ -183,6 +169,6 @@ module _ (t : List ℕ) where
           (λ i l.
           let o : 1 ≤ suc i = omega arith in
           let clear = zeros k (suc i) in
-          let p = marks-all first h .adds (suc i) o l in
-          let q = marks-all second g .adds (suc i) o l in
+          let p = marks-all marks h .adds (suc i) o l in
+          let q = marks-all marks′ g .adds (suc i) o l in
           let same : getD nexts (suc i) 0 ≡ named t (suc i) = omega arith in rw same))

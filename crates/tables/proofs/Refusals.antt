@@ -22,7 +22,7 @@ by-parts false false false false true others = refl
 by-parts false false false false false others = refl
 
 module _ (r : Limits) (t : List ℕ) where
-  table-by-parts :
+  pub table-by-parts :
       table-refusal r t ≡
       cond (eqb (sizes-refusal r t) 0) (cond (not (flags-good t)) 7 (cond (not (records-good t)) 8 (cond (not (chains-good t)) 9 0))) (sizes-refusal r t)
   unfolding table-refusal sizes-refusal
