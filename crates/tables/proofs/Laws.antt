@@ -1,6 +1,6 @@
 -- Laws of chained tables: what refusals 2 to 9 leave is a valid table, and back; its words fit 16 bits; a pattern is a wide table; its meaning is
 -- closed; its chains rise, so that the fuel of a walk does not matter. Assumes nothing.
-use mathlib.Core.Path.{_≡_, refl, sym, _∙_, ap}
+use mathlib.Core.Path.{_≡_, refl, sym, _∙_}
 use mathlib.Core.Bool.{Bool, true, false, _&&_, _||_, not, cond}
 use mathlib.Core.List.{List}
 use mathlib.Core.Logic.{_⊎_, inl, inr}
@@ -8,10 +8,10 @@ use Prim.Native.Nat.{ℕ, zero, suc, _+_, _*_, _-_, _/_, _%_, _≤_, _<_}
 use native.Mathlib.Omega.{arith}
 use lib.Dec.{ltb, leb, eqb}
 use lib.ListN.{length, getD, List·getD-eq-default}
-use Rattle.basics.specs.Bounded.{each, count}
-use Rattle.basics.proofs.Booleans.{either, clash, and-l, and-r, and-make, or-l, or-r, or-true, not-true, not-false, true-not, false-not, eqb-eq, eq-eqb, eqb-ne, ne-eqb, ltb-lt, ltb-ge, lt-ltb, ge-ltb, leb-le, le-leb}
+use Rattle.basics.specs.Bounded.{each}
+use Rattle.basics.proofs.Booleans.{either, clash, and-l, and-r, and-make, or-l, or-r, or-true, true-not, false-not, eqb-eq, eq-eqb, eqb-ne, ne-eqb, ltb-lt, ltb-ge, lt-ltb, ge-ltb, leb-le, le-leb}
 use Rattle.basics.proofs.Bounded.{each-all, each-make}
-use Rattle.automata.specs.Automaton.{Automaton, Closed}
+use Rattle.automata.specs.Automaton.{Closed}
 use Rattle.tables.specs.Table.{Limits, pattern-range, wide-range, n-of, k-of, m-of, flags-of, head-of, record-at, letter-of, target-of, next-of, is-initial, chain-has, edge, meaning, flags-good, records-good, named, heads-good, nexts-good, chains-good, table-refusal}
 
 -- VALID TABLES: the plain facts behind refusals 2 to 9

@@ -1,7 +1,7 @@
 -- `tables::flags_good` meets its contract: the loop tests the flags of one state after the other. Assumes nothing.
 use borrow.Author.Needs.{needs}
 use native.Mathlib.Omega.{arith}
-use Prim.Native.Nat.{ℕ, _-_}
+use Prim.Native.Nat.{_-_}
 use mathlib.Core.Path.{refl}
 use denote.Ref.{now}
 use lib.Dec.{leb}
