@@ -18,17 +18,17 @@ use Rattle.patterns.specs.Reach.Reaches.{none, more}
 
 module _ (a : Automaton) where
   -- an edge leads from the set to the state
-  led : (s q : ℕ) → Bool
+  pub led : (s q : ℕ) → Bool
   led s q = any (a .states) (λ p. has s p && any (a .letters) (λ c. a .edge p c q))
 
-  led-make : Closed a → (s p c q : ℕ) → has s p ≡ true → a .edge p c q ≡ true → led s q ≡ true
+  pub led-make : Closed a → (s p c q : ℕ) → has s p ≡ true → a .edge p c q ≡ true → led s q ≡ true
   unfolding led
   led-make closed s p c q h e =
       let ends = closed .edge p c q e in
       any-make (a .states) (λ p. has s p && any (a .letters) (λ c. a .edge p c q)) p (ends .0)
       (and-make h (any-make (a .letters) (λ c. a .edge p c q) c (ends .1) e))
 
-  led-find : (s q : ℕ) → led s q ≡ true → (p : ℕ) × (has s p ≡ true) × ((c : ℕ) × (a .edge p c q ≡ true))
+  pub led-find : (s q : ℕ) → led s q ≡ true → (p : ℕ) × (has s p ≡ true) × ((c : ℕ) × (a .edge p c q ≡ true))
   unfolding led
   led-find s q h =
       let r = any-find (a .states) (λ p. has s p && any (a .letters) (λ c. a .edge p c q)) h in
@@ -40,7 +40,7 @@ module _ (a : Automaton) where
   unfolding grown led
   grown-lt s = set-of-lt (a .states) (λ q. has s q || led s q)
 
-  has-grown : (s q : ℕ) → has (grown a s) q ≡ (ltb q (a .states) && (has s q || led s q))
+  pub has-grown : (s q : ℕ) → has (grown a s) q ≡ (ltb q (a .states) && (has s q || led s q))
   unfolding grown led
   has-grown s q = has-set-of (a .states) (λ q. has s q || led s q) q
 

@@ -1,4 +1,9 @@
+pub mod Flags
+pub mod Forks
 pub mod Inner
+pub mod Masks
 pub mod Passed
+pub mod Rounds
+pub mod Shapes
 pub mod Split
 pub mod Walks

@@ -34,16 +34,16 @@ pub record Walked (t : List ℕ) (state : ℕ) (row : List ℕ) (at : ℕ) : Typ
 unfoldable pub left : (m at : ℕ) → ℕ
 left m at = cond (eqb at 0) 0 (suc m - at)
 
-or-assoc : (a b c : Bool) → ((a || b) || c) ≡ (a || (b || c))
+pub or-assoc : (a b c : Bool) → ((a || b) || c) ≡ (a || (b || c))
 or-assoc true b c = refl
 or-assoc false b c = refl
 
-or-none : (a : Bool) → (a || false) ≡ a
+pub or-none : (a : Bool) → (a || false) ≡ a
 or-none true = refl
 or-none false = refl
 
 -- empty sets in every place
-zeros-at : (k c : ℕ) → getD {A = ℕ} (replicate k 0) c 0 ≡ 0
+pub zeros-at : (k c : ℕ) → getD {A = ℕ} (replicate k 0) c 0 ≡ 0
 zeros-at k c =
     elim (either (ltb c k)) [
       | inl e ↦ getD-replicate k c 0 0 (ltb-lt c k e)
@@ -59,7 +59,7 @@ tabulate-length zero f = refl
 tabulate-length (suc k) f = ap suc (tabulate-length k (λ i. f (suc i)))
 
 -- the set of one state, as it is shifted
-shifted : (q : ℕ) → q < 32 → 1 * 2 ^ q % 2 ^ 32 ≡ 2 ^ q
+pub shifted : (q : ℕ) → q < 32 → 1 * 2 ^ q % 2 ^ 32 ≡ 2 ^ q
 shifted q l = rw (one-mul (2 ^ q)) (mod-eq-of-lt (pow-lt {i = q} {j = 32} l))
 
 module _ (t : List ℕ) (states s : ℕ) (asks : Row-asks t states s) where

@@ -2,3 +2,4 @@ pub mod Check
 pub mod Masks
 pub mod Pattern
 pub mod Reach
+pub mod Shape

@@ -2,9 +2,12 @@
 -- of 16 sets, and what is computed over them. Assumes nothing: these are definitions.
 use mathlib.Core.Path.{_≡_}
 use mathlib.Core.List.{List, []}
-use Prim.Native.Nat.{ℕ, _<_}
+use Prim.Native.Nat.{ℕ, zero, suc, _<_}
+use lib.Bits.{bitOr}
+use lib.ListN.{getD}
 use Rattle.automata.specs.Automaton.{Automaton}
 use Rattle.automata.specs.Decision.{tabulate}
+use Rattle.sets.specs.Sets.{union}
 use Rattle.tables.specs.Table.{pattern-range, table-refusal, n-of}
 use Rattle.patterns.specs.Pattern.{targets-of}
 
@@ -15,6 +18,15 @@ row-of a q = tabulate 16 (targets-of a q)
 -- the rows of 32 states; what is no state has no target
 unfoldable pub masks-of : Automaton → List (List ℕ)
 masks-of a = tabulate 32 (row-of a)
+
+-- a set, joined with its targets on each letter
+unfoldable pub joined : (letters : ℕ) → (masks : List (List ℕ)) → (set : ℕ) → ℕ
+joined zero m s = s
+joined (suc c) m s = bitOr (joined c m s) (union 32 s (λ q. getD (getD m q []) c 0))
+
+unfoldable pub joined-in : (rounds letters : ℕ) → (masks : List (List ℕ)) → (set : ℕ) → ℕ
+joined-in zero k m s = s
+joined-in (suc r) k m s = joined k m (joined-in r k m s)
 
 -- what the walk along a state's chain asks: a pattern, its state count, and one of its states
 pub record Row-asks (table : List ℕ) (states state : ℕ) : Type 0 where

@@ -1,17 +1,37 @@
 // The pattern check: refusals 2 to 10, and what the construction reads of a pattern, spread out by state and by letter.
+use sets::targets;
+use tables::flags_of;
 use tables::head_of;
 use tables::letter_of;
+use tables::letters_of;
 use tables::next_of;
+use tables::states_of;
 use tables::target_of;
 ghost use mathlib.Core.Path.{_≡_};
-ghost use Rattle.tables.specs.Table.{meaning};
-ghost use Rattle.patterns.specs.Masks.{row-of, Row-asks};
+ghost use mathlib.Core.Bool.{_&&_};
+ghost use Prim.Native.Nat.{_≤_, _<_};
+ghost use Rattle.sets.specs.Sets.{has};
+ghost use Rattle.tables.specs.Table.{pattern-range, table-refusal, meaning};
+ghost use Rattle.patterns.specs.Masks.{row-of, masks-of, joined, joined-in, Row-asks};
+ghost use Rattle.patterns.specs.Pattern.{initial-states, accepting-states};
+ghost use Rattle.patterns.specs.Shape.{shape-of, row-forked, forked, Shape-asks, Small-shape};
 
 // What the check answers: it passed, or the number of the refusal.
 pub enum Checked {
     Passed,
     Refused(u32),
 }
+
+// What the step reads of a pattern beside the table of target sets: I, F in Q2, and Q2, each as a set of states.
+pub struct Shape {
+    pub states: usize,
+    pub letters: usize,
+    pub starts: u32,
+    pub marks: u32,
+    pub inner: u32,
+}
+
+// THE TABLE BY STATE AND BY LETTER OF TARGET SETS
 
 // The targets of one state, by letter: one walk along its chain. A record that repeats an edge adds nothing.
 fn row_of(table: &[u16], states: usize, state: usize) -> [u32; 16]
@@ -26,4 +46,147 @@ fn row_of(table: &[u16], states: usize, state: usize) -> [u32; 16]
         at = next_of(table, states, at);
     }
     row
+}
+
+// The rows of all states. Each chain is walked once; every later test and step reads these sets alone.
+pub fn masks_of(table: &[u16]) -> [[u32; 16]; 32]
+    requires { ⌜ table-refusal pattern-range (now table) ≡ 0 ⌝ }
+    ensures { λ r. ⌜ r ≡ masks-of (meaning (now (table .entry))) ⌝ }
+{
+    let states = states_of(table);
+    let mut masks = [[0u32; 16]; 32];
+    let mut state = 0;
+    while state < states {
+        masks[state] = row_of(table, states, state);
+        state += 1;
+    }
+    masks
+}
+
+// THE SETS
+
+// I: the states whose flags are 1 or 3.
+pub fn initial_states(table: &[u16]) -> u32
+    requires { ⌜ table-refusal pattern-range (now table) ≡ 0 ⌝ }
+    ensures { λ r. ⌜ r ≡ initial-states (meaning (now (table .entry))) ⌝ }
+{
+    let states = states_of(table);
+    let mut set: u32 = 0;
+    let mut state = 0;
+    while state < states {
+        if flags_of(table, state) % 2 == 1 {
+            set = set | (1 << state);
+        }
+        state += 1;
+    }
+    set
+}
+
+// F: the states whose flags are 2 or 3.
+pub fn accepting_states(table: &[u16]) -> u32
+    requires { ⌜ table-refusal pattern-range (now table) ≡ 0 ⌝ }
+    ensures { λ r. ⌜ r ≡ accepting-states (meaning (now (table .entry))) ⌝ }
+{
+    let states = states_of(table);
+    let mut set: u32 = 0;
+    let mut state = 0;
+    while state < states {
+        if flags_of(table, state) >= 2 {
+            set = set | (1 << state);
+        }
+        state += 1;
+    }
+    set
+}
+
+// One round of the closure: the set joined with its targets on each letter.
+fn grown(masks: [[u32; 16]; 32], letters: usize, set: u32) -> u32
+    ensures { λ r. ⌜ r ≡ joined letters masks set ⌝ }
+{
+    let mut all = set;
+    let mut letter = 0;
+    while letter < letters {
+        all = all | targets(masks, letter, set);
+        letter += 1;
+    }
+    all
+}
+
+// All that a set reaches in so many rounds. Once a round adds nothing, no later one does.
+fn closure(masks: [[u32; 16]; 32], letters: usize, rounds: usize, set: u32) -> u32
+    ensures { λ r. ⌜ r ≡ joined-in rounds letters masks set ⌝ }
+{
+    let mut reached = set;
+    let mut round = 0;
+    while round < rounds {
+        let next = grown(masks, letters, reached);
+        if next == reached {
+            return reached;
+        }
+        reached = next;
+        round += 1;
+    }
+    reached
+}
+
+// All that the step reads beside the masks. Q2 is what the accepting states reach in n rounds.
+pub fn shape_of(table: &[u16], masks: [[u32; 16]; 32]) -> Shape
+    requires { ⌜ Shape-asks (now table) masks ⌝ }
+    ensures { λ r. ⌜ r ≡ shape-of (meaning (now (table .entry))) ⌝ }
+{
+    let states = states_of(table);
+    let letters = letters_of(table);
+    let accepting = accepting_states(table);
+    let inner = closure(masks, letters, states, accepting);
+    Shape {
+        states,
+        letters,
+        starts: initial_states(table),
+        marks: accepting & inner,
+        inner,
+    }
+}
+
+// SEMI-DETERMINISM
+
+// Some letter has two targets in a state's row.
+fn row_forks(row: [u32; 16], letters: usize) -> bool
+    requires { ⌜ letters ≤ 16 ⌝ }
+    ensures { λ r. ⌜ r ≡ row-forked letters row ⌝ }
+{
+    let mut letter = 0;
+    while letter < letters {
+        if u32::count_ones(row[letter]) > 1 {
+            return true;
+        }
+        letter += 1;
+    }
+    false
+}
+
+// A state with this row forks: it is in Q2, and some letter has two targets.
+fn state_forks(row: [u32; 16], shape: Shape, state: usize) -> bool
+    requires { ⌜ Small-shape shape × (state < 32) ⌝ }
+    ensures { λ r. ⌜ r ≡ (has (shape .inner) state && row-forked (shape .letters) row) ⌝ }
+{
+    if (shape.inner >> state) % 2 == 0 {
+        return false;
+    }
+    row_forks(row, shape.letters)
+}
+
+// Some state of Q2 has two targets on one letter: the pattern is not semi-deterministic.
+pub fn some_fork(masks: [[u32; 16]; 32], shape: Shape) -> bool
+    requires { ⌜ Small-shape shape ⌝ }
+    ensures { λ r. ⌜ r ≡ forked masks shape ⌝ }
+{
+    let states = shape.states;
+    let mut state = 0;
+    while state < states {
+        if state_forks(masks[state], shape, state) {
+            return true;
+        }
+        state += 1;
+    }
+    false
 }

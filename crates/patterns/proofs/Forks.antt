@@ -1,0 +1,168 @@
+-- The fork test over the masks: it is met exactly where the pattern is not semi-deterministic; and the loops that run it. Assumes nothing.
+use mathlib.Core.Path.{_≡_, refl, sym, _∙_, ap}
+use mathlib.Core.Bool.{Bool, true, false, _&&_, not, cond}
+use mathlib.Core.List.{List, []}
+use mathlib.Core.Logic.{_⊎_, inl, inr}
+use Prim.Native.Nat.{ℕ, zero, suc, _+_, _/_, _%_, _^_, _≤_, _<_}
+use native.Mathlib.Omega.{arith}
+use native.Mathlib.Numerals.{add-one}
+use lib.Dec.{ltb, eqb}
+use lib.Count.{ones}
+use lib.ListN.{getD}
+use Rattle.basics.specs.Bounded.{each, any}
+use Rattle.basics.specs.Buffers.{or-else}
+use Rattle.basics.proofs.Booleans.{either, clash, and-l, and-r, and-make, not-true, not-false, not-both, lt-ltb, ge-ltb}
+use Rattle.basics.proofs.Bounded.{each-all, each-make, any-make, any-find, any-no}
+use Rattle.automata.specs.Automaton.{Automaton}
+use Rattle.sets.specs.Sets.{has, size}
+use Rattle.sets.proofs.Size.{size-ones, size-past}
+use Rattle.tables.specs.Table.{pattern-range, table-refusal, meaning}
+use Rattle.patterns.specs.Check.{check-refusal}
+use Rattle.patterns.specs.Masks.{masks-of}
+use Rattle.patterns.specs.Pattern.{targets-of, inner-of, forks, semi-deterministic}
+use Rattle.patterns.specs.Shape.{shape-of, two-targets, row-forked, forked}
+use Rattle.patterns.specs.declared.Shape.{Shape}
+use Rattle.patterns.proofs.Masks.{Fits-masks, mask-right, targets-lt, pattern-fits}
+
+-- LOOPS that look for the first number of which a test holds: none below `i`
+pub record None-below (f : ℕ → Bool) (n i : ℕ) : Type 0 where
+  pub inside : i ≤ n
+  pub none : any i f ≡ false
+
+module _ (f : ℕ → Bool) (n : ℕ) where
+  pub none-start : None-below f n 0
+  unfolding any
+  none-start = record { inside = omega arith; none = refl }
+
+  pub none-turn : (i : ℕ) → i < n → f i ≡ false → None-below f n i → None-below f n (i + 1)
+  unfolding any
+  none-turn i l h w = let one = add-one i in let before = w .none in record { inside = omega arith; none = cc }
+
+  pub none-end : (i : ℕ) → n ≤ i → None-below f n i → any n f ≡ false
+  none-end i past w =
+      let l = w .inside in
+      let e : i ≡ n = omega arith in ap (λ (k : ℕ). any k f) (sym e) ∙ w .none
+
+-- the letters of one row: the count of a set's digits is its size
+module _ (row : List ℕ) (letters : ℕ) where
+  pub row-hit :
+      (letter : ℕ) → letter < letters → getD row letter 0 < 2 ^ 32 → 1 < ones (getD row letter 0) → row-forked letters row ≡ true
+  unfolding row-forked two-targets
+  row-hit letter l small h =
+      let e = size-ones 32 (getD row letter 0) small in
+      any-make letters (two-targets row) letter l (lt-ltb {m = 1} {n = size 32 (getD row letter 0)} (omega arith))
+
+  pub row-turn :
+      (letter : ℕ) → letter < letters → getD row letter 0 < 2 ^ 32 → ones (getD row letter 0) ≤ 1 →
+      None-below (two-targets row) letters letter → None-below (two-targets row) letters (letter + 1)
+  unfolding two-targets
+  row-turn letter l small h =
+      let e = size-ones 32 (getD row letter 0) small in
+      none-turn (two-targets row) letters letter l (ge-ltb {m = 1} {n = size 32 (getD row letter 0)} (omega arith))
+
+  pub row-end : (letter : ℕ) → letters ≤ letter → None-below (two-targets row) letters letter → row-forked letters row ≡ false
+  unfolding row-forked
+  row-end letter past w = none-end (two-targets row) letters letter past w
+
+-- a state that is not in Q2 does not fork, and one that is forks where its row does
+pub outer-even : (set state : ℕ) (b : Bool) → set / 2 ^ state % 2 ≡ 0 → (has set state && b) ≡ false
+unfolding has
+outer-even set state b h = rw h
+
+pub inner-row : (set state : ℕ) (b : Bool) → (set / 2 ^ state % 2 ≡ 0 → ⊥) → (has set state && b) ≡ b
+unfolding has
+inner-row set state b h = let e : set / 2 ^ state % 2 ≡ 1 = omega arith in rw e
+
+-- the states
+unfoldable pub state-forked : (masks : List (List ℕ)) → Shape → (state : ℕ) → Bool
+state-forked m s q = has (s .inner) q && row-forked (s .letters) (getD m q [])
+
+module _ (masks : List (List ℕ)) (shape : Shape) where
+  pub states-hit :
+      (state : ℕ) (b : Bool) → state < shape .states →
+      b ≡ (has (shape .inner) state && row-forked (shape .letters) (getD masks state [])) → b ≡ true →
+      forked masks shape ≡ true
+  unfolding forked
+  states-hit state b l e h =
+      any-make (shape .states) (λ q. has (shape .inner) q && row-forked (shape .letters) (getD masks q [])) state l (sym e ∙ h)
+
+  pub states-turn :
+      (state : ℕ) (b : Bool) → state < shape .states →
+      b ≡ (has (shape .inner) state && row-forked (shape .letters) (getD masks state [])) → b ≡ false →
+      None-below (state-forked masks shape) (shape .states) state →
+      None-below (state-forked masks shape) (shape .states) (state + 1)
+  unfolding state-forked
+  states-turn state b l e h = none-turn (state-forked masks shape) (shape .states) state l (sym e ∙ h)
+
+  pub states-end :
+      (state : ℕ) → shape .states ≤ state → None-below (state-forked masks shape) (shape .states) state →
+      forked masks shape ≡ false
+  unfolding forked state-forked
+  states-end state past w = none-end (state-forked masks shape) (shape .states) state past w
+
+-- THE TEST OVER THE MASKS IS THE TEST OVER THE EDGES
+module _ (a : Automaton) (f : Fits-masks a) where
+  mask-size : (q c : ℕ) → size 32 (getD (getD (masks-of a) q []) c 0) ≡ size (a .states) (targets-of a q c)
+  mask-size q c =
+      ap (size 32) (mask-right a f q c)
+      ∙ size-past (a .states) 32 (targets-of a q c) (targets-lt a q c) (f .states)
+
+  abbrev test : (q c : ℕ) → Bool
+  test q = two-targets (getD (masks-of a) q [])
+
+  test-forks : (q c : ℕ) → (has (inner-of a) q && test q c) ≡ forks a q c
+  unfolding forks two-targets
+  test-forks q c = ap (λ (n : ℕ). has (inner-of a) q && ltb 1 n) (mask-size q c)
+
+  row : (q : ℕ) → Bool
+  row q = has (inner-of a) q && any (a .letters) (test q)
+
+  row-fork : (q : ℕ) → row q ≡ true → (c : ℕ) × (c < a .letters) × (forks a q c ≡ true)
+  unfolding row
+  row-fork q h =
+      let y = any-find (a .letters) (test q) (and-r (has (inner-of a) q) h) in
+      let inner : has (inner-of a) q ≡ true = and-l (any (a .letters) (test q)) h in
+      (y .0, y .1, sym (test-forks q (y .0)) ∙ and-make inner (y .2))
+
+  fork-row : (q c : ℕ) → c < a .letters → forks a q c ≡ true → row q ≡ true
+  unfolding row
+  fork-row q c l h =
+      let both : (has (inner-of a) q && test q c) ≡ true = test-forks q c ∙ h in
+      let inner : has (inner-of a) q ≡ true = and-l (test q c) both in
+      and-make inner (any-make (a .letters) (test q) c l (and-r (has (inner-of a) q) both))
+
+  fork-found : any (a .states) row ≡ true → semi-deterministic a ≡ false
+  unfolding semi-deterministic
+  fork-found h =
+      let x = any-find (a .states) row h in
+      let y = row-fork (x .0) (x .2) in
+      not-both (each (a .states) (λ q. each (a .letters) (λ c. not (forks a q c))))
+      (λ e.
+      let even = each-all (a .states) (λ q. each (a .letters) (λ c. not (forks a q c))) e (x .0) (x .1) in
+      clash (each-all (a .letters) (λ c. not (forks a (x .0) c)) even (y .0) (y .1)) (not-true (y .2)))
+
+  fork-none : any (a .states) row ≡ false → semi-deterministic a ≡ true
+  unfolding semi-deterministic
+  fork-none h =
+      each-make (a .states) (λ q. each (a .letters) (λ c. not (forks a q c)))
+      (λ q l.
+      each-make (a .letters) (λ c. not (forks a q c))
+      (λ c m. not-false (not-both (forks a q c) (λ e. clash (fork-row q c m e) (any-no (a .states) row h q l)))))
+
+  -- a fork is found exactly if the automaton is not semi-deterministic
+  pub forked-right : forked (masks-of a) (shape-of a) ≡ not (semi-deterministic a)
+  unfolding forked row-forked shape-of row
+  forked-right =
+      elim (either (any (a .states) row)) [
+        | inl h ↦ let e = fork-found h in cc
+        | inr h ↦ let e = fork-none h in cc
+      ]
+
+-- refusals 2 to 9 passed: the check refuses by 10 exactly where a fork is found
+pub check-number :
+    (t : List ℕ) → table-refusal pattern-range t ≡ 0 →
+    check-refusal t ≡ cond (forked (masks-of (meaning t)) (shape-of (meaning t))) 10 0
+unfolding check-refusal or-else
+check-number t passed =
+    let right = forked-right (meaning t) (pattern-fits t passed) in
+    elim (either (semi-deterministic (meaning t))) [ inl e ↦ cc (passed, right, e) | inr e ↦ cc (passed, right, e) ]

@@ -1,0 +1,149 @@
+-- The table by state and by letter of target sets: each entry is the targets of that state on that letter; and the loop that fills it.
+-- Assumes nothing.
+use mathlib.Core.Path.{_≡_, refl, sym, _∙_, ap}
+use mathlib.Core.Bool.{Bool, true, false}
+use mathlib.Core.List.{List, []}
+use mathlib.Core.Logic.{_⊎_, inl, inr}
+use Prim.Native.Nat.{ℕ, zero, suc, _+_, _-_, _^_, _≤_, _<_}
+use native.Mathlib.Omega.{arith}
+use lib.Dec.{ltb, eqb}
+use lib.ListN.{length, getD, set, replicate, length-set, length-replicate, getD-replicate, List·getD-eq-default}
+use lib.Seq.{getD-set-same, getD-set-other, ext-getD}
+use Rattle.basics.proofs.Booleans.{either, clash, not-both, eqb-eq, eqb-ne, ltb-lt, ltb-ge}
+use Rattle.automata.specs.Automaton.{Automaton, Closed}
+use Rattle.automata.specs.Decision.{tabulate}
+use Rattle.automata.proofs.Graphs.{tabulate-at}
+use Rattle.sets.specs.Sets.{has}
+use Rattle.sets.proofs.Members.{empty, set-of-lt}
+use Rattle.tables.specs.Table.{pattern-range, table-refusal, n-of, k-of, meaning}
+use Rattle.tables.proofs.Laws.{Valid, valid, meaning-closed}
+use Rattle.patterns.specs.Pattern.{targets-of}
+use Rattle.patterns.specs.Masks.{row-of, masks-of, Row-asks}
+use Rattle.patterns.proofs.Split.{has-targets}
+use Rattle.patterns.proofs.Walks.{tabulate-length, zeros-at}
+
+-- an automaton that the table has room for
+pub record Fits-masks (a : Automaton) : Type 0 where
+  pub closed : Closed a
+  pub states : a .states ≤ 32
+  pub letters : a .letters ≤ 16
+
+module _ (a : Automaton) where
+  pub targets-lt : (p c : ℕ) → targets-of a p c < 2 ^ a .states
+  unfolding targets-of
+  targets-lt p c = set-of-lt (a .states) (a .edge p c)
+
+  -- what is no state, and a letter that the automaton lacks, have no target
+  targets-none : Closed a → (p c : ℕ) → ((p < a .states) × (c < a .letters) → ⊥) → targets-of a p c ≡ 0
+  targets-none closed p c out =
+      empty (a .states) (targets-of a p c) (targets-lt p c)
+      (λ q l.
+      has-targets a closed p c q
+      ∙ not-both (a .edge p c q) (λ e. let ends = closed .edge p c q e in out (ends .0, ends .1)))
+
+  row-none : Closed a → (p : ℕ) → a .states ≤ p → row-of a p ≡ replicate 16 0
+  unfolding row-of
+  row-none closed p past =
+      ext-getD 0 (tabulate 16 (targets-of a p)) (replicate 16 0)
+      (tabulate-length 16 (targets-of a p) ∙ sym (length-replicate {A = ℕ} 16 0))
+      (λ c l.
+      let long = tabulate-length 16 (targets-of a p) in
+      tabulate-at 16 (targets-of a p) c 0 (omega arith) ∙ targets-none closed p c (λ both. let x = both .0 in omega arith)
+      ∙ sym (zeros-at 16 c))
+
+  -- each entry of the table is the targets of that state on that letter; so is each place beyond it
+  pub mask-right : Fits-masks a → (p c : ℕ) → getD (getD (masks-of a) p []) c 0 ≡ targets-of a p c
+  unfolding masks-of row-of
+  mask-right f p c = go (either (ltb p 32)) (either (ltb c 16))
+    where
+      go :
+          (ltb p 32 ≡ true) ⊎ (ltb p 32 ≡ false) → (ltb c 16 ≡ true) ⊎ (ltb c 16 ≡ false) →
+          getD (getD (tabulate 32 (row-of a)) p []) c 0 ≡ targets-of a p c
+      go (inl x) (inl y) =
+          ap (λ (r : List ℕ). getD r c 0) (tabulate-at 32 (row-of a) p [] (ltb-lt p 32 x))
+          ∙ tabulate-at 16 (targets-of a p) c 0 (ltb-lt c 16 y)
+      go (inl x) (inr y) =
+          let far = ltb-ge c 16 y in
+          let long = tabulate-length 16 (targets-of a p) in
+          ap (λ (r : List ℕ). getD r c 0) (tabulate-at 32 (row-of a) p [] (ltb-lt p 32 x))
+          ∙ List·getD-eq-default (tabulate 16 (targets-of a p)) 0 (omega arith)
+          ∙ sym (targets-none (f .closed) p c (λ both. let l = both .1 in let m = f .letters in omega arith))
+      go (inr x) y =
+          let far = ltb-ge p 32 x in
+          let long = tabulate-length 32 (row-of a) in
+          ap (λ (r : List ℕ). getD r c 0) (List·getD-eq-default (tabulate 32 (row-of a)) [] (omega arith))
+          ∙ sym (targets-none (f .closed) p c (λ both. let l = both .0 in let m = f .states in omega arith))
+
+-- a pattern is one that the table has room for
+pub pattern-fits : (t : List ℕ) → table-refusal pattern-range t ≡ 0 → Fits-masks (meaning t)
+unfolding pattern-range meaning
+pattern-fits t h =
+    let v = valid pattern-range t h in
+    record { closed = meaning-closed v; states = v .states-to; letters = v .letters-to }
+
+-- FILLING THE TABLE: rows below `state` are filled, the others are empty
+pub record Filled (t : List ℕ) (masks : List (List ℕ)) (state : ℕ) : Type 0 where
+  pub whole : length masks ≡ 32
+  pub inside : state ≤ n-of t
+  pub done : (q : ℕ) → q < state → getD masks q [] ≡ row-of (meaning t) q
+  pub rest : (q : ℕ) → state ≤ q → q < 32 → getD masks q [] ≡ replicate 16 0
+
+module _ (t : List ℕ) (pattern : table-refusal pattern-range t ≡ 0) where
+  fits : Fits-masks (meaning t)
+  fits = pattern-fits t pattern
+
+  few : n-of t ≤ 32
+  unfolding meaning
+  few = fits .states
+
+  pub filled-start : Filled t (replicate 32 (replicate 16 0)) 0
+  filled-start =
+      record {
+        whole = length-replicate 32 (replicate {A = ℕ} 16 0);
+        inside = omega arith;
+        done = λ q l. absurd (omega arith);
+        rest = λ q _ l. getD-replicate 32 q (replicate 16 0) [] l;
+      }
+
+  -- what one turn asks
+  pub filled-asks :
+      (states state : ℕ) → states ≡ n-of t → state < states → Row-asks t states state
+  filled-asks states state e l = record { pattern = pattern; counted = e; inside = l }
+
+  pub filled-inside : (states state : ℕ) → states ≡ n-of t → state < states → state < 32
+  filled-inside states state e l = let n = few in omega arith
+
+  pub filled-turn :
+      (masks : List (List ℕ)) (states state : ℕ) (row : List ℕ) → states ≡ n-of t → state < states →
+      row ≡ row-of (meaning t) state → Filled t masks state → Filled t (set masks state row) (state + 1)
+  filled-turn masks states state row counted l e f =
+      record {
+        whole = length-set masks state row ∙ f .whole;
+        inside = omega arith;
+        done =
+            λ q m.
+            elim (either (eqb q state)) [
+              | inl same ↦
+                  rw (eqb-eq q state same)
+                  (getD-set-same masks state row [] (let a = f .whole in let n = few in omega arith) ∙ e)
+              | inr apart ↦
+                  let ne = eqb-ne q state apart in getD-set-other masks state q row [] ne ∙ f .done q (omega arith)
+            ];
+        rest = λ q m k. getD-set-other masks state q row [] (λ e. omega arith) ∙ f .rest q (omega arith) k;
+      }
+
+  pub filled-end :
+      (masks : List (List ℕ)) (states state : ℕ) → states ≡ n-of t → states ≤ state → Filled t masks state →
+      masks ≡ masks-of (meaning t)
+  unfolding masks-of meaning
+  filled-end masks states state counted past f =
+      ext-getD [] masks (tabulate 32 (row-of (meaning t))) (f .whole ∙ sym (tabulate-length 32 (row-of (meaning t))))
+      (λ q l.
+      let below : q < 32 = let a = f .whole in omega arith in
+      row-at q below (either (ltb q state)) ∙ sym (tabulate-at 32 (row-of (meaning t)) q [] below))
+    where
+      row-at : (q : ℕ) → q < 32 → (ltb q state ≡ true) ⊎ (ltb q state ≡ false) → getD masks q [] ≡ row-of (meaning t) q
+      row-at q below (inl x) = f .done q (ltb-lt q state x)
+      row-at q below (inr x) =
+          let m = ltb-ge q state x in
+          f .rest q m below ∙ sym (row-none (meaning t) (fits .closed) q (omega arith))

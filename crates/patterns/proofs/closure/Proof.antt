@@ -1,0 +1,52 @@
+-- `patterns::closure` meets its contract. The invariant: what is reached in `round` rounds. Assumes nothing.
+use mathlib.Core.Path.{_≡_}
+use Prim.Native.Nat.{_-_, _≤_}
+use native.Mathlib.Nat.{le-of-lt}
+use native.Mathlib.Omega.{arith}
+use Rattle.patterns.specs.Masks.{joined-in}
+use Rattle.patterns.proofs.Rounds.{rounds-start, round-turn, rounds-end, rounds-stop}
+use Rattle.patterns.proofs.closure.Statement.{statement}
+use Rattle.patterns.proofs.closure.Tie as tie
+
+abbrev Inv-loop : tie.InvT-loop
+Inv-loop masks letters rounds set reached₀ round₀ reached round = (round ≤ rounds) × (reached ≡ joined-in round letters masks set)
+
+abbrev μ-loop : tie.MeasureT-loop
+μ-loop masks letters rounds set reached₀ round₀ reached round = rounds - round
+
+loop-holds : tie.Need-loop-holds Inv-loop μ-loop
+loop-holds c = (omega arith, rounds-start _ _ _)
+
+grown-requires : tie.Need-grown-requires Inv-loop μ-loop
+grown-requires c κs = tt
+
+returns : tie.Need-returns Inv-loop μ-loop
+returns c =
+    rounds-stop _ _ _ _ _ _ _ (c .before .before .before .loop .inv .0) (c .before .before .before .loop .inv .1)
+    (c .before .grown .ensures) (c .if1 .taken)
+
+add-round : tie.Need-add-round Inv-loop μ-loop
+add-round c = omega arith
+
+loop-less : tie.Need-loop-less Inv-loop μ-loop
+loop-less c = omega arith
+
+loop-again : tie.Need-loop-again Inv-loop μ-loop
+loop-again c = (omega arith, round-turn _ _ _ _ _ _ (c .before .before .before .loop .inv .1) (c .before .grown .ensures))
+
+returns-2 : tie.Need-returns-2 Inv-loop μ-loop
+returns-2 c = rounds-end _ _ _ _ _ _ (c .before .loop .inv .0) (c .loop-test .left) (c .before .loop .inv .1)
+
+pub closure-spec : {M : Type 1} → statement M
+closure-spec =
+    tie.close
+    (tie.spec
+    Inv-loop
+    μ-loop
+    loop-holds
+    grown-requires
+    returns
+    add-round
+    loop-less
+    loop-again
+    returns-2)

@@ -1,0 +1,60 @@
+-- `patterns::some_fork` meets its contract. The invariant: no state below `state` forks. Assumes nothing.
+use mathlib.Core.Path.{sym}
+use Prim.Native.Nat.{_-_}
+use native.Mathlib.Omega.{arith}
+use Rattle.patterns.proofs.Forks.{None-below, state-forked, none-start, states-hit, states-turn, states-end}
+use Rattle.patterns.proofs.some_fork.Statement.{statement}
+use Rattle.patterns.proofs.some_fork.Tie as tie
+
+abbrev Inv-loop : tie.InvT-loop
+Inv-loop shape masks states state₀ state = None-below (state-forked masks shape) states state
+
+abbrev μ-loop : tie.MeasureT-loop
+μ-loop shape masks states state₀ state = states - state
+
+loop-holds : tie.Need-loop-holds Inv-loop μ-loop
+loop-holds c = none-start _ _
+
+mul-state-forks : tie.Need-mul-state-forks Inv-loop μ-loop
+mul-state-forks c = omega (arith, c .before .before .pre .states)
+
+array-copy-out-state-forks : tie.Need-array-copy-out-state-forks Inv-loop μ-loop
+array-copy-out-state-forks c = omega (arith, c .before .before .pre .states)
+
+state-forks-requires : tie.Need-state-forks-requires Inv-loop μ-loop
+state-forks-requires c κs = (c .before .before .before .pre, omega (arith, c .before .before .before .pre .states))
+
+returns : tie.Need-returns Inv-loop μ-loop
+returns c =
+    sym
+    (states-hit _ _ _ _ (c .before .before .before .loop-test .taken) (c .before .state-forks .ensures) (c .if1 .taken))
+
+add-state : tie.Need-add-state Inv-loop μ-loop
+add-state c = omega (arith, c .before .before .before .before .before .pre .states)
+
+loop-less : tie.Need-loop-less Inv-loop μ-loop
+loop-less c = omega (arith, c .before .before .before .loop-test .taken)
+
+loop-again : tie.Need-loop-again Inv-loop μ-loop
+loop-again c =
+    states-turn _ _ _ _ (c .before .before .before .loop-test .taken) (c .before .state-forks .ensures) (c .if1 .left)
+    (c .before .before .before .before .loop .inv)
+
+returns-2 : tie.Need-returns-2 Inv-loop μ-loop
+returns-2 c = sym (states-end _ _ _ (c .loop-test .left) (c .before .loop .inv))
+
+pub some-fork-spec : {M : Type 1} → statement M
+some-fork-spec =
+    tie.close
+    (tie.spec
+    Inv-loop
+    μ-loop
+    loop-holds
+    mul-state-forks
+    array-copy-out-state-forks
+    state-forks-requires
+    returns
+    add-state
+    loop-less
+    loop-again
+    returns-2)

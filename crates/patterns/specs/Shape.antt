@@ -1,0 +1,47 @@
+-- What the step reads of a pattern beside its masks, and the test for semi-determinism over both. Assumes nothing: these are definitions.
+use mathlib.Core.Path.{_≡_}
+use mathlib.Core.Bool.{Bool, _&&_}
+use mathlib.Core.List.{List, []}
+use Prim.Native.Nat.{ℕ, _≤_}
+use lib.Dec.{ltb}
+use lib.ListN.{getD}
+use Rattle.basics.specs.Bounded.{any}
+use Rattle.automata.specs.Automaton.{Automaton}
+use Rattle.sets.specs.Sets.{has, size}
+use Rattle.tables.specs.Table.{pattern-range, table-refusal, meaning}
+use Rattle.patterns.specs.Masks.{masks-of}
+use Rattle.patterns.specs.Pattern.{initial-states, inner-of, marks-of}
+use Rattle.patterns.specs.declared.Shape.{Shape}
+
+-- the state and letter counts, I, F in Q2, and Q2
+unfoldable pub shape-of : Automaton → Shape
+shape-of a =
+    record {
+      states = a .states;
+      letters = a .letters;
+      starts = initial-states a;
+      marks = marks-of a;
+      inner = inner-of a;
+    }
+
+-- a letter has two targets in a state's row
+unfoldable pub two-targets : (row : List ℕ) → (letter : ℕ) → Bool
+two-targets r c = ltb 1 (size 32 (getD r c 0))
+
+-- some letter has
+unfoldable pub row-forked : (letters : ℕ) → (row : List ℕ) → Bool
+row-forked k r = any k (two-targets r)
+
+-- some state of Q2 has two targets on one letter
+unfoldable pub forked : (masks : List (List ℕ)) → Shape → Bool
+forked m s = any (s .states) (λ q. has (s .inner) q && row-forked (s .letters) (getD m q []))
+
+-- what is read off a pattern: it is one, and the masks are its own
+pub record Shape-asks (table : List ℕ) (masks : List (List ℕ)) : Type 0 where
+  pub pattern : table-refusal pattern-range table ≡ 0
+  pub spread : masks ≡ masks-of (meaning table)
+
+-- no more states and letters than the masks have rows and columns
+pub record Small-shape (s : Shape) : Type 0 where
+  pub states : s .states ≤ 32
+  pub letters : s .letters ≤ 16
