@@ -1,3 +1,4 @@
+pub mod Answers
 pub mod Flags
 pub mod Forks
 pub mod Inner

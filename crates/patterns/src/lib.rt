@@ -6,12 +6,14 @@ use tables::letter_of;
 use tables::letters_of;
 use tables::next_of;
 use tables::states_of;
+use tables::table_refusal;
 use tables::target_of;
 ghost use mathlib.Core.Path.{_≡_};
 ghost use mathlib.Core.Bool.{_&&_};
 ghost use Prim.Native.Nat.{_≤_, _<_};
 ghost use Rattle.sets.specs.Sets.{has};
 ghost use Rattle.tables.specs.Table.{pattern-range, table-refusal, meaning};
+ghost use Rattle.patterns.specs.Check.{check-refusal, as-checked};
 ghost use Rattle.patterns.specs.Masks.{row-of, masks-of, joined, joined-in, Row-asks};
 ghost use Rattle.patterns.specs.Pattern.{initial-states, accepting-states};
 ghost use Rattle.patterns.specs.Shape.{shape-of, row-forked, forked, Shape-asks, Small-shape};
@@ -189,4 +191,32 @@ pub fn some_fork(masks: [[u32; 16]; 32], shape: Shape) -> bool
         state += 1;
     }
     false
+}
+
+// THE CHECK
+
+// The first of refusals 2 to 10 that the table meets, or zero. The masks are spread out once refusals 2 to 9 have passed.
+pub fn check_refusal(table: &[u16]) -> u32
+    ensures { λ r. ⌜ r ≡ check-refusal (now (table .entry)) ⌝ }
+{
+    let refusal = table_refusal(table, 32, 4096);
+    if refusal != 0 {
+        return refusal;
+    }
+    let masks = masks_of(table);
+    if some_fork(masks, shape_of(table, masks)) {
+        return 10;
+    }
+    0
+}
+
+// Whether the table is a pattern that can be complemented.
+pub fn check_pattern(table: &[u16]) -> Checked
+    ensures { λ r. ⌜ r ≡ as-checked (check-refusal (now (table .entry))) ⌝ }
+{
+    let refusal = check_refusal(table);
+    if refusal == 0 {
+        return Checked::Passed;
+    }
+    Checked::Refused(refusal)
 }
