@@ -11,6 +11,7 @@ use Rattle.tables.specs.Access.{limits}
 use Rattle.tables.specs.Table.{pattern-range, table-refusal, meaning}
 use Rattle.patterns.specs.Check.{check-refusal, as-checked}
 use Rattle.patterns.specs.Masks.{masks-of}
+use Rattle.patterns.specs.Pattern.{moves}
 use Rattle.patterns.specs.Shape.{shape-of, forked, Shape-asks, Small-shape}
 use Rattle.patterns.specs.declared.Checked.{Checked}
 use Rattle.patterns.specs.declared.Checked.the-variants.{Passed, Refused}
@@ -33,16 +34,16 @@ module _ (t : List ℕ) (number : ℕ) (told : number ≡ table-refusal (limits 
   unfolding pattern-range
   table-passed none = sym told ∙ none
 
-  pub asks-shape : number ≡ 0 → (masks : List (List ℕ)) → masks ≡ masks-of (meaning t) → Shape-asks t masks
+  pub asks-shape : number ≡ 0 → (masks : List (List ℕ)) → masks ≡ masks-of (moves (meaning t)) → Shape-asks t masks
   asks-shape none masks e = record { pattern = table-passed none; spread = e }
 
-  pub asks-small : number ≡ 0 → (shape : Shape) → shape ≡ shape-of (meaning t) → Small-shape shape
+  pub asks-small : number ≡ 0 → (shape : Shape) → shape ≡ shape-of (moves (meaning t)) → Small-shape shape
   asks-small none shape e = rw e (shape-small t (pattern-fits t (table-passed none)))
 
   -- then 10 is the answer exactly where a fork is found
   module _
-      (none : number ≡ 0) (masks : List (List ℕ)) (shape : Shape) (spread : masks ≡ masks-of (meaning t))
-      (shaped : shape ≡ shape-of (meaning t)) (found : Bool) (tested : found ≡ forked masks shape) where
+      (none : number ≡ 0) (masks : List (List ℕ)) (shape : Shape) (spread : masks ≡ masks-of (moves (meaning t)))
+      (shaped : shape ≡ shape-of (moves (meaning t))) (found : Bool) (tested : found ≡ forked masks shape) where
     pub fork-refused : found ≡ true → 10 ≡ check-refusal t
     fork-refused h = cc (check-number t (table-passed none))
 

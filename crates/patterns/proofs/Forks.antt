@@ -19,7 +19,7 @@ use Rattle.sets.proofs.Size.{size-ones, size-past}
 use Rattle.tables.specs.Table.{pattern-range, table-refusal, meaning}
 use Rattle.patterns.specs.Check.{check-refusal}
 use Rattle.patterns.specs.Masks.{masks-of}
-use Rattle.patterns.specs.Pattern.{targets-of, inner-of, forks, semi-deterministic}
+use Rattle.patterns.specs.Pattern.{targets-of, inner-of, forks, semi-deterministic, moves}
 use Rattle.patterns.specs.Shape.{shape-of, two-targets, row-forked, forked}
 use Rattle.patterns.specs.declared.Shape.{Shape}
 use Rattle.patterns.proofs.Masks.{Fits-masks, mask-right, targets-lt, pattern-fits}
@@ -102,13 +102,13 @@ module _ (masks : List (List ℕ)) (shape : Shape) where
 
 -- THE TEST OVER THE MASKS IS THE TEST OVER THE EDGES
 module _ (a : Automaton) (f : Fits-masks a) where
-  mask-size : (q c : ℕ) → size 32 (getD (getD (masks-of a) q []) c 0) ≡ size (a .states) (targets-of a q c)
+  mask-size : (q c : ℕ) → size 32 (getD (getD (masks-of (moves a)) q []) c 0) ≡ size (a .states) (targets-of a q c)
   mask-size q c =
       ap (size 32) (mask-right a f q c)
       ∙ size-past (a .states) 32 (targets-of a q c) (targets-lt a q c) (f .states)
 
   abbrev test : (q c : ℕ) → Bool
-  test q = two-targets (getD (masks-of a) q [])
+  test q = two-targets (getD (masks-of (moves a)) q [])
 
   test-forks : (q c : ℕ) → (has (inner-of a) q && test q c) ≡ forks a q c
   unfolding forks two-targets
@@ -150,8 +150,8 @@ module _ (a : Automaton) (f : Fits-masks a) where
       (λ c m. not-false (not-both (forks a q c) (λ e. clash (fork-row q c m e) (any-no (a .states) row h q l)))))
 
   -- a fork is found exactly if the automaton is not semi-deterministic
-  pub forked-right : forked (masks-of a) (shape-of a) ≡ not (semi-deterministic a)
-  unfolding forked row-forked shape-of row
+  pub forked-right : forked (masks-of (moves a)) (shape-of (moves a)) ≡ not (semi-deterministic a)
+  unfolding forked row-forked shape-of moves row
   forked-right =
       elim (either (any (a .states) row)) [
         | inl h ↦ let e = fork-found h in cc
@@ -161,7 +161,7 @@ module _ (a : Automaton) (f : Fits-masks a) where
 -- refusals 2 to 9 passed: the check refuses by 10 exactly where a fork is found
 pub check-number :
     (t : List ℕ) → table-refusal pattern-range t ≡ 0 →
-    check-refusal t ≡ cond (forked (masks-of (meaning t)) (shape-of (meaning t))) 10 0
+    check-refusal t ≡ cond (forked (masks-of (moves (meaning t))) (shape-of (moves (meaning t)))) 10 0
 unfolding check-refusal or-else
 check-number t passed =
     let right = forked-right (meaning t) (pattern-fits t passed) in

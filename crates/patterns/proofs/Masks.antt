@@ -17,7 +17,7 @@ use Rattle.sets.specs.Sets.{has}
 use Rattle.sets.proofs.Members.{empty, set-of-lt}
 use Rattle.tables.specs.Table.{pattern-range, table-refusal, n-of, k-of, meaning}
 use Rattle.tables.proofs.Laws.{Valid, valid, meaning-closed}
-use Rattle.patterns.specs.Pattern.{targets-of}
+use Rattle.patterns.specs.Pattern.{targets-of, moves}
 use Rattle.patterns.specs.Masks.{row-of, masks-of, Row-asks}
 use Rattle.patterns.proofs.Split.{has-targets}
 use Rattle.patterns.proofs.Walks.{tabulate-length, zeros-at}
@@ -41,8 +41,8 @@ module _ (a : Automaton) where
       has-targets a closed p c q
       ∙ not-both (a .edge p c q) (λ e. let ends = closed .edge p c q e in out (ends .0, ends .1)))
 
-  row-none : Closed a → (p : ℕ) → a .states ≤ p → row-of a p ≡ replicate 16 0
-  unfolding row-of
+  row-none : Closed a → (p : ℕ) → a .states ≤ p → row-of (moves a) p ≡ replicate 16 0
+  unfolding row-of moves
   row-none closed p past =
       ext-getD 0 (tabulate 16 (targets-of a p)) (replicate 16 0)
       (tabulate-length 16 (targets-of a p) ∙ sym (length-replicate {A = ℕ} 16 0))
@@ -52,26 +52,26 @@ module _ (a : Automaton) where
       ∙ sym (zeros-at 16 c))
 
   -- each entry of the table is the targets of that state on that letter; so is each place beyond it
-  pub mask-right : Fits-masks a → (p c : ℕ) → getD (getD (masks-of a) p []) c 0 ≡ targets-of a p c
-  unfolding masks-of row-of
+  pub mask-right : Fits-masks a → (p c : ℕ) → getD (getD (masks-of (moves a)) p []) c 0 ≡ targets-of a p c
+  unfolding masks-of row-of moves
   mask-right f p c = go (either (ltb p 32)) (either (ltb c 16))
     where
       go :
           (ltb p 32 ≡ true) ⊎ (ltb p 32 ≡ false) → (ltb c 16 ≡ true) ⊎ (ltb c 16 ≡ false) →
-          getD (getD (tabulate 32 (row-of a)) p []) c 0 ≡ targets-of a p c
+          getD (getD (tabulate 32 (row-of (moves a))) p []) c 0 ≡ targets-of a p c
       go (inl x) (inl y) =
-          ap (λ (r : List ℕ). getD r c 0) (tabulate-at 32 (row-of a) p [] (ltb-lt p 32 x))
+          ap (λ (r : List ℕ). getD r c 0) (tabulate-at 32 (row-of (moves a)) p [] (ltb-lt p 32 x))
           ∙ tabulate-at 16 (targets-of a p) c 0 (ltb-lt c 16 y)
       go (inl x) (inr y) =
           let far = ltb-ge c 16 y in
           let long = tabulate-length 16 (targets-of a p) in
-          ap (λ (r : List ℕ). getD r c 0) (tabulate-at 32 (row-of a) p [] (ltb-lt p 32 x))
+          ap (λ (r : List ℕ). getD r c 0) (tabulate-at 32 (row-of (moves a)) p [] (ltb-lt p 32 x))
           ∙ List·getD-eq-default (tabulate 16 (targets-of a p)) 0 (omega arith)
           ∙ sym (targets-none (f .closed) p c (λ both. let l = both .1 in let m = f .letters in omega arith))
       go (inr x) y =
           let far = ltb-ge p 32 x in
-          let long = tabulate-length 32 (row-of a) in
-          ap (λ (r : List ℕ). getD r c 0) (List·getD-eq-default (tabulate 32 (row-of a)) [] (omega arith))
+          let long = tabulate-length 32 (row-of (moves a)) in
+          ap (λ (r : List ℕ). getD r c 0) (List·getD-eq-default (tabulate 32 (row-of (moves a))) [] (omega arith))
           ∙ sym (targets-none (f .closed) p c (λ both. let l = both .0 in let m = f .states in omega arith))
 
 -- a pattern is one that the table has room for
@@ -85,7 +85,7 @@ pattern-fits t h =
 pub record Filled (t : List ℕ) (masks : List (List ℕ)) (state : ℕ) : Type 0 where
   pub whole : length masks ≡ 32
   pub inside : state ≤ n-of t
-  pub done : (q : ℕ) → q < state → getD masks q [] ≡ row-of (meaning t) q
+  pub done : (q : ℕ) → q < state → getD masks q [] ≡ row-of (moves (meaning t)) q
   pub rest : (q : ℕ) → state ≤ q → q < 32 → getD masks q [] ≡ replicate 16 0
 
 module _ (t : List ℕ) (pattern : table-refusal pattern-range t ≡ 0) where
@@ -115,7 +115,7 @@ module _ (t : List ℕ) (pattern : table-refusal pattern-range t ≡ 0) where
 
   pub filled-turn :
       (masks : List (List ℕ)) (states state : ℕ) (row : List ℕ) → states ≡ n-of t → state < states →
-      row ≡ row-of (meaning t) state → Filled t masks state → Filled t (set masks state row) (state + 1)
+      row ≡ row-of (moves (meaning t)) state → Filled t masks state → Filled t (set masks state row) (state + 1)
   filled-turn masks states state row counted l e f =
       record {
         whole = length-set masks state row ∙ f .whole;
@@ -134,15 +134,15 @@ module _ (t : List ℕ) (pattern : table-refusal pattern-range t ≡ 0) where
 
   pub filled-end :
       (masks : List (List ℕ)) (states state : ℕ) → states ≡ n-of t → states ≤ state → Filled t masks state →
-      masks ≡ masks-of (meaning t)
+      masks ≡ masks-of (moves (meaning t))
   unfolding masks-of meaning
   filled-end masks states state counted past f =
-      ext-getD [] masks (tabulate 32 (row-of (meaning t))) (f .whole ∙ sym (tabulate-length 32 (row-of (meaning t))))
+      ext-getD [] masks (tabulate 32 (row-of (moves (meaning t)))) (f .whole ∙ sym (tabulate-length 32 (row-of (moves (meaning t)))))
       (λ q l.
       let below : q < 32 = let a = f .whole in omega arith in
-      row-at q below (either (ltb q state)) ∙ sym (tabulate-at 32 (row-of (meaning t)) q [] below))
+      row-at q below (either (ltb q state)) ∙ sym (tabulate-at 32 (row-of (moves (meaning t))) q [] below))
     where
-      row-at : (q : ℕ) → q < 32 → (ltb q state ≡ true) ⊎ (ltb q state ≡ false) → getD masks q [] ≡ row-of (meaning t) q
+      row-at : (q : ℕ) → q < 32 → (ltb q state ≡ true) ⊎ (ltb q state ≡ false) → getD masks q [] ≡ row-of (moves (meaning t)) q
       row-at q below (inl x) = f .done q (ltb-lt q state x)
       row-at q below (inr x) =
           let m = ltb-ge q state x in

@@ -16,7 +16,7 @@ use Rattle.basics.proofs.Bounded.{any-make, any-find}
 use Rattle.automata.specs.Automaton.{Automaton, Closed}
 use Rattle.sets.specs.Sets.{has, union}
 use Rattle.sets.proofs.Members.{ext, has-or, has-union, has-lt, union-lt}
-use Rattle.patterns.specs.Pattern.{targets-of, accepting-states, grown, reached-in, inner-of}
+use Rattle.patterns.specs.Pattern.{targets-of, accepting-states, grown, reached-in, inner-of, moves}
 use Rattle.patterns.specs.Masks.{masks-of, joined, joined-in}
 use Rattle.patterns.proofs.Inner.{led, led-make, led-find, has-grown, grown-lt, reached-lt, accepting-lt}
 use Rattle.patterns.proofs.Masks.{Fits-masks, mask-right, targets-lt}
@@ -84,36 +84,36 @@ any-suc k f = refl
 module _ (a : Automaton) (f : Fits-masks a) where
   -- some state of the set has this target on the letter; on one of the letters
   abbrev entered-on : (letter set q : ℕ) → Bool
-  entered-on c s q = any 32 (λ p. has s p && has (getD (getD (masks-of a) p []) c 0) q)
+  entered-on c s q = any 32 (λ p. has s p && has (getD (getD (masks-of (moves a)) p []) c 0) q)
 
   entered : (letters set q : ℕ) → Bool
   entered k s q = any k (λ c. entered-on c s q)
 
-  has-joined : (k s q : ℕ) → has (joined k (masks-of a) s) q ≡ (has s q || entered k s q)
+  has-joined : (k s q : ℕ) → has (joined k (masks-of (moves a)) s) q ≡ (has s q || entered k s q)
   unfolding joined entered
   has-joined zero s q = sym (ap (λ (b : Bool). has s q || b) (any-zero (λ c. entered-on c s q)) ∙ or-none (has s q))
   has-joined (suc k) s q =
       let ih = has-joined k s q in
-      let j = has-or (joined k (masks-of a) s) (union 32 s (λ p. getD (getD (masks-of a) p []) k 0)) q in
-      let u = has-union 32 s (λ p. getD (getD (masks-of a) p []) k 0) q in
+      let j = has-or (joined k (masks-of (moves a)) s) (union 32 s (λ p. getD (getD (masks-of (moves a)) p []) k 0)) q in
+      let u = has-union 32 s (λ p. getD (getD (masks-of (moves a)) p []) k 0) q in
       let one = any-suc k (λ c. entered-on c s q) in
       let assoc = or-assoc (has s q) (entered k s q) (entered-on k s q) in cc
 
-  joined-lt : (k s : ℕ) → s < 2 ^ a .states → joined k (masks-of a) s < 2 ^ a .states
+  joined-lt : (k s : ℕ) → s < 2 ^ a .states → joined k (masks-of (moves a)) s < 2 ^ a .states
   unfolding joined
   joined-lt zero s l = l
   joined-lt (suc k) s l =
-      or-lt (a .states) (joined k (masks-of a) s) (union 32 s (λ p. getD (getD (masks-of a) p []) k 0)) (joined-lt k s l)
-      (union-lt (a .states) 32 s (λ p. getD (getD (masks-of a) p []) k 0) (λ p. rw (mask-right a f p k) (targets-lt a p k)))
+      or-lt (a .states) (joined k (masks-of (moves a)) s) (union 32 s (λ p. getD (getD (masks-of (moves a)) p []) k 0)) (joined-lt k s l)
+      (union-lt (a .states) 32 s (λ p. getD (getD (masks-of (moves a)) p []) k 0) (λ p. rw (mask-right a f p k) (targets-lt a p k)))
 
   -- a letter and a state of the set that has this target on it, and so an edge
   entered-led : (s q : ℕ) → entered (a .letters) s q ≡ true → led a s q ≡ true
   unfolding entered
   entered-led s q h =
       let x = any-find (a .letters) (λ c. entered-on c s q) h in
-      let y = any-find 32 (λ p. has s p && has (getD (getD (masks-of a) p []) (x .0) 0) q) (x .2) in
+      let y = any-find 32 (λ p. has s p && has (getD (getD (masks-of (moves a)) p []) (x .0) 0) q) (x .2) in
       led-make a (f .closed) s (y .0) (x .0) q
-      (and-l (has (getD (getD (masks-of a) (y .0) []) (x .0) 0) q) (y .2))
+      (and-l (has (getD (getD (masks-of (moves a)) (y .0) []) (x .0) 0) q) (y .2))
       (sym (has-targets a (f .closed) (y .0) (x .0) q) ∙ ap (λ (m : ℕ). has m q) (sym (mask-right a f (y .0) (x .0)))
       ∙ and-r (has s (y .0)) (y .2))
 
@@ -125,24 +125,24 @@ module _ (a : Automaton) (f : Fits-masks a) where
       let c = x .2 .0 in
       let ends = f .closed .edge p c q (x .2 .1) in
       any-make (a .letters) (λ c. entered-on c s q) c (ends .1)
-      (any-make 32 (λ p. has s p && has (getD (getD (masks-of a) p []) c 0) q) p (let n = f .states in let l = ends .0 in omega arith)
+      (any-make 32 (λ p. has s p && has (getD (getD (masks-of (moves a)) p []) c 0) q) p (let n = f .states in let l = ends .0 in omega arith)
       (and-make (x .1) (ap (λ (m : ℕ). has m q) (mask-right a f p c) ∙ has-targets a (f .closed) p c q ∙ x .2 .1)))
 
-  joined-grown : (s : ℕ) → s < 2 ^ a .states → joined (a .letters) (masks-of a) s ≡ grown a s
+  joined-grown : (s : ℕ) → s < 2 ^ a .states → joined (a .letters) (masks-of (moves a)) s ≡ grown a s
   joined-grown s l =
-      ext (a .states) (joined (a .letters) (masks-of a) s) (grown a s) (joined-lt (a .letters) s l) (grown-lt a s)
+      ext (a .states) (joined (a .letters) (masks-of (moves a)) s) (grown a s) (joined-lt (a .letters) s l) (grown-lt a s)
       (λ q m.
       let below : ltb q (a .states) ≡ true = lt-ltb m in
       let same = same-truth (entered (a .letters) s q) (led a s q) (entered-led s q) (led-entered s q) in
       cc (has-joined (a .letters) s q, has-grown a s q))
 
-  joined-reached : (r s : ℕ) → s < 2 ^ a .states → joined-in r (a .letters) (masks-of a) s ≡ reached-in a r s
+  joined-reached : (r s : ℕ) → s < 2 ^ a .states → joined-in r (a .letters) (masks-of (moves a)) s ≡ reached-in a r s
   unfolding joined-in reached-in
   joined-reached zero s l = refl
   joined-reached (suc r) s l =
-      ap (joined (a .letters) (masks-of a)) (joined-reached r s l) ∙ joined-grown (reached-in a r s) (reached-lt a r s l)
+      ap (joined (a .letters) (masks-of (moves a))) (joined-reached r s l) ∙ joined-grown (reached-in a r s) (reached-lt a r s l)
 
   -- n rounds over the masks give Q2
-  pub inner-rounds : joined-in (a .states) (a .letters) (masks-of a) (accepting-states a) ≡ inner-of a
+  pub inner-rounds : joined-in (a .states) (a .letters) (masks-of (moves a)) (accepting-states a) ≡ inner-of a
   unfolding inner-of
   inner-rounds = joined-reached (a .states) (accepting-states a) (accepting-lt a)

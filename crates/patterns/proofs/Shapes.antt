@@ -5,7 +5,7 @@ use Prim.Native.Nat.{ℕ}
 use lib.Bits.{bitAnd}
 use Rattle.tables.specs.Table.{n-of, k-of, meaning}
 use Rattle.patterns.specs.Masks.{masks-of, joined-in}
-use Rattle.patterns.specs.Pattern.{initial-states, accepting-states, inner-of, marks-of}
+use Rattle.patterns.specs.Pattern.{initial-states, accepting-states, inner-of, marks-of, moves}
 use Rattle.patterns.specs.Shape.{shape-of, Shape-asks, Small-shape}
 use Rattle.patterns.specs.declared.Shape.{Shape}
 use Rattle.patterns.proofs.Masks.{Fits-masks, pattern-fits}
@@ -17,8 +17,8 @@ module _ (t : List ℕ) (masks : List (List ℕ)) (asks : Shape-asks t masks) wh
       accepting ≡ accepting-states (meaning t) → inner ≡ joined-in states letters masks accepting →
       _≡_ {A = Shape}
       (record { states = states; letters = letters; starts = starts; marks = bitAnd accepting inner; inner = inner })
-      (shape-of (meaning t))
-  unfolding shape-of marks-of meaning
+      (shape-of (moves (meaning t)))
+  unfolding shape-of moves marks-of meaning
   shape-right states letters starts accepting inner es el ei ea en =
       let all = inner-rounds (meaning t) (pattern-fits t (asks .pattern)) in
       let own = asks .spread in
@@ -26,6 +26,6 @@ module _ (t : List ℕ) (masks : List (List ℕ)) (asks : Shape-asks t masks) wh
       rw (es, el, ei, ea, e)
 
 -- a pattern's shape is small
-pub shape-small : (t : List ℕ) → Fits-masks (meaning t) → Small-shape (shape-of (meaning t))
-unfolding shape-of
+pub shape-small : (t : List ℕ) → Fits-masks (meaning t) → Small-shape (shape-of (moves (meaning t)))
+unfolding shape-of moves
 shape-small t f = record { states = f .states; letters = f .letters }

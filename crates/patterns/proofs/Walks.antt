@@ -19,7 +19,7 @@ use Rattle.sets.proofs.Members.{has-zero, has-or, has-single, ext, set-of-lt}
 use Rattle.tables.specs.Access.{Record-asks}
 use Rattle.tables.specs.Table.{pattern-range, n-of, m-of, head-of, letter-of, target-of, next-of, chain-has, edge, meaning}
 use Rattle.tables.proofs.Laws.{Valid, valid, next-later, chain-ends, chain-step, meaning-closed}
-use Rattle.patterns.specs.Pattern.{targets-of}
+use Rattle.patterns.specs.Pattern.{targets-of, moves}
 use Rattle.patterns.specs.Masks.{row-of, Row-asks}
 use Rattle.patterns.proofs.Split.{has-targets}
 
@@ -175,8 +175,8 @@ module _ (t : List ℕ) (states s : ℕ) (asks : Row-asks t states s) where
       ]
 
   -- past the end of the chain the sets are the state's targets
-  pub walk-end : (row : List ℕ) (at : ℕ) → at ≡ 0 → Walked t s row at → row ≡ row-of (meaning t) s
-  unfolding row-of targets-of meaning
+  pub walk-end : (row : List ℕ) (at : ℕ) → at ≡ 0 → Walked t s row at → row ≡ row-of (moves (meaning t)) s
+  unfolding row-of moves targets-of meaning
   walk-end row at none w =
       ext-getD 0 row (tabulate 16 (targets-of (meaning t) s)) (w .whole ∙ sym (tabulate-length 16 (targets-of (meaning t) s)))
       (λ c l.

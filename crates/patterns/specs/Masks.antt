@@ -5,19 +5,18 @@ use mathlib.Core.List.{List, []}
 use Prim.Native.Nat.{ℕ, zero, suc, _<_}
 use lib.Bits.{bitOr}
 use lib.ListN.{getD}
-use Rattle.automata.specs.Automaton.{Automaton}
 use Rattle.automata.specs.Decision.{tabulate}
 use Rattle.sets.specs.Sets.{union}
 use Rattle.tables.specs.Table.{pattern-range, table-refusal, n-of}
-use Rattle.patterns.specs.Pattern.{targets-of}
+use Rattle.ncsb.specs.Moves.{Moves}
 
--- a state's targets for each of 16 letters; a letter that the automaton lacks has none
-unfoldable pub row-of : Automaton → (state : ℕ) → List ℕ
-row-of a q = tabulate 16 (targets-of a q)
+-- a state's targets for each of 16 letters; a letter that the pattern lacks has none
+unfoldable pub row-of : Moves → (state : ℕ) → List ℕ
+row-of d q = tabulate 16 (d .move q)
 
 -- the rows of 32 states; what is no state has no target
-unfoldable pub masks-of : Automaton → List (List ℕ)
-masks-of a = tabulate 32 (row-of a)
+unfoldable pub masks-of : Moves → List (List ℕ)
+masks-of d = tabulate 32 (row-of d)
 
 -- a set, joined with its targets on each letter
 unfoldable pub joined : (letters : ℕ) → (masks : List (List ℕ)) → (set : ℕ) → ℕ

@@ -6,23 +6,17 @@ use Prim.Native.Nat.{ℕ, _≤_}
 use lib.Dec.{ltb}
 use lib.ListN.{getD}
 use Rattle.basics.specs.Bounded.{any}
-use Rattle.automata.specs.Automaton.{Automaton}
 use Rattle.sets.specs.Sets.{has, size}
 use Rattle.tables.specs.Table.{pattern-range, table-refusal, meaning}
+use Rattle.ncsb.specs.Moves.{Moves}
 use Rattle.patterns.specs.Masks.{masks-of}
-use Rattle.patterns.specs.Pattern.{initial-states, inner-of, marks-of}
+use Rattle.patterns.specs.Pattern.{moves}
 use Rattle.patterns.specs.declared.Shape.{Shape}
 
 -- the state and letter counts, I, F in Q2, and Q2
-unfoldable pub shape-of : Automaton → Shape
-shape-of a =
-    record {
-      states = a .states;
-      letters = a .letters;
-      starts = initial-states a;
-      marks = marks-of a;
-      inner = inner-of a;
-    }
+unfoldable pub shape-of : Moves → Shape
+shape-of d =
+    record { states = d .states; letters = d .letters; starts = d .starts; marks = d .marks; inner = d .inner }
 
 -- a letter has two targets in a state's row
 unfoldable pub two-targets : (row : List ℕ) → (letter : ℕ) → Bool
@@ -39,7 +33,7 @@ forked m s = any (s .states) (λ q. has (s .inner) q && row-forked (s .letters) 
 -- what is read off a pattern: it is one, and the masks are its own
 pub record Shape-asks (table : List ℕ) (masks : List (List ℕ)) : Type 0 where
   pub pattern : table-refusal pattern-range table ≡ 0
-  pub spread : masks ≡ masks-of (meaning table)
+  pub spread : masks ≡ masks-of (moves (meaning table))
 
 -- no more states and letters than the masks have rows and columns
 pub record Small-shape (s : Shape) : Type 0 where

@@ -15,7 +15,7 @@ ghost use Rattle.sets.specs.Sets.{has};
 ghost use Rattle.tables.specs.Table.{pattern-range, table-refusal, meaning};
 ghost use Rattle.patterns.specs.Check.{check-refusal, as-checked};
 ghost use Rattle.patterns.specs.Masks.{row-of, masks-of, joined, joined-in, Row-asks};
-ghost use Rattle.patterns.specs.Pattern.{initial-states, accepting-states};
+ghost use Rattle.patterns.specs.Pattern.{initial-states, accepting-states, moves};
 ghost use Rattle.patterns.specs.Shape.{shape-of, row-forked, forked, Shape-asks, Small-shape};
 
 // What the check answers: it passed, or the number of the refusal.
@@ -38,7 +38,7 @@ pub struct Shape {
 // The targets of one state, by letter: one walk along its chain. A record that repeats an edge adds nothing.
 fn row_of(table: &[u16], states: usize, state: usize) -> [u32; 16]
     requires { ⌜ Row-asks (now table) states state ⌝ }
-    ensures { λ r. ⌜ r ≡ row-of (meaning (now (table .entry))) state ⌝ }
+    ensures { λ r. ⌜ r ≡ row-of (moves (meaning (now (table .entry)))) state ⌝ }
 {
     let mut row = [0u32; 16];
     let mut at = head_of(table, state);
@@ -53,7 +53,7 @@ fn row_of(table: &[u16], states: usize, state: usize) -> [u32; 16]
 // The rows of all states. Each chain is walked once; every later test and step reads these sets alone.
 pub fn masks_of(table: &[u16]) -> [[u32; 16]; 32]
     requires { ⌜ table-refusal pattern-range (now table) ≡ 0 ⌝ }
-    ensures { λ r. ⌜ r ≡ masks-of (meaning (now (table .entry))) ⌝ }
+    ensures { λ r. ⌜ r ≡ masks-of (moves (meaning (now (table .entry)))) ⌝ }
 {
     let states = states_of(table);
     let mut masks = [[0u32; 16]; 32];
@@ -134,7 +134,7 @@ fn closure(masks: [[u32; 16]; 32], letters: usize, rounds: usize, set: u32) -> u
 // All that the step reads beside the masks. Q2 is what the accepting states reach in n rounds.
 pub fn shape_of(table: &[u16], masks: [[u32; 16]; 32]) -> Shape
     requires { ⌜ Shape-asks (now table) masks ⌝ }
-    ensures { λ r. ⌜ r ≡ shape-of (meaning (now (table .entry))) ⌝ }
+    ensures { λ r. ⌜ r ≡ shape-of (moves (meaning (now (table .entry)))) ⌝ }
 {
     let states = states_of(table);
     let letters = letters_of(table);
