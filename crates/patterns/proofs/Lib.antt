@@ -5,6 +5,7 @@ pub mod Inner
 pub mod Masks
 pub mod Passed
 pub mod Rounds
+pub mod Rows
 pub mod Shapes
 pub mod Split
 pub mod Walks

@@ -74,6 +74,10 @@ module _ (a : Automaton) where
           ap (λ (r : List ℕ). getD r c 0) (List·getD-eq-default (tabulate 32 (row-of (moves a))) [] (omega arith))
           ∙ sym (targets-none (f .closed) p c (λ both. let l = both .0 in let m = f .states in omega arith))
 
+  pub mask-move : Fits-masks a → (p c : ℕ) → getD (getD (masks-of (moves a)) p []) c 0 ≡ moves a .move p c
+  unfolding moves
+  mask-move = mask-right
+
 -- a pattern is one that the table has room for
 pub pattern-fits : (t : List ℕ) → table-refusal pattern-range t ≡ 0 → Fits-masks (meaning t)
 unfolding pattern-range meaning

@@ -2,4 +2,5 @@ pub mod Check
 pub mod Masks
 pub mod Pattern
 pub mod Reach
+pub mod Rows
 pub mod Shape
