@@ -1,2 +1,4 @@
 pub mod Chained
 pub mod Orderly
+pub mod Steps
+pub mod Triples
