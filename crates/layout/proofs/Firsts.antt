@@ -2,9 +2,10 @@
 -- first of its source or behind the one before. Assumes nothing.
 use mathlib.Core.Path.{_≡_, refl, sym, _∙_}
 use mathlib.Core.Bool.{Bool, true, false, _&&_, cond}
-use mathlib.Core.List.{List, [], _∷_}
+use mathlib.Core.List.{List, [], _∷_, _++_}
 use mathlib.Core.Logic.{_⊎_, inl, inr}
 use Prim.Native.Nat.{ℕ, zero, suc, _+_, _≤_, _<_}
+use native.Mathlib.Nat.{add-zero}
 use native.Mathlib.Omega.{arith}
 use lib.Dec.{ltb, eqb}
 use lib.ListN.{length}
@@ -60,6 +61,21 @@ first-new es r l new = go (first-is 1 (edge-at es r .source) es)
                 | inr q ↦ let x = ltb-ge e r p in let y = ltb-ge r e q in omega arith
               ]
         ]
+
+-- one edge more: it is the first of its source if there was none before
+pub first-snoc :
+    (s i : ℕ) (es : List Edge) (f : Edge) →
+    first-record (suc s) i (es ++ (f ∷ [])) ≡
+    cond (eqb (first-record (suc s) i es) 0) (cond (eqb (f .source) i) (suc s + length es) 0) (first-record (suc s) i es)
+unfolding first-record
+first-snoc s i [] f = rw add-zero
+first-snoc s i (e ∷ es) f =
+    let after = first-snoc (suc s) i es f in
+    let count : suc s + suc (length es) ≡ suc (suc s) + length es = omega arith in
+    elim (either (eqb (e .source) i)) [
+      | inl q ↦ let z : eqb (suc s) 0 ≡ false = ne-eqb (suc s) 0 (λ z. omega arith) in rw (q, z)
+      | inr q ↦ rw (q, count) after
+    ]
 
 -- x is the number of the record behind record r + 1; or zero, and the edge behind edge r has another source or there is none
 pub data Next (es : List Edge) (r x : ℕ) : Type 0 where
