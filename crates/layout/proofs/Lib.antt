@@ -1,5 +1,6 @@
 pub mod Counting
 pub mod Firsts
+pub mod Laying
 pub mod Linking
 pub mod Meaning
 pub mod Shifting

@@ -129,7 +129,7 @@ module _ (n m r : ℕ) (w v : List ℕ) (ask : Link-asks w n m) (size : length v
   waits : (e : ℕ) → r ≤ e → getD v (5 + 2 * n + 3 * e) 0 ≡ getD w (5 + 2 * n + 3 * e) 0
   waits e i = h .others (5 + 2 * n + 3 * e) (λ q a b. omega arith) (λ d a b. omega arith)
 
-  pub link-asks-one : Link-one-asks v n m r
+  link-asks-one : Link-one-asks v n m r
   link-asks-one =
       let room = ask .room in
       let at = waits r (omega arith) in
@@ -204,7 +204,7 @@ module _ (n m r : ℕ) (w v : List ℕ) (ask : Link-asks w n m) (size : length v
             ∙ rw (moved-first w n r q) (stays (first-record 1 q (moved-edges w n r)) (suc r) e)
       ]
 
-  pub link-turn : Linked n m (suc r) w (linked-one n m r v)
+  link-turn : Linked n m (suc r) w (linked-one n m r v)
   link-turn =
       record {
         heads = turn-head;
@@ -219,14 +219,43 @@ module _ (n m r : ℕ) (w v : List ℕ) (ask : Link-asks w n m) (size : length v
             ];
         others =
             λ i a b.
-            turn-other i (a (getD v (5 + 2 * n + 3 * r) 0) (link-asks-one .source)) (b r (omega arith)) ∙ h .others i a (λ e c. b e (omega arith));
+            turn-other i (a (getD v (5 + 2 * n + 3 * r) 0) (link-asks-one .source)) (b r (omega arith))
+            ∙ h .others i a (λ e c. b e (omega arith));
       }
 
-pub link-start : (n m : ℕ) (w : List ℕ) → Link-asks w n m → Linked n m 0 w w
+-- while edges are linked: those below r have been
+pub record Linking (n m r : ℕ) (w v : List ℕ) : Type 0 where
+  pub done : r ≤ m
+  pub size : length v ≡ length w
+  pub linked : Linked n m r w v
+
+pub linking-start : {n m : ℕ} {w : List ℕ} → Link-asks w n m → Linking n m 0 w w
 unfolding moved-edges triples-of first-record
-link-start n m w ask =
+linking-start ask =
     record {
-      heads = ask .empty;
-      nexts = λ r l. absurd (omega arith);
-      others = λ i a b. refl;
+      done = omega arith;
+      size = refl;
+      linked =
+          record {
+            heads = ask .empty;
+            nexts = λ r l. absurd (omega arith);
+            others = λ i a b. refl;
+          };
     }
+
+pub linking-asks : {n m r : ℕ} {w v : List ℕ} → Link-asks w n m → Linking n m r w v → r < m → Link-one-asks v n m r
+linking-asks {n} {m} {r} {w} {v} ask h l = link-asks-one n m r w v ask (h .size) (h .linked) l
+
+pub linking-turn :
+    {n m r : ℕ} {w v u : List ℕ} → Link-asks w n m → Linking n m r w v → r < m → u ≡ linked-one n m r v →
+    Linking n m (r + 1) w u
+linking-turn {n} {m} {r} {w} {v} ask h l e =
+    rw e
+    (record {
+      done = omega arith;
+      size = link-one-length n m r v ∙ h .size;
+      linked = rw (add-one r) (link-turn n m r w v ask (h .size) (h .linked) l);
+    })
+
+pub linking-end : {n m r : ℕ} {w v : List ℕ} → Linking n m r w v → m ≤ r → Linked n m m w v
+linking-end {n} {m} {r} h l = let d = h .done in let all : r ≡ m = omega arith in rw all at (h .linked)

@@ -1,3 +1,12 @@
+-- `layout::link` meets its contract: a turn links one edge (Linking). Assumes nothing.
+use mathlib.Core.Path.{_≡_, refl, _∙_}
+use Prim.Native.Nat.{_≤_, _-_}
+use borrow.Author.Needs.{needs}
+use native.Mathlib.Omega.{arith}
+use denote.Ref.{now}
+use lib.ListN.{length}
+use Rattle.layout.specs.Steps.{Linked}
+use Rattle.layout.proofs.Linking.{Linking, linking-start, linking-turn, linking-asks, linking-end}
 use Rattle.layout.proofs.link.Statement.{statement}
 use Rattle.layout.proofs.link.Tie as tie
 use Rattle.layout.proofs.link.Reads as reads
@@ -5,38 +14,33 @@ use Rattle.layout.proofs.link.Lts as lts
 use Rattle.layout.proofs.link_one.Reads as link-one-reads
 
 abbrev Inv-loop : tie.InvT-loop
-Inv-loop words₀ states edges r₀ words r = ?
+Inv-loop words₀ states edges r₀ words r =
+    Linking states edges r words₀ words
 
 abbrev μ-loop : tie.MeasureT-loop
-μ-loop words₀ states edges r₀ words r = ?
+μ-loop words₀ states edges r₀ words r = edges - r
 
--- src/lib.rt:77:5
 loop-holds : tie.Need-loop-holds Inv-loop μ-loop
-loop-holds c = ?
+loop-holds c = linking-start (c .before .pre)
 
--- src/lib.rt:78:9
 link-one-requires : tie.Need-link-one-requires Inv-loop μ-loop
-link-one-requires c κs = ?
+link-one-requires c κs = linking-asks (c .before .before .before .before .pre) (c .before .before .loop .inv) (c .before .loop-test .taken)
 
--- src/lib.rt:79:9
 add-r : tie.Need-add-r Inv-loop μ-loop
-add-r c = ?
+add-r c = search needs
 
--- src/lib.rt:77:5
 loop-less : tie.Need-loop-less Inv-loop μ-loop
-loop-less c = ?
+loop-less c = search needs
 
--- src/lib.rt:77:5
 loop-again : tie.Need-loop-again Inv-loop μ-loop
-loop-again c = ?
+loop-again c =
+    let at = c .before .before .before .before .before in linking-turn (at .before .before .pre) (at .loop .inv) (c .before .before .before .before .loop-test .taken) (c .before .before .link-one .ensures)
 
--- src/lib.rt:72:1
 same-length : tie.Need-same-length Inv-loop μ-loop
-same-length c = ?
+same-length c = c .before .loop .inv .size
 
--- src/lib.rt:72:1
 returns : tie.Need-returns Inv-loop μ-loop
-returns c = ?
+returns c = linking-end (c .before .loop .inv) (c .loop-test .left)
 
 pub link-spec : {M : Type 1} → statement M
 link-spec =

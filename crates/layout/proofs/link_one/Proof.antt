@@ -1,4 +1,5 @@
 -- `layout::link_one` meets its contract (Linking). Assumes nothing.
+use mathlib.Core.Path.{_∙_}
 use denote.Ref.{now}
 use native.Mathlib.Omega.{arith}
 use lib.ListN.{length-set}
@@ -36,7 +37,10 @@ next-number-requires : tie.Need-next-number-requires
 next-number-requires c κs = search needs
 
 cast-words : tie.Need-cast-words
-cast-words c = ?cast
+cast-words c =
+    let start = c .before .before .before .before in
+    let small = behind-small (start .args .states) (start .args .edges) (start .args .r) (now (start .args .words)) in
+    let is = c .next-number .ensures in record { fits = omega arith }
 
 mul-words : tie.Need-mul-words
 mul-words c = search needs
@@ -57,10 +61,16 @@ set-head-requires : tie.Need-set-head-requires
 set-head-requires c κs = simp length-set (omega arith)
 
 same-length : tie.Need-same-length
-same-length c = ?same
+same-length c = c .before .before .set-head .kept .0 ∙ simp length-set
 
 returns : tie.Need-returns
-returns c = ?ret
+returns c =
+    let start = c .before .before .before .before .before .before .before .before in
+    link-one-is (start .args .states) (start .args .edges) (start .args .r) (now (start .args .words))
+    (c .before .before .before .before .next-number .result)
+    (c .before .before .set-head .last .0)
+    (c .before .before .before .before .next-number .ensures)
+    (c .before .before .set-head .ensures)
 
 pub link-one-spec : {M : Type 1} → statement M
 link-one-spec =
