@@ -1,5 +1,7 @@
 pub mod Counting
+pub mod Filled
 pub mod Firsts
+pub mod Indexed
 pub mod Laying
 pub mod Linking
 pub mod Meaning

@@ -48,7 +48,7 @@ module _ (a : Automaton) (es : List Edge) where
   chained-m = refl
 
   -- word j of state i, and of record r
-  state-word :
+  pub state-word :
       (i j : ℕ) → i < a .states → j < 2 → getD (chained-words a es) (3 + (2 * i + j)) 0 ≡ getD (state-row a es i) j 0
   unfolding chained-words
   state-word i j l m =
@@ -59,7 +59,7 @@ module _ (a : Automaton) (es : List Edge) where
       ∙ List·getD-append heads links 0 (2 * i + j) (omega arith)
       ∙ rows-at 2 (a .states) (state-row a es) states-width i j l m
 
-  record-word :
+  pub record-word :
       (r j : ℕ) → r < length es → j < 3 →
       getD (chained-words a es) (3 + (2 * a .states + (3 * r + j))) 0 ≡ getD (record-row es r) j 0
   unfolding chained-words
