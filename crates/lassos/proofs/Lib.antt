@@ -1,4 +1,7 @@
+pub mod Chains
+pub mod Follows
 pub mod Inner
 pub mod Outer
+pub mod Places
 pub mod Product
 pub mod Stores

@@ -2,3 +2,4 @@ pub mod Graph
 pub mod Product
 pub mod Refusals
 pub mod Search
+pub mod Steps

@@ -14,12 +14,12 @@ pub data Chain-to (t : List ℕ) (letter base target : ℕ) : (number : ℕ) →
   here : {r : ℕ} → 1 ≤ r → letter-of t r ≡ letter → base + target-of t r ≡ target → Chain-to t letter base target r
   later : {r : ℕ} → 1 ≤ r → Chain-to t letter base target (next-of t r) → Chain-to t letter base target r
 
--- the letter that a node's edges are on, and the first node of the position that they lead to
-unfoldable pub node-letter : (t u v : List ℕ) → (node : ℕ) → ℕ
-node-letter t u v x = position-letter u v (x / n-of t)
+-- of a node, among n states: the letter that its edges are on, and the first node of the position that they lead to
+unfoldable pub node-letter : (n : ℕ) → (u v : List ℕ) → (node : ℕ) → ℕ
+node-letter n u v x = position-letter u v (x / n)
 
-unfoldable pub node-base : (t u v : List ℕ) → (node : ℕ) → ℕ
-node-base t u v x = next-position u v (x / n-of t) * n-of t
+unfoldable pub node-base : (n : ℕ) → (u v : List ℕ) → (node : ℕ) → ℕ
+node-base n u v x = next-position u v (x / n) * n
 
 unfoldable pub product : (t u v : List ℕ) → Graph
 product t u v =
@@ -29,5 +29,5 @@ product t u v =
       starts = λ x. ltb x (n-of t) && is-initial t x;
       accepts = λ x. is-accepting t (x % n-of t);
       first = λ x. head-of t (x % n-of t);
-      Ahead = λ x r y. Chain-to t (node-letter t u v x) (node-base t u v x) y r;
+      Ahead = λ x r y. Chain-to t (node-letter (n-of t) u v x) (node-base (n-of t) u v x) y r;
     }

@@ -1,0 +1,160 @@
+-- Laws of walks along the chains of a valid table: they end, their targets are nodes, and what the outer search passes by.
+-- Assumes nothing.
+use mathlib.Core.Path.{_≡_, refl, sym, _∙_, ap}
+use mathlib.Core.Bool.{Bool, true, false, _&&_}
+use mathlib.Core.List.{List}
+use mathlib.Core.Logic.{_⊎_, inl, inr}
+use Prim.Native.Nat.{ℕ, zero, suc, _+_, _*_, _-_, _≤_, _<_}
+use native.Mathlib.Omega.{arith}
+use lib.Dec.{eqb}
+use lib.ListN.{length, getD}
+use Rattle.basics.proofs.Booleans.{and-l, and-r, and-false, and-false-l, eqb-eq, eq-eqb, eqb-ne, ne-eqb}
+use Rattle.tables.specs.Access.{Record-asks}
+use Rattle.tables.specs.Table.{n-of, m-of, letter-of, target-of, next-of, wide-range, table-refusal}
+use Rattle.tables.proofs.Laws.{Valid, valid}
+use Rattle.lassos.specs.Product.{Chain-to, here, later}
+use Rattle.lassos.specs.Search.{colour}
+use Rattle.lassos.specs.Steps.{Chain-asks, Edge-asks, white-edge, Next-white, no-white, white-at}
+use Rattle.lassos.proofs.Product.{chain-zero, chain-parts, chain-edge}
+
+-- how many records can follow at most, this one among them
+pub left : (records number : ℕ) → ℕ
+left m zero = 0
+left m (suc r) = m - r
+
+pub left-less : (m r next : ℕ) → (r ≡ 0 → ⊥) → r ≤ m → (next ≡ 0) ⊎ (r < next) → left m next < left m r
+unfolding left
+left-less m zero next ne l f = absurd (ne refl)
+left-less m (suc r) zero ne l f = omega arith
+left-less m (suc r) (suc k) ne l (inl e) = absurd (omega arith)
+left-less m (suc r) (suc k) ne l (inr b) = omega arith
+
+module _ {t : List ℕ} {states nodes base r : ℕ} (a : Chain-asks t states nodes base r) where
+  pub sound : Valid wide-range t
+  sound = valid wide-range t (a .valid)
+
+  pub states-few : states < 65536
+  unfolding wide-range
+  states-few = let k = sound .states-to in let e = a .counted in omega arith
+
+  pub records-few : m-of t < 65536
+  unfolding wide-range
+  records-few = let k = sound .records-to in omega arith
+
+  pub reads-record : 1 ≤ r → Record-asks t states r
+  reads-record o =
+      record {
+        counted = a .counted;
+        few = states-few;
+        from-one = o;
+        small = let k = records-few in let j = a .number-to in omega arith;
+      }
+
+  -- a record's target is a node
+  pub target-inside : 1 ≤ r → base + target-of t r < nodes
+  target-inside o = let k = sound .target r o (a .number-to) in let f = a .fits in omega arith
+
+  -- so is whatever the chain leads to
+  pub chain-inside : (c y : ℕ) → Chain-to t c base y r → y < nodes
+  chain-inside c y h =
+      let w = chain-edge sound h (a .number-to) in
+      let k = w .1 in let e = w .2 in let f = a .fits in omega arith
+
+  pub next-asks : 1 ≤ r → (next : ℕ) → next ≡ next-of t r → Chain-asks t states nodes base next
+  next-asks o next e =
+      record {
+        valid = a .valid;
+        counted = a .counted;
+        number-to = let k = sound .next r o (a .number-to) in omega arith;
+        fits = a .fits;
+        small = a .small;
+      }
+
+  pub next-less : (r ≡ 0 → ⊥) → (next : ℕ) → next ≡ next-of t r → left (m-of t) next < left (m-of t) r
+  next-less ne next e =
+      left-less (m-of t) r next ne (a .number-to) (rw e (sound .rises r (omega arith) (a .number-to)))
+
+-- THE OUTER SEARCH along a chain: what was passed by leads to visited nodes
+pub record Walked (t w : List ℕ) (states letter base first r : ℕ) : Type 0 where
+  pub asks : Chain-asks t states (length w) base r
+  pub within : (y : ℕ) → Chain-to t letter base y r → Chain-to t letter base y first
+  pub passed : (y : ℕ) → Chain-to t letter base y first → (1 ≤ colour w y) ⊎ Chain-to t letter base y r
+
+pub walked-start :
+    (t w : List ℕ) (states letter base first : ℕ) → Chain-asks t states (length w) base first →
+    Walked t w states letter base first first
+walked-start t w states letter base first a = record { asks = a; within = λ y h. h; passed = λ y h. inr h }
+
+module _ {t w : List ℕ} {states letter base first r : ℕ} (h : Walked t w states letter base first r) where
+  pub walked-edge : (r ≡ 0 → ⊥) → Edge-asks t states (length w) base r
+  walked-edge ne = record { chain = h .asks; from-one = omega arith }
+
+  pub walked-record : (r ≡ 0 → ⊥) → Record-asks t states r
+  walked-record ne = reads-record (h .asks) (omega arith)
+
+  -- a record on another letter, or to a visited node
+  pub walked-turn :
+      {b : Bool} → (r ≡ 0 → ⊥) → b ≡ white-edge t w letter base r → b ≡ false → (next : ℕ) → next ≡ next-of t r →
+      Walked t w states letter base first next
+  unfolding white-edge
+  walked-turn ne is f next n =
+      let e = sym is ∙ f in
+      record {
+        asks = next-asks (h .asks) (omega arith) next n;
+        within = λ y k. h .within y (later (omega arith) (rw n at k));
+        passed =
+            λ y k.
+            elim (h .passed y k) [
+              | inl v ↦ inl v
+              | inr v ↦
+                  elim (chain-parts v) [
+                    | inl p ↦
+                        elim (and-false (eqb (letter-of t r) letter) (eqb (colour w (base + target-of t r)) 0) e) [
+                          | inl q ↦ absurd (eqb-ne (letter-of t r) letter q (p .0))
+                          | inr q ↦
+                              let nz = eqb-ne (colour w (base + target-of t r)) 0 q in
+                              let s = p .1 in
+                              let nz′ : (colour w y ≡ 0 → ⊥) = rw s at nz in inl (omega arith)
+                        ]
+                    | inr p ↦ inr (rw n p)
+                  ]
+            ];
+      }
+
+  pub walked-found :
+      {b : Bool} → (r ≡ 0 → ⊥) → b ≡ white-edge t w letter base r → b ≡ true → Next-white t w letter base first r
+  unfolding white-edge
+  walked-found ne is f =
+      let e = sym is ∙ f in
+      let o : 1 ≤ r = omega arith in
+      let p = eqb-eq (letter-of t r) letter (and-l (eqb (colour w (base + target-of t r)) 0) e) in
+      let q = eqb-eq (colour w (base + target-of t r)) 0 (and-r (eqb (letter-of t r) letter) e) in
+      white-at o (h .asks .number-to) q (h .within (base + target-of t r) (here o p refl))
+      (λ y k.
+      elim (h .passed y k) [
+        | inl v ↦ inl v
+        | inr v ↦ elim (chain-parts v) [ inl s ↦ inr (inl (sym (s .1))) | inr s ↦ inr (inr s) ]
+      ])
+
+  pub walked-none : r ≡ 0 → Next-white t w letter base first 0
+  walked-none e =
+      no-white refl
+      (λ y k. elim (h .passed y k) [ inl v ↦ v | inr v ↦ absurd (chain-zero (rw e at v)) ])
+
+-- ONE RECORD, as it is read
+module _ {t : List ℕ} {states nodes base r : ℕ} (a : Edge-asks t states nodes base r) where
+  pub reads-edge : Record-asks t states r
+  reads-edge = reads-record (a .chain) (a .from-one)
+
+  pub edge-target : {y : ℕ} → y ≡ target-of t r → base + y < nodes
+  edge-target e = let k = target-inside (a .chain) (a .from-one) in omega arith
+
+module _ (t w : List ℕ) (c b r : ℕ) {x : ℕ} (e : x ≡ letter-of t r) where
+  pub white-other : (x ≡ c → ⊥) → false ≡ white-edge t w c b r
+  unfolding white-edge
+  white-other ne =
+      sym (and-false-l (eqb (colour w (b + target-of t r)) 0) (ne-eqb (letter-of t r) c (λ s. ne (e ∙ s))))
+
+  pub white-same : {y : ℕ} → x ≡ c → y ≡ target-of t r → eqb (getD w (b + y) 0) 0 ≡ white-edge t w c b r
+  unfolding white-edge colour
+  white-same s k = let q : eqb (letter-of t r) c ≡ true = eq-eqb (sym e ∙ s) in rw (q, k)

@@ -1,0 +1,173 @@
+-- Laws of the inner search's first two functions: one edge followed, and all edges of a chain. Assumes nothing.
+use mathlib.Core.Path.{_≡_, refl, sym, _∙_, ap}
+use mathlib.Core.Bool.{Bool, true, false}
+use mathlib.Core.List.{List}
+use mathlib.Core.Logic.{_⊎_, inl, inr}
+use Prim.Native.Nat.{ℕ, zero, suc, _+_, _*_, _-_, _≤_, _<_}
+use native.Mathlib.Omega.{arith}
+use native.Mathlib.Numerals.{add-one}
+use lib.Dec.{eqb}
+use lib.ListN.{length, getD, set, length-set}
+use Rattle.basics.proofs.Booleans.{eq-eqb, clash}
+use Rattle.basics.proofs.Bounded.{count-less}
+use Rattle.tables.specs.Access.{Record-asks}
+use Rattle.tables.specs.Table.{m-of, letter-of, target-of, next-of}
+use Rattle.lassos.specs.Product.{Chain-to, here, later}
+use Rattle.lassos.specs.Search.{colour, blacks, reddened, Spread, None, Spread-says, met, spread}
+use Rattle.lassos.specs.Steps.{Chain-asks, Edge-asks, Follow-asks, Followed, other-letter, grey-met, black-met, other-met, Spread-asks}
+use Rattle.lassos.proofs.Chains.{reads-edge, edge-target, chain-inside, next-asks, next-less}
+use Rattle.lassos.proofs.Inner.{was-grey, still-coloured, spread-start, spread-skip, spread-push}
+use Rattle.lassos.proofs.Product.{chain-zero, chain-parts}
+use Rattle.lassos.proofs.Stores.{same-or, reddens}
+
+-- a black node is counted
+pub black-counted : (n : ℕ) (w : List ℕ) (x : ℕ) → x < n → colour w x ≡ 2 → 1 ≤ blacks n w
+unfolding blacks
+black-counted n w x l e =
+    let k = count-less n (λ y. false) (λ y. eqb (colour w y) 2) (λ y b f. absurd (clash f refl)) x l refl (eq-eqb e) in omega arith
+
+-- ONE EDGE, as it is read
+module _ {t w : List ℕ} {states size base r wait : ℕ} (a : Follow-asks t w states size base r wait) where
+  pub follow-record : Record-asks t states r
+  follow-record = reads-edge (a .edge)
+
+  module _ {y : ℕ} (n : y ≡ target-of t r) where
+    pub follow-node : base + y < length w
+    follow-node = let k = edge-target (a .edge) n in let l = a .long in omega arith
+
+    pub follow-room : colour w (base + y) ≡ 2 → wait < size
+    follow-room e =
+        let k = black-counted size w (base + y) (edge-target (a .edge) n) e in let l = a .room in omega arith
+
+    pub follow-wait : getD w (base + y) 0 ≡ 2 → 3 * size + wait < length (set w (base + y) 3)
+    unfolding colour
+    follow-wait e =
+        let k = follow-room e in let l = a .long in let s = length-set w (base + y) 3 in omega arith
+
+module _ (t : List ℕ) (size letter base r : ℕ) (w : List ℕ) (wait : ℕ) {x : ℕ} (p : x ≡ letter-of t r) where
+  pub follow-other : (x ≡ letter → ⊥) → Followed t size letter base r w w wait wait
+  follow-other ne = other-letter (λ s. ne (p ∙ s)) refl refl
+
+  module _ {y : ℕ} (s : x ≡ letter) (n : y ≡ target-of t r) where
+    pub follow-grey : {w′ : List ℕ} → getD w (base + y) 0 ≡ 1 → Followed t size letter base r w w′ wait (size + 1)
+    unfolding colour
+    follow-grey e = grey-met (sym p ∙ s) (rw n at e) refl
+
+    pub follow-black :
+        getD w (base + y) 0 ≡ 2 →
+        Followed t size letter base r w (set (set w (base + y) 3) (3 * size + wait) (base + y)) wait (wait + 1)
+    unfolding colour reddened
+    follow-black e = black-met (sym p ∙ s) (rw n at e) (rw n) refl
+
+  pub follow-rest :
+      {y : ℕ} → y ≡ target-of t r → (getD w (base + y) 0 ≡ 1 → ⊥) → (getD w (base + y) 0 ≡ 2 → ⊥) →
+      Followed t size letter base r w w wait wait
+  unfolding colour
+  follow-rest n f g = other-met (rw n at f) (rw n at g) refl refl
+
+-- ALL EDGES OF A CHAIN: the invariant of the walk
+pub record Spreading (t w : List ℕ) (states size letter base first wait : ℕ) (w-now : List ℕ) (r count : ℕ) : Type 0 where
+  pub asks : Spread-asks t w states size base first wait
+  pub chain : Chain-asks t states size base r
+  pub same : length w-now ≡ length w
+  pub spread : Spread size (λ y. Chain-to t letter base y first) (λ y. Chain-to t letter base y r) w w-now wait count
+
+pub spreading-start :
+    {t w : List ℕ} {states size base first wait : ℕ} (letter : ℕ) → Spread-asks t w states size base first wait →
+    Spreading t w states size letter base first wait w first wait
+spreading-start letter a = record { asks = a; chain = a .chain; same = refl; spread = spread-start }
+
+module _ {t w : List ℕ} {states size letter base first wait : ℕ} {w1 : List ℕ} {r count : ℕ}
+    (h : Spreading t w states size letter base first wait w1 r count) where
+  below : (y : ℕ) → Chain-to t letter base y first → y < size
+  below y = chain-inside (h .asks .chain) letter y
+
+  still-room : count + blacks size w1 ≤ size
+  still-room = let k = h .spread .room in let j = h .asks .room in omega arith
+
+  pub spreading-follow : (r ≡ 0 → ⊥) → Follow-asks t w1 states size base r count
+  spreading-follow ne =
+      record {
+        edge = record { chain = h .chain; from-one = omega arith };
+        small = h .asks .small;
+        long = let k = h .same in let j = h .asks .long in omega arith;
+        room = still-room;
+      }
+
+  pub spreading-record : (r ≡ 0 → ⊥) → Record-asks t states r
+  spreading-record ne = follow-record (spreading-follow ne)
+
+  -- a grey node is met
+  pub spreading-met :
+      {w2 : List ℕ} {k : ℕ} → (r ≡ 0 → ⊥) → Followed t size letter base r w1 w2 count k → size < k →
+      Spread-says size (λ y. Chain-to t letter base y first) w w2 wait k
+  spreading-met ne (other-letter f e n) far = absurd (let j = still-room in omega arith)
+  spreading-met ne (grey-met p g n) far =
+      let o : 1 ≤ r = omega arith in
+      let to = h .spread .within (base + target-of t r) (here o p refl) in
+      let l = below (base + target-of t r) to in
+      met (base + target-of t r) to l (was-grey (h .spread .redder) (base + target-of t r) l g) n
+  spreading-met ne (black-met p g e n) far = absurd (let j = follow-room (spreading-follow ne) refl g in omega arith)
+  spreading-met ne (other-met f g e n) far = absurd (let j = still-room in omega arith)
+
+  -- the walk ends
+  pub spreading-end : r ≡ 0 → Spread-says size (λ y. Chain-to t letter base y first) w w1 wait count
+  spreading-end e =
+      spread (let j = still-room in omega arith)
+      (spread-skip (h .spread) below (λ y n. elim n [ ]) (λ y l. absurd (chain-zero (rw e at l))))
+
+  -- or it goes on
+  module _ (ne : r ≡ 0 → ⊥) {next : ℕ} (on : next ≡ next-of t r) where
+    next-fewer : (y : ℕ) → Chain-to t letter base y next → Chain-to t letter base y r
+    next-fewer y l = let o : 1 ≤ r = omega arith in later o (rw on at l)
+
+    next-rest : (y : ℕ) → Chain-to t letter base y r → ((letter-of t r ≡ letter) × (base + target-of t r ≡ y)) ⊎ Chain-to t letter base y next
+    next-rest y l = elim (chain-parts l) [ inl s ↦ inl s | inr s ↦ inr (rw on s) ]
+
+    passed-by :
+        ((y : ℕ) → Chain-to t letter base y r → Chain-to t letter base y next ⊎ ((colour w1 y ≡ 0) ⊎ (colour w1 y ≡ 3))) →
+        Spreading t w states size letter base first wait w1 next count
+    passed-by rest =
+        record {
+          asks = h .asks;
+          chain = next-asks (h .chain) (omega arith) next on;
+          same = h .same;
+          spread = spread-skip (h .spread) below next-fewer rest;
+        }
+
+    pub spreading-turn :
+        {w2 : List ℕ} {k : ℕ} → length w2 ≡ length w1 → Followed t size letter base r w1 w2 count k → k ≤ size →
+        Spreading t w states size letter base first wait w2 next k
+    spreading-turn same (other-letter f e n) fits =
+        rw (e, n)
+        (passed-by (λ y l. elim (next-rest y l) [ inl s ↦ absurd (f (s .0)) | inr s ↦ inl s ]))
+    spreading-turn same (grey-met p g n) fits = absurd (omega arith)
+    spreading-turn {w2} {k} same (black-met p g e n) fits =
+        let o : 1 ≤ r = omega arith in
+        let to = h .spread .within (base + target-of t r) (here o p refl) in
+        let room = follow-room (spreading-follow ne) refl g in
+        let long : 4 * size ≤ length w1 = (let i = h .same in let j = h .asks .long in omega arith) in
+        record {
+          asks = h .asks;
+          chain = next-asks (h .chain) o next on;
+          same = same ∙ h .same;
+          spread =
+              rw (n, add-one count)
+              (spread-push (h .spread) below next-fewer g to
+              (rw e (reddens size w1 (base + target-of t r) count long (below (base + target-of t r) to) room))
+              (λ y l. elim (next-rest y l) [ inl s ↦ inr (sym (s .1)) | inr s ↦ inl s ]));
+        }
+    spreading-turn same (other-met f g e n) fits =
+        rw (e, n)
+        (passed-by
+        (λ y l.
+        elim (next-rest y l) [
+          | inl s ↦
+              let to = h .spread .within y l in
+              let c = still-coloured (h .spread .redder) (h .asks .colours) y (below y to) in
+              let at = s .1 in
+              let f′ : (colour w1 y ≡ 1 → ⊥) = rw at at f in
+              let g′ : (colour w1 y ≡ 2 → ⊥) = rw at at g in
+              elim (same-or (colour w1 y) 0) [ inl z ↦ inr (inl z) | inr z ↦ inr (inr (omega arith)) ]
+          | inr s ↦ inl s
+        ]))

@@ -1,0 +1,58 @@
+-- `lassos::outer_search::next_white` meets its contract. The invariant: the records passed by lead to visited nodes on the letter.
+-- The measure is how many records can follow. Assumes nothing.
+use Rattle.tables.specs.Table.{m-of}
+use Rattle.lassos.proofs.Chains.{left, next-less, Walked, walked-start, walked-edge, walked-record, walked-turn, walked-found, walked-none}
+use Rattle.lassos.proofs.outer_search.next_white.Statement.{statement}
+use Rattle.lassos.proofs.outer_search.next_white.Tie as tie
+
+abbrev Inv-loop : tie.InvT-loop
+Inv-loop table work states letter base first at₀ at = Walked table work states letter base first at
+
+abbrev μ-loop : tie.MeasureT-loop
+μ-loop table work states letter base first at₀ at = left (m-of table) at
+
+loop-holds : tie.Need-loop-holds Inv-loop μ-loop
+loop-holds c = walked-start _ _ _ _ _ _ (c .before .before .pre)
+
+leads-to-white-requires : tie.Need-leads-to-white-requires Inv-loop μ-loop
+leads-to-white-requires c κs = walked-edge (c .before .loop .inv) (c .loop-test .taken)
+
+returns : tie.Need-returns Inv-loop μ-loop
+returns c =
+    let at = c .before .before in
+    walked-found (at .before .loop .inv) (at .loop-test .taken) (c .before .leads-to-white .ensures)
+    (c .if1 .taken)
+
+next-of-requires : tie.Need-next-of-requires Inv-loop μ-loop
+next-of-requires c κs =
+    let at = c .before .before in
+    walked-record (at .before .loop .inv) (at .loop-test .taken)
+
+loop-less : tie.Need-loop-less Inv-loop μ-loop
+loop-less c =
+    let at = c .before .before .before in
+    next-less (at .before .loop .inv .asks) (at .loop-test .taken) _ (c .next-of .ensures .is)
+
+loop-again : tie.Need-loop-again Inv-loop μ-loop
+loop-again c =
+    let at = c .before .before .before in
+    walked-turn (at .before .loop .inv) (at .loop-test .taken)
+    (c .before .before .leads-to-white .ensures) (c .before .if1 .left)
+    _ (c .next-of .ensures .is)
+
+returns-2 : tie.Need-returns-2 Inv-loop μ-loop
+returns-2 c = walked-none (c .before .loop .inv) (c .loop-test .left)
+
+pub next-white-spec : {M : Type 1} → statement M
+next-white-spec =
+    tie.close
+    (tie.spec
+    Inv-loop
+    μ-loop
+    loop-holds
+    leads-to-white-requires
+    returns
+    next-of-requires
+    loop-less
+    loop-again
+    returns-2)
