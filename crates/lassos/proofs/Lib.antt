@@ -1,5 +1,7 @@
 pub mod Chains
+pub mod Drains
 pub mod Follows
+pub mod Given
 pub mod Inner
 pub mod Outer
 pub mod Places

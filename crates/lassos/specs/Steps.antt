@@ -79,7 +79,7 @@ pub record Given (t u v : List ℕ) (states size : ℕ) : Type 0 where
   pub prefix-short : length u ≤ 4096
   pub loop-short : length v ≤ 4096
 
-pub record Node-spread-asks (t u v w : List ℕ) (states size node wait : ℕ) : Type 0 where
+pub record Spread-node-asks (t u v w : List ℕ) (states size node wait : ℕ) : Type 0 where
   pub given : Given t u v states size
   pub inside : node < product t u v .size
   pub long : 4 * product t u v .size ≤ length w
@@ -90,7 +90,7 @@ pub record Drain-asks (t u v w : List ℕ) (states size wait : ℕ) : Type 0 whe
   pub given : Given t u v states size
   pub waiting : Waiting (product t u v) w wait
 
-pub record Inner-search-asks (t u v w : List ℕ) (states size node : ℕ) : Type 0 where
+pub record Meets-asks (t u v w : List ℕ) (states size node : ℕ) : Type 0 where
   pub given : Given t u v states size
   pub asks : Inner-asks (product t u v) node w
 

@@ -1,5 +1,6 @@
 // The inner search: from a finished accepting node through black nodes, which turn red. Meeting a grey node closes a cycle.
-use crate::nodes;
+use crate::nodes::node_base;
+use crate::nodes::node_letter;
 use tables::head_of;
 use tables::letter_of;
 use tables::next_of;
@@ -7,7 +8,7 @@ use tables::target_of;
 ghost use Rattle.lassos.specs.Graph.{Leads};
 ghost use Rattle.lassos.specs.Product.{Chain-to, product};
 ghost use Rattle.lassos.specs.Search.{Spread-says, Drained, Inner-says};
-ghost use Rattle.lassos.specs.Steps.{Follow-asks, Followed, Spread-asks, Node-spread-asks, Drain-asks, Inner-search-asks};
+ghost use Rattle.lassos.specs.Steps.{Follow-asks, Followed, Spread-asks, Spread-node-asks, Drain-asks, Meets-asks};
 
 // Follows one record's edge: a black target turns red and waits. Answers how many nodes wait, or size + 1 where the target is grey.
 fn follow(
@@ -63,4 +64,73 @@ fn spread(
         at = next_of(table, states, at);
     }
     count
+}
+
+// Follows all edges of a node.
+fn spread_node(
+    table: &[u16],
+    prefix: &[u8],
+    cycle: &[u8],
+    work: &mut [u32],
+    states: usize,
+    size: usize,
+    node: usize,
+    waiting: usize,
+) -> usize
+    requires { ⌜ Spread-node-asks (now table) (now prefix) (now cycle) (now work) states size node waiting ⌝ }
+    ensures { λ r. ⌜ Spread-says (product (now (table .entry)) (now (prefix .entry)) (now (cycle .entry)) .size)
+        (Leads (product (now (table .entry)) (now (prefix .entry)) (now (cycle .entry))) node)
+        (now (work .entry)) (now (work .exit)) waiting r ⌝ }
+{
+    let letter = node_letter(prefix, cycle, states, node);
+    let base = node_base(prefix, cycle, states, node);
+    let first = head_of(table, node % states);
+    spread(table, work, states, size, letter, base, first, waiting)
+}
+
+// Takes the waiting nodes one after the other until none waits. Answers whether a grey node was met.
+fn drain(
+    table: &[u16],
+    prefix: &[u8],
+    cycle: &[u8],
+    work: &mut [u32],
+    states: usize,
+    size: usize,
+    waiting: usize,
+) -> bool
+    requires { ⌜ Drain-asks (now table) (now prefix) (now cycle) (now work) states size waiting ⌝ }
+    ensures { λ r. ⌜ Drained (product (now (table .entry)) (now (prefix .entry)) (now (cycle .entry)))
+        (now (work .entry)) (now (work .exit)) waiting r ⌝ }
+{
+    let mut count = waiting;
+    while count > 0 {
+        let last = count - 1;
+        let node = work[3 * size + last] as usize;
+        count = spread_node(table, prefix, cycle, work, states, size, node, last);
+        if count > size {
+            return true;
+        }
+    }
+    false
+}
+
+// Whether some way from a node, over at least one edge, leads through black nodes to a grey one.
+pub(crate) fn meets_grey(
+    table: &[u16],
+    prefix: &[u8],
+    cycle: &[u8],
+    work: &mut [u32],
+    states: usize,
+    size: usize,
+    node: usize,
+) -> bool
+    requires { ⌜ Meets-asks (now table) (now prefix) (now cycle) (now work) states size node ⌝ }
+    ensures { λ r. ⌜ Inner-says (product (now (table .entry)) (now (prefix .entry)) (now (cycle .entry))) node
+        (now (work .entry)) (now (work .exit)) r ⌝ }
+{
+    let waiting = spread_node(table, prefix, cycle, work, states, size, node, 0);
+    if waiting > size {
+        return true;
+    }
+    drain(table, prefix, cycle, work, states, size, waiting)
 }

@@ -1,6 +1,7 @@
 // The outer search: depth first through the product, from the initial states at the first position.
 use crate::inner_search;
-use crate::nodes;
+use crate::nodes::node_base;
+use crate::nodes::node_letter;
 use tables::flags_of;
 use tables::head_of;
 use tables::letter_of;

@@ -1,0 +1,92 @@
+-- Laws of a table and a lasso that were not refused: the product is small, its nodes can be taken apart, and its edges read from
+-- the table. Assumes nothing.
+use mathlib.Core.Path.{_≡_, refl, sym, _∙_, ap, subst}
+use mathlib.Core.Bool.{Bool, true, false}
+use mathlib.Core.List.{List}
+use mathlib.Core.Logic.{_⊎_, inl, inr}
+use Prim.Native.Nat.{ℕ, zero, suc, _+_, _*_, _-_, _/_, _%_, _≤_, _<_}
+use native.Mathlib.Omega.{arith}
+use native.Mathlib.Nat.{mod-lt, mul-le-mul, mul-le-mul-right, suc-mul}
+use lib.ListN.{length}
+use Rattle.automata.specs.Lasso.{positions, next-position}
+use Rattle.automata.proofs.Positions.{next-below}
+use Rattle.tables.specs.Table.{n-of, m-of, head-of, wide-range}
+use Rattle.tables.proofs.Laws.{Valid, valid}
+use Rattle.lassos.specs.Graph.{Graph, Leads, Bounded}
+use Rattle.lassos.specs.Product.{Chain-to, node-letter, node-base, product}
+use Rattle.lassos.specs.Search.{Spread-says}
+use Rattle.lassos.specs.Steps.{Node-asks, Chain-asks, Given}
+use Rattle.lassos.proofs.Product.{product-bounded}
+
+pub size-is : (t u v : List ℕ) → product t u v .size ≡ positions u v * n-of t
+unfolding product
+size-is t u v = refl
+
+module _ {t u v : List ℕ} {states size : ℕ} (g : Given t u v states size) where
+  pub given-valid : Valid wide-range t
+  given-valid = valid wide-range t (g .valid)
+
+  pub given-bounded : Bounded (product t u v)
+  given-bounded = product-bounded given-valid u v (g .endless)
+
+  pub given-few : n-of t < 65536
+  unfolding wide-range
+  given-few = let k = given-valid .states-to in omega arith
+
+  pub given-some : 1 ≤ n-of t
+  given-some = given-valid .states-from
+
+  -- fewer than 2^30 nodes
+  pub given-small : product t u v .size < 1073741824
+  unfolding positions
+  given-small =
+      let a : length u + length v ≤ 8192 = (let k = g .prefix-short in let j = g .loop-short in omega arith) in
+      let b : n-of t ≤ 65535 = (let k = given-few in omega arith) in
+      let s = size-is t u v in
+      let m = mul-le-mul a b in omega arith
+
+  module _ {x : ℕ} (l : x < product t u v .size) where
+    pub given-node : Node-asks u v states x
+    given-node =
+        rw (g .counted)
+        (record {
+          some = given-some;
+          inside = let s = size-is t u v in omega arith;
+          small = let s = size-is t u v in let k = given-small in omega arith;
+        })
+
+    pub given-state : x % states < 65536
+    given-state = let k = mod-lt x given-some in let f = given-few in rw (g .counted) (omega arith)
+
+    -- the chain of a node's edges
+    module _ {letter base : ℕ} (is-letter : letter ≡ node-letter states u v x) (is-base : base ≡ node-base states u v x) where
+      base-fits : base + n-of t ≤ size
+      unfolding node-base
+      base-fits =
+          let p = next-position u v (x / n-of t) in
+          let k : suc p * n-of t ≤ positions u v * n-of t = mul-le-mul-right (n-of t) (next-below u v (g .endless) (x / n-of t)) in
+          let e : base ≡ p * n-of t = rw (g .counted) at is-base in
+          let z = suc-mul p (n-of t) in
+          let s = size-is t u v in
+          let q = g .sized in omega arith
+
+      pub given-chain : {r : ℕ} → r ≤ m-of t → Chain-asks t states size base r
+      given-chain b =
+          record {
+            valid = g .valid;
+            counted = g .counted;
+            number-to = b;
+            fits = base-fits;
+            small = let k = base-fits in let j = given-small in let q = g .sized in omega arith;
+          }
+
+      pub given-spread :
+          {w w′ : List ℕ} {a r first : ℕ} → first ≡ head-of t (x % states) →
+          Spread-says size (λ y. Chain-to t letter base y first) w w′ a r →
+          Spread-says (product t u v .size) (Leads (product t u v) x) w w′ a r
+      unfolding product
+      given-spread is-first h = rw (g .sized, is-letter, is-base, is-first, g .counted) at h
+
+    pub given-first : {first : ℕ} → first ≡ head-of t (x % states) → first ≤ m-of t
+    given-first e =
+        let b : head-of t (x % states) ≤ m-of t = given-valid .head (x % states) (rw (g .counted) (mod-lt x given-some)) in omega arith

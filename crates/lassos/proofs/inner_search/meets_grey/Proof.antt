@@ -1,0 +1,41 @@
+-- `lassos::inner_search::meets_grey` meets its contract: first the node's own edges, then those of the nodes that wait.
+-- Assumes nothing.
+use borrow.Author.Needs.{needs}
+use Rattle.lassos.proofs.Drains.{meets-asks, meets-at-once, meets-drain, meets-end}
+use Rattle.lassos.proofs.inner_search.meets_grey.Statement.{statement}
+use Rattle.lassos.proofs.inner_search.meets_grey.Tie as tie
+
+spread-node-requires : tie.Need-spread-node-requires
+spread-node-requires c κs = meets-asks (c .before .before .before .before .before .pre)
+
+same-length : tie.Need-same-length
+same-length c = search needs
+
+returns : tie.Need-returns
+returns c =
+    let after = c .before .before .before in
+    meets-at-once (after .before .before .before .before .before .before .pre) (after .spread-node .ensures) (c .if1 .taken)
+
+drain-requires : tie.Need-drain-requires
+drain-requires c κs =
+    let after = c .before .before .before .before in
+    meets-drain (after .before .before .before .before .before .before .pre) (after .spread-node .ensures)
+    (c .before .if1 .left)
+    (after .spread-node .kept .1 .1 .1 .0)
+
+same-length-2 : tie.Need-same-length-2
+same-length-2 c = search needs
+
+returns-2 : tie.Need-returns-2
+returns-2 c =
+    let drained = c .before .before in
+    let after = drained .before .before .before .before .before in
+    meets-end (after .before .before .before .before .before .before .pre) (after .spread-node .ensures)
+    (drained .before .before .if1 .left)
+    (after .spread-node .kept .1 .1 .1 .0)
+    (drained .drain .ensures)
+
+pub meets-grey-spec : {M : Type 1} → statement M
+meets-grey-spec =
+    tie.close
+    (tie.spec spread-node-requires same-length returns drain-requires same-length-2 returns-2)
