@@ -1,2 +1,4 @@
 pub mod Build
 pub mod Complement
+pub mod Found
+pub mod Records

@@ -1,0 +1,107 @@
+-- Stores into a buffer that begins with given words and is zero beyond: words are appended one by one, records and edges whole. Assumes nothing.
+use mathlib.Core.Path.{_≡_, refl, sym, _∙_, ap}
+use mathlib.Core.Bool.{Bool, true, false, cond}
+use mathlib.Core.List.{List, [], _∷_, _++_, append-assoc, append-nil}
+use mathlib.Core.Logic.{inl, inr}
+use Prim.Native.Nat.{ℕ, zero, suc, _+_, _*_, _-_, _/_, _≤_, _<_, min}
+use native.Mathlib.Nat.{add-zero}
+use native.Mathlib.Numerals.{add-one, add-two, add-three}
+use native.Mathlib.Omega.{arith}
+use lib.Dec.{eqb, ltb}
+use lib.ListN.{length, getD, take, set, replicate, length-append, length-set, length-replicate, getD-replicate, List·getD-append, List·getD-eq-default}
+use lib.Seq.{sets, length-sets, getD-set-same, getD-set-other, getD-append-seam, append-snoc, ext-getD}
+use Rattle.basics.specs.Buffers.{zeros, filled}
+use Rattle.basics.proofs.Booleans.{either, eqb-eq, eqb-ne, ltb-lt, ltb-ge, lt-ltb, ge-ltb}
+use Rattle.automata.specs.System.{Edge, an-edge}
+use Rattle.tables.specs.Table.{wide-range}
+use Rattle.ncsb.specs.declared.Quadruple.{Quadruple}
+use Rattle.complement.specs.Complement.{quadruple-words, record-width}
+use Rattle.complement.specs.Records.{with-quadruple}
+use Rattle.complement.specs.Found.{Begins, triple, triples, edge-room, counted-to, with-edge, one-more}
+
+-- four words of a record, one by one
+pub stored :
+    (w : List ℕ) (i : ℕ) (x : Quadruple) →
+    set (set (set (set w (4 * i) (x .N)) (4 * i + 1) (x .C)) (4 * i + 2) (x .S)) (4 * i + 3) (x .B) ≡ with-quadruple w i x
+unfolding with-quadruple quadruple-words record-width
+stored w i x = rw (add-one, add-two, add-three) refl
+
+-- a word behind those that a buffer begins with
+pub begins-word : {new w : List ℕ} (v : ℕ) → length new < length w → Begins new w → Begins (new ++ (v ∷ [])) (set w (length new) v)
+begins-word {new} {w} v l h = record { at = go }
+  where
+    go : (i : ℕ) → getD (set w (length new) v) i 0 ≡ getD (new ++ (v ∷ [])) i 0
+    go i =
+        elim (either (eqb i (length new))) [
+          | inl q ↦ rw (eqb-eq i (length new) q, getD-append-seam new v [] 0) (getD-set-same w (length new) v 0 l)
+          | inr q ↦
+              let ne = eqb-ne i (length new) q in
+              getD-set-other w (length new) i v 0 ne ∙ h .at i
+              ∙ elim (either (ltb i (length new))) [
+                | inl m ↦ sym (List·getD-append new (v ∷ []) 0 i (ltb-lt i (length new) m))
+                | inr m ↦
+                    let ge = ltb-ge i (length new) m in
+                    let out : length (new ++ (v ∷ [])) ≤ i = rw length-append (omega arith) in
+                    List·getD-eq-default new 0 ge ∙ sym (List·getD-eq-default (new ++ (v ∷ [])) 0 out)
+              ]
+        ]
+
+-- several words
+pub begins-words :
+    {new w : List ℕ} (vs : List ℕ) → length new + length vs ≤ length w → Begins new w → Begins (new ++ vs) (sets w (length new) vs)
+begins-words {new} [] l h = rw append-nil h
+begins-words {new} {w} (v ∷ vs) l h =
+    let first : length new < length w = omega arith in
+    let more : length (new ++ (v ∷ [])) ≡ suc (length new) = rw (length-append, add-one) refl in
+    let rest : length (new ++ (v ∷ [])) + length vs ≤ length (set w (length new) v) = rw (more, length-set) (omega arith) in
+    rw (← append-snoc new v vs, ← more) (begins-words vs rest (begins-word v first h))
+
+zeros-beyond : (new : List ℕ) (k i : ℕ) → getD new i 0 ≡ getD (new ++ replicate k 0) i 0
+zeros-beyond [] zero i = refl
+zeros-beyond [] (suc k) zero = refl
+zeros-beyond [] (suc k) (suc i) = zeros-beyond [] k i
+zeros-beyond (v ∷ new) k zero = refl
+zeros-beyond (v ∷ new) k (suc i) = zeros-beyond new k i
+
+-- the whole buffer, where the words fit
+pub begins-filled : {new w : List ℕ} → length new ≤ length w → Begins new w → w ≡ filled new w
+unfolding filled
+begins-filled {new} {w} l h =
+    ext-getD 0 w (new ++ replicate (length w - length new) 0) (simp (length-append, length-replicate) (omega arith))
+    (λ i m. h .at i ∙ zeros-beyond new (length w - length new) i)
+
+pub begins-zeros : (w : List ℕ) → Begins [] (zeros w)
+unfolding zeros
+begins-zeros w = record { at = λ i. sym (zeros-beyond [] (length w) i) }
+
+pub zeros-begins : {w : List ℕ} → Begins [] w → w ≡ zeros w
+unfolding zeros
+zeros-begins {w} h =
+    ext-getD 0 w (replicate (length w) 0) (sym (length-replicate {A = ℕ} (length w) 0))
+    (λ i m. h .at i ∙ zeros-beyond [] (length w) i)
+
+-- EDGES behind so many others
+module _ (w : List ℕ) (m : ℕ) where
+  -- beyond the room for them nothing is written
+  pub edge-past : (e : Edge) → 65535 ≤ m → w ≡ with-edge w m e
+  unfolding with-edge edge-room wide-range
+  edge-past e l = let out : edge-room w ≤ m = omega arith in rw (ge-ltb out) refl
+
+  pub edge-long : (e : Edge) → length w < 3 + 3 * m + 3 → w ≡ with-edge w m e
+  unfolding with-edge edge-room wide-range
+  edge-long e l = let out : edge-room w ≤ m = omega arith in rw (ge-ltb out) refl
+
+  pub edge-stored :
+      (i c j : ℕ) → m < 65535 → 3 + 3 * m + 3 ≤ length w →
+      set (set (set w (3 + 3 * m) c) (3 + 3 * m + 1) j) (3 + 3 * m + 2) i ≡ with-edge w m (an-edge i c j)
+  unfolding with-edge edge-room wide-range triple an-edge
+  edge-stored i c j l fits =
+      let inside : m < edge-room w = omega arith in rw (lt-ltb inside, add-one (3 + 3 * m), add-two (3 + 3 * m)) refl
+
+pub count-stops : (m : ℕ) → 65535 ≤ m → 65536 ≡ one-more m
+unfolding one-more counted-to wide-range
+count-stops m l = omega arith
+
+pub count-more : (m : ℕ) → m < 65535 → m + 1 ≡ one-more m
+unfolding one-more counted-to wide-range
+count-more m l = omega arith

@@ -1,0 +1,69 @@
+-- `find` is a scan of the first records. The invariant: none of those passed is x. Assumes nothing.
+use Prim.Native.Nat.{_≤_, _-_}
+use native.Mathlib.Omega.{arith}
+use Rattle.complement.proofs.Lookup.{Passed-by, passed-none, passed-more, compared, looked-found, looked-none}
+use Rattle.complement.proofs.records.find.Statement.{statement}
+use Rattle.complement.proofs.records.find.Tie as tie
+use Rattle.complement.proofs.records.find.Reads as reads
+use Rattle.complement.proofs.records.find.Lts as lts
+use Rattle.complement.proofs.records.equal.Reads as equal-reads
+use Rattle.complement.proofs.records.load.Reads as load-reads
+
+abbrev Inv-loop : tie.InvT-loop
+Inv-loop sets count x number₀ number = (number ≤ count) × Passed-by sets x number
+
+abbrev μ-loop : tie.MeasureT-loop
+μ-loop sets count x number₀ number = count - number
+
+-- src/records.rt:59:5
+loop-holds : tie.Need-loop-holds Inv-loop μ-loop
+loop-holds c = (omega arith, passed-none (c .before .args .sets .now) (c .before .args .x))
+
+-- src/records.rt:60:21
+load-requires : tie.Need-load-requires Inv-loop μ-loop
+load-requires c κs = let l = c .loop-test .taken in let p = c .before .before .before .pre in omega arith
+
+-- src/records.rt:60:12
+equal-requires : tie.Need-equal-requires Inv-loop μ-loop
+equal-requires c κs = tt
+
+-- src/records.rt:61:13
+returns : tie.Need-returns Inv-loop μ-loop
+returns c =
+    looked-found (c .before .before .before .loop-test .taken) (c .before .before .before .before .loop .inv .1)
+    (compared (c .before .before .before .before .before .before .args .x) (c .before .equal .ensures) (c .before .before .load .ensures) (c .if1 .taken))
+
+-- src/records.rt:63:9
+add-number : tie.Need-add-number Inv-loop μ-loop
+add-number c = omega arith
+
+-- src/records.rt:59:5
+loop-less : tie.Need-loop-less Inv-loop μ-loop
+loop-less c = omega arith
+
+-- src/records.rt:59:5
+loop-again : tie.Need-loop-again Inv-loop μ-loop
+loop-again c = (
+  omega arith,
+  passed-more (c .before .before .before .before .loop .inv .1)
+      (compared (c .before .before .before .before .before .before .args .x) (c .before .equal .ensures) (c .before .before .load .ensures) (c .if1 .left)),
+)
+
+-- src/records.rt:54:1
+returns-2 : tie.Need-returns-2 Inv-loop μ-loop
+returns-2 c = looked-none (c .loop-test .left) (c .before .loop .inv .1)
+
+pub find-spec : {M : Type 1} → statement M
+find-spec =
+    tie.close
+    (tie.spec
+    Inv-loop
+    μ-loop
+    loop-holds
+    load-requires
+    equal-requires
+    returns
+    add-number
+    loop-less
+    loop-again
+    returns-2)

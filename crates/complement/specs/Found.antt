@@ -1,0 +1,66 @@
+-- What the lent buffers and the counts keep of what was found while exploring. Assumes nothing: these are definitions.
+use mathlib.Core.Path.{_≡_}
+use mathlib.Core.Bool.{Bool, true, false, cond}
+use mathlib.Core.List.{List, [], _∷_, _++_}
+use Prim.Native.Nat.{ℕ, suc, _+_, _*_, _-_, _/_, _≤_, _<_, min}
+use lib.Dec.{ltb}
+use lib.ListN.{length, getD, take}
+use lib.Seq.{sets}
+use Rattle.automata.specs.System.{Edge, Built}
+use Rattle.tables.specs.Table.{Limits, wide-range}
+use Rattle.ncsb.specs.declared.Quadruple.{Quadruple}
+use Rattle.complement.specs.Complement.{quadruple-words}
+use Rattle.complement.specs.Records.{capacity}
+use Rattle.complement.specs.declared.explore.Progress.{Progress}
+
+-- a buffer that begins with these words, and is zero beyond them
+pub record Begins (new words : List ℕ) : Type 0 where
+  pub at : (i : ℕ) → getD words i 0 ≡ getD new i 0
+
+-- STATES: all of them, one record after the other
+unfoldable pub records : List Quadruple → List ℕ
+records [] = []
+records (x ∷ xs) = quadruple-words x ++ records xs
+
+pub record States-kept (xs : List Quadruple) (sets-words : List ℕ) (count : ℕ) : Type 0 where
+  pub counted : count ≡ length xs
+  pub fits : length xs ≤ capacity sets-words
+  pub begins : Begins (records xs) sets-words
+
+-- EDGES: from word 3 on, three words each, as many as there is room for
+unfoldable pub triple : Edge → List ℕ
+triple e = e .letter ∷ e .target ∷ e .source ∷ []
+
+unfoldable pub triples : List Edge → List ℕ
+triples [] = []
+triples (e ∷ es) = triple e ++ triples es
+
+unfoldable pub edge-room : (words : List ℕ) → ℕ
+edge-room w = min ((length w - 3) / 3) (wide-range .records)
+
+-- their count stops one above what a table can have
+unfoldable pub counted-to : ℕ
+counted-to = suc (wide-range .records)
+
+pub record Edges-kept (es : List Edge) (words : List ℕ) (count : ℕ) : Type 0 where
+  pub counted : count ≡ min (length es) counted-to
+  pub begins : Begins (0 ∷ 0 ∷ 0 ∷ triples (take (edge-room words) es)) words
+
+-- one more edge, behind so many
+unfoldable pub with-edge : (words : List ℕ) → (count : ℕ) → Edge → List ℕ
+with-edge w m e = cond (ltb m (edge-room w)) (sets w (3 + 3 * m) (triple e)) w
+
+unfoldable pub one-more : (count : ℕ) → ℕ
+one-more m = min (suc m) counted-to
+
+-- BOTH, while the states fit
+pub record Shows (b : Built Quadruple) (words sets-words : List ℕ) (p : Progress) : Type 0 where
+  pub not-full : p .full ≡ false
+  pub states : States-kept (b .states) sets-words (p .states)
+  pub edges : Edges-kept (b .edges) words (p .edges)
+
+-- what is left of something found: all of it is kept, or there are more states than fit. The buffers then hold what was found
+-- before that, which nobody reads: the build is refused, and clears them.
+pub data Ends (b : Built Quadruple) (words sets-words : List ℕ) (p : Progress) : Type 0 where
+  within : Shows b words sets-words p → Ends b words sets-words p
+  beyond : p .full ≡ true → capacity sets-words < length (b .states) → Ends b words sets-words p
