@@ -1,8 +1,8 @@
 -- From sources to heads and nexts, an edge at a time. Assumes nothing.
 use mathlib.Core.Path.{_≡_, refl, sym, _∙_}
 use mathlib.Core.Bool.{Bool, true, false, _&&_, cond}
-use mathlib.Core.List.{List, [], _∷_, _++_}
-use mathlib.Core.Logic.{_⊎_, inl, inr}
+use mathlib.Core.List.{List}
+use mathlib.Core.Logic.{inl, inr}
 use Prim.Native.Nat.{ℕ, zero, suc, _+_, _*_, _≤_, _<_}
 use native.Mathlib.Numerals.{add-one, add-two}
 use native.Mathlib.Omega.{arith}
@@ -10,9 +10,9 @@ use lib.Dec.{ltb, eqb}
 use lib.ListN.{length, getD, drop, set, length-set}
 use lib.Seq.{getD-set-same, getD-set-other, getD-drop}
 use Rattle.basics.proofs.Booleans.{either, and-make, and-false-l, and-false-r, eqb-eq, eq-eqb, eqb-ne, ne-eqb, ltb-lt, lt-ltb, ge-ltb}
-use Rattle.automata.specs.System.{Edge, an-edge, edge-at}
+use Rattle.automata.specs.System.{an-edge, edge-at}
 use Rattle.layout.specs.Chained.{first-record, next-record}
-use Rattle.layout.specs.Steps.{Room, behind, with-head, moved-edges, Link-asks, Link-one-asks, linked-one, Linked}
+use Rattle.layout.specs.Steps.{behind, with-head, moved-edges, Link-asks, Link-one-asks, linked-one, Linked}
 use Rattle.layout.specs.Triples.{triple-at, triples-of}
 use Rattle.layout.proofs.Firsts.{first-snoc}
 use Rattle.layout.proofs.Triples.{triples-length, triples-at}

@@ -1,15 +1,14 @@
 -- Laws of edges that stand in the words as triples. Assumes nothing.
-use mathlib.Core.Path.{_≡_, refl, sym, _∙_}
-use mathlib.Core.List.{List, [], _∷_, _++_}
+use mathlib.Core.Path.{_≡_, refl, _∙_}
+use mathlib.Core.List.{List, [], _∷_}
 use mathlib.Core.Logic.{inl, inr}
-use Prim.Native.Nat.{ℕ, zero, suc, _+_, _*_, _≤_, _<_}
-use native.Mathlib.Nat.{add-zero}
+use Prim.Native.Nat.{ℕ, zero, suc, _+_, _*_, _<_}
 use native.Mathlib.Omega.{arith}
 use lib.Dec.{eqb}
 use lib.ListN.{length, getD, length-append, List·getD-append}
 use lib.Seq.{getD-at}
 use Rattle.basics.proofs.Booleans.{either, eqb-eq, eqb-ne}
-use Rattle.automata.specs.System.{Edge, an-edge, edge-at}
+use Rattle.automata.specs.System.{an-edge, edge-at}
 use Rattle.layout.specs.Triples.{triple-at, triples-of}
 
 pub triples-length : (w : List ℕ) (m : ℕ) → length (triples-of w m) ≡ m

@@ -1,8 +1,8 @@
 // From numbered states and edges to the words of a chained table. While a system is explored its edges stand in the words as triples (letter,
 // target, source); once the number of states is known they become records, in place.
 ghost use mathlib.Core.Path.{_≡_};
-ghost use Prim.Native.Nat.{ℕ, _+_, _*_, _≤_, _<_};
-ghost use lib.ListN.{length, getD};
+ghost use Prim.Native.Nat.{_<_};
+ghost use lib.ListN.{length};
 ghost use Rattle.basics.specs.Buffers.{filled};
 ghost use Rattle.layout.specs.Chained.{chained-words};
 ghost use Rattle.layout.specs.Steps.{Room, Lay-out-asks, Moved, Cleared, behind, with-head, Link-asks, Link-one-asks, linked-one, Linked, Counts-ask, with-counts};

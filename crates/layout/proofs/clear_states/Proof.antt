@@ -1,13 +1,9 @@
 -- `layout::clear_states` meets its contract: a turn clears one word (Shifting). Assumes nothing.
-use borrow.Author.Needs.{needs}
-use native.Mathlib.Omega.{arith}
-use lib.ListN.{length, length-set}
 use Prim.Native.Nat.{_-_, _*_}
+use borrow.Author.Needs.{needs}
 use Rattle.layout.proofs.Shifting.{Clearing, clear-start, clear-turn, clear-end}
 use Rattle.layout.proofs.clear_states.Statement.{statement}
 use Rattle.layout.proofs.clear_states.Tie as tie
-use Rattle.layout.proofs.clear_states.Reads as reads
-use Rattle.layout.proofs.clear_states.Lts as lts
 
 abbrev Inv-loop : tie.InvT-loop
 Inv-loop words₀ states i₀ words i = Clearing states i words₀ words

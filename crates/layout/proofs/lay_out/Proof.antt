@@ -1,36 +1,56 @@
+-- `layout::lay_out` meets its contract: moving, clearing, linking and counting leave the chained words (Laying). Assumes nothing.
+use mathlib.Core.Path.{_∙_}
 use borrow.Author.Needs.{needs}
+use denote.Ref.{now}
+use Rattle.layout.proofs.Laying.{laid-links, laid-out}
 use Rattle.layout.proofs.lay_out.Statement.{statement}
 use Rattle.layout.proofs.lay_out.Tie as tie
-use Rattle.layout.proofs.lay_out.Reads as reads
-use Rattle.layout.proofs.lay_out.Lts as lts
-use Rattle.layout.proofs.clear_states.Reads as clear-states-reads
-use Rattle.layout.proofs.link.Reads as link-reads
-use Rattle.layout.proofs.move_up.Reads as move-up-reads
-use Rattle.layout.proofs.write_counts.Reads as write-counts-reads
 
--- src/lib.rt:98:5
 move-up-requires : tie.Need-move-up-requires
 move-up-requires c κs = search needs
 
--- src/lib.rt:99:5
 clear-states-requires : tie.Need-clear-states-requires
 clear-states-requires c κs = search needs
 
--- src/lib.rt:100:5
 link-requires : tie.Need-link-requires
-link-requires c κs = ?
+link-requires c κs =
+    let cleared = c .before .before .before in
+    let moved = cleared .before .before .before .before in
+    let start = moved .before .before .before in
+    laid-links (start .args .states) (start .args .letters) (start .args .edges) (now (start .args .words))
+    (moved .move-up .last .0)
+    (cleared .clear-states .last .0)
+    (start .pre)
+    (moved .move-up .kept .0)
+    (cleared .clear-states .kept .0)
+    (moved .move-up .ensures)
+    (cleared .clear-states .ensures)
 
--- src/lib.rt:101:5
 write-counts-requires : tie.Need-write-counts-requires
 write-counts-requires c κs = search needs
 
--- src/lib.rt:94:1
 same-length : tie.Need-same-length
 same-length c = search needs
 
--- src/lib.rt:94:1
 returns : tie.Need-returns
-returns c = ?
+returns c =
+    let counted = c .before .before in
+    let linked = counted .before .before .before .before in
+    let cleared = linked .before .before .before .before in
+    let moved = cleared .before .before .before .before in
+    let start = moved .before .before .before in
+    counted .write-counts .ensures
+    ∙ laid-out (start .args .states) (start .args .letters) (start .args .edges) (now (start .args .words))
+    (moved .move-up .last .0)
+    (cleared .clear-states .last .0)
+    (start .pre)
+    (moved .move-up .kept .0)
+    (cleared .clear-states .kept .0)
+    (moved .move-up .ensures)
+    (cleared .clear-states .ensures)
+    (linked .link .last .0)
+    (linked .link .kept .0)
+    (linked .link .ensures)
 
 pub lay-out-spec : {M : Type 1} → statement M
 lay-out-spec =

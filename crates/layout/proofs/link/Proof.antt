@@ -1,17 +1,9 @@
 -- `layout::link` meets its contract: a turn links one edge (Linking). Assumes nothing.
-use mathlib.Core.Path.{_≡_, refl, _∙_}
-use Prim.Native.Nat.{_≤_, _-_}
+use Prim.Native.Nat.{_-_}
 use borrow.Author.Needs.{needs}
-use native.Mathlib.Omega.{arith}
-use denote.Ref.{now}
-use lib.ListN.{length}
-use Rattle.layout.specs.Steps.{Linked}
 use Rattle.layout.proofs.Linking.{Linking, linking-start, linking-turn, linking-asks, linking-end}
 use Rattle.layout.proofs.link.Statement.{statement}
 use Rattle.layout.proofs.link.Tie as tie
-use Rattle.layout.proofs.link.Reads as reads
-use Rattle.layout.proofs.link.Lts as lts
-use Rattle.layout.proofs.link_one.Reads as link-one-reads
 
 abbrev Inv-loop : tie.InvT-loop
 Inv-loop words₀ states edges r₀ words r =

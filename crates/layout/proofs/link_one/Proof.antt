@@ -1,16 +1,12 @@
 -- `layout::link_one` meets its contract (Linking). Assumes nothing.
 use mathlib.Core.Path.{_∙_}
-use denote.Ref.{now}
 use native.Mathlib.Omega.{arith}
+use borrow.Author.Needs.{needs}
+use denote.Ref.{now}
 use lib.ListN.{length-set}
 use Rattle.layout.proofs.Linking.{behind-small, link-one-is}
-use borrow.Author.Needs.{needs}
 use Rattle.layout.proofs.link_one.Statement.{statement}
 use Rattle.layout.proofs.link_one.Tie as tie
-use Rattle.layout.proofs.link_one.Reads as reads
-use Rattle.layout.proofs.link_one.Lts as lts
-use Rattle.layout.proofs.next_number.Reads as next-number-reads
-use Rattle.layout.proofs.set_head.Reads as set-head-reads
 
 mul-place : tie.Need-mul-place
 mul-place c = search needs

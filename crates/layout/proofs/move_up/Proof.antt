@@ -1,12 +1,8 @@
 -- `layout::move_up` meets its contract: a turn moves one word (Shifting). Assumes nothing.
 use borrow.Author.Needs.{needs}
-use native.Mathlib.Omega.{arith}
-use lib.ListN.{length, length-set}
 use Rattle.layout.proofs.Shifting.{Moving, move-start, move-turn, move-end}
 use Rattle.layout.proofs.move_up.Statement.{statement}
 use Rattle.layout.proofs.move_up.Tie as tie
-use Rattle.layout.proofs.move_up.Reads as reads
-use Rattle.layout.proofs.move_up.Lts as lts
 
 abbrev Inv-loop : tie.InvT-loop
 Inv-loop words₀ states edges i₀ words i = Moving states edges i words₀ words

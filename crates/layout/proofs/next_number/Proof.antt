@@ -1,11 +1,9 @@
 -- `layout::next_number` meets its contract: the last edge has no next, and any other has one if the edge behind it has its source (Linking). Assumes nothing.
+use borrow.Author.Needs.{needs}
 use denote.Ref.{now}
 use Rattle.layout.proofs.Linking.{behind-same, behind-differs, behind-last}
-use borrow.Author.Needs.{needs}
 use Rattle.layout.proofs.next_number.Statement.{statement}
 use Rattle.layout.proofs.next_number.Tie as tie
-use Rattle.layout.proofs.next_number.Reads as reads
-use Rattle.layout.proofs.next_number.Lts as lts
 
 add-if1 : tie.Need-add-if1
 add-if1 c = search needs

@@ -1,11 +1,9 @@
 -- `layout::set_head` meets its contract (Linking). Assumes nothing.
+use borrow.Author.Needs.{needs}
 use denote.Ref.{now}
 use Rattle.layout.proofs.Linking.{with-head-new, with-head-old}
-use borrow.Author.Needs.{needs}
 use Rattle.layout.proofs.set_head.Statement.{statement}
 use Rattle.layout.proofs.set_head.Tie as tie
-use Rattle.layout.proofs.set_head.Reads as reads
-use Rattle.layout.proofs.set_head.Lts as lts
 
 mul-if1 : tie.Need-mul-if1
 mul-if1 c = search needs

@@ -1,13 +1,11 @@
 -- `layout::write_counts` meets its contract. Assumes nothing.
-use denote.Ref.{now}
 use native.Mathlib.Omega.{arith}
+use borrow.Author.Needs.{needs}
+use denote.Ref.{now}
 use lib.ListN.{length-set}
 use Rattle.layout.proofs.Laying.{counts-set}
-use borrow.Author.Needs.{needs}
 use Rattle.layout.proofs.write_counts.Statement.{statement}
 use Rattle.layout.proofs.write_counts.Tie as tie
-use Rattle.layout.proofs.write_counts.Reads as reads
-use Rattle.layout.proofs.write_counts.Lts as lts
 
 cast-words : tie.Need-cast-words
 cast-words c = search needs
