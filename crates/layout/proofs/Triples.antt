@@ -6,9 +6,9 @@ use Prim.Native.Nat.{ℕ, zero, suc, _+_, _*_, _<_}
 use native.Mathlib.Omega.{arith}
 use lib.Dec.{eqb}
 use lib.ListN.{length, getD, length-append, List·getD-append}
-use lib.Seq.{getD-at}
+use lib.Seq.{ext-getD, getD-at}
 use Rattle.basics.proofs.Booleans.{either, eqb-eq, eqb-ne}
-use Rattle.automata.specs.System.{an-edge, edge-at}
+use Rattle.automata.specs.System.{Edge, an-edge, edge-at}
 use Rattle.layout.specs.Triples.{triple-at, triples-of}
 
 pub triples-length : (w : List ℕ) (m : ℕ) → length (triples-of w m) ≡ m
@@ -44,3 +44,16 @@ pub triple-same :
     getD v (5 + 3 * i) 0 ≡ getD w (5 + 3 * j) 0 → triple-at v i ≡ triple-at w j
 unfolding triple-at
 triple-same v w i j x y z = cc
+
+-- the words hold these edges
+pub triples-are :
+    (w : List ℕ) (es : List Edge) →
+    ((e : ℕ) → e < length es → getD w (3 + 3 * e) 0 ≡ edge-at es e .letter) →
+    ((e : ℕ) → e < length es → getD w (4 + 3 * e) 0 ≡ edge-at es e .target) →
+    ((e : ℕ) → e < length es → getD w (5 + 3 * e) 0 ≡ edge-at es e .source) → triples-of w (length es) ≡ es
+unfolding triple-at an-edge edge-at
+triples-are w es x y z =
+    ext-getD (an-edge 0 0 0) (triples-of w (length es)) es (triples-length w (length es))
+    (λ e l.
+    let m : e < length es = rw (triples-length w (length es)) at l in
+    triples-at w (length es) e m ∙ (λ i. record { source = z e m i; letter = x e m i; target = y e m i }))
