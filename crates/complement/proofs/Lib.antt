@@ -1,2 +1,4 @@
+pub mod Kept
 pub mod Lookup
+pub mod Meeting
 pub mod Stored

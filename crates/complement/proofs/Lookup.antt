@@ -11,10 +11,12 @@ use lib.ListN.{length}
 use Rattle.basics.proofs.Booleans.{either, and-false-l, and-false-r, and-make, eq-eqb, ne-eqb, eqb-eq, eqb-ne}
 use Rattle.automata.specs.Decision.{tabulate}
 use Rattle.automata.specs.System.{System, number-of}
+use Rattle.automata.proofs.Members.{number-le}
 use Rattle.tables.specs.Table.{wide-range}
 use Rattle.ncsb.specs.Moves.{Moves}
 use Rattle.ncsb.specs.Successors.{same, ncsb}
 use Rattle.ncsb.specs.declared.Quadruple.{Quadruple}
+use Rattle.patterns.proofs.Walks.{tabulate-length}
 use Rattle.complement.specs.Complement.{record-width}
 use Rattle.complement.specs.Records.{quadruple-at, records-of, capacity, Looked-up}
 
@@ -95,3 +97,14 @@ room-records w l = omega arith
 pub room-limit : (w : List ℕ) → 65535 ≤ length w / 4 → 65535 ≡ capacity w
 unfolding capacity record-width wide-range
 room-limit w l = omega arith
+
+-- a look-up that is not below the count gives the count
+pub looked-all : {w : List ℕ} {n : ℕ} {x : Quadruple} {r : ℕ} → Looked-up w n x r → n ≤ r → Looked-up w n x n
+unfolding records-of
+looked-all {w} {n} {x} {r} h l =
+    record {
+      number = λ d.
+          let e = h .number d in
+          let most = number-le (ncsb d) x (records-of w n) in
+          let long = tabulate-length n (quadruple-at w) in omega arith;
+    }

@@ -10,7 +10,7 @@ use Rattle.automata.specs.System.{Edge, Built}
 use Rattle.tables.specs.Table.{Limits, wide-range}
 use Rattle.ncsb.specs.declared.Quadruple.{Quadruple}
 use Rattle.complement.specs.Complement.{quadruple-words}
-use Rattle.complement.specs.Records.{capacity}
+use Rattle.complement.specs.Records.{capacity, with-quadruple, Looked-up}
 use Rattle.complement.specs.declared.explore.Progress.{Progress}
 
 -- a buffer that begins with these words, and is zero beyond them
@@ -64,3 +64,26 @@ pub record Shows (b : Built Quadruple) (words sets-words : List ℕ) (p : Progre
 pub data Ends (b : Built Quadruple) (words sets-words : List ℕ) (p : Progress) : Type 0 where
   within : Shows b words sets-words p → Ends b words sets-words p
   beyond : p .full ≡ true → capacity sets-words < length (b .states) → Ends b words sets-words p
+
+-- WHAT A STEP OF EXPLORING DOES: where the buffers keep something found, they then keep what the step makes of it
+pub record Turns
+    (step : Built Quadruple → Built Quadruple) (words sets-words : List ℕ) (p : Progress) (words-now sets-now : List ℕ) (p-now : Progress)
+    : Type 0 where
+  pub from : (b : Built Quadruple) → Shows b words sets-words p → Ends (step b) words-now sets-now p-now
+
+-- what a step asks: the buffers keep something found, and the source and the letter are a state and a letter of it
+pub record Step-asks (words sets-words : List ℕ) (p : Progress) (source letter : ℕ) : Type 0 where
+  pub built : Built Quadruple
+  pub shows : Shows built words sets-words p
+  pub inside : source < p .states
+  pub letter-inside : letter < 16
+
+-- a quadruple behind so many others, and its number: it is one of them, or new, or new and there is no room for it
+pub data Placed (sets-words : List ℕ) (count : ℕ) (x : Quadruple) (sets-now : List ℕ) (number : ℕ) : Type 0 where
+  known : number < count → Looked-up sets-words count x number → sets-now ≡ sets-words → Placed sets-words count x sets-now number
+  fresh :
+      number ≡ count → Looked-up sets-words count x count → count < capacity sets-words →
+      sets-now ≡ with-quadruple sets-words count x → Placed sets-words count x sets-now number
+  left-out :
+      number ≡ count → Looked-up sets-words count x count → capacity sets-words ≤ count → sets-now ≡ sets-words →
+      Placed sets-words count x sets-now number

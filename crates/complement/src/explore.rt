@@ -1,7 +1,13 @@
 // Exploring the complement: states by number in the records, and edges from word 3 on as letter, target and source.
+use crate::records;
+use ncsb::Quadruple;
 ghost use mathlib.Core.Path.{_≡_};
-ghost use Rattle.automata.specs.System.{an-edge};
-ghost use Rattle.complement.specs.Found.{with-edge, one-more};
+ghost use Prim.Native.Nat.{_≤_};
+ghost use Rattle.automata.specs.System.{an-edge, add-edge};
+ghost use Rattle.ncsb.specs.Moves.{Moves};
+ghost use Rattle.ncsb.specs.Successors.{ncsb};
+ghost use Rattle.complement.specs.Records.{capacity};
+ghost use Rattle.complement.specs.Found.{with-edge, one-more, Placed, Turns, Step-asks};
 
 // What has been found: how many states and edges, and whether there were more states than fit.
 pub(crate) struct Progress {
@@ -26,4 +32,62 @@ fn keep_edge(words: &mut [u16], edges: usize, source: u16, letter: u16, target: 
     words[at + 1] = target;
     words[at + 2] = source;
     edges + 1
+}
+
+// The number of a quadruple among so many states. One that was not met before gets the next number, and is stored if there is room.
+fn place(sets: &mut [u32], states: usize, x: Quadruple) -> usize
+    requires { ⌜ states ≤ capacity (now sets) ⌝ }
+    ensures { λ r. ⌜ Placed (now (sets .entry)) states x (now (sets .exit)) r ⌝ }
+{
+    let number = records::find(sets, states, x);
+    if number < states {
+        return number;
+    }
+    if states < records::room(sets) {
+        records::store(sets, states, x);
+    }
+    states
+}
+
+// Meets a successor of a state on a letter: an edge leads to it.
+fn meet(
+    words: &mut [u16],
+    sets: &mut [u32],
+    found: Progress,
+    source: usize,
+    letter: usize,
+    x: Quadruple,
+) -> Progress
+    requires { ⌜ Step-asks (now words) (now sets) found source letter ⌝ }
+    ensures { λ r. ⌜ ((d : Moves) → Turns (add-edge (ncsb d) source letter x)
+        (now (words .entry)) (now (sets .entry)) found (now (words .exit)) (now (sets .exit)) r) ⌝ }
+{
+    let states = found.states;
+    let target = place(sets, states, x);
+    if target >= records::room(sets) {
+        return Progress {
+            states,
+            edges: 0,
+            full: true,
+        };
+    }
+    let edges = keep_edge(
+        words,
+        found.edges,
+        source as u16,
+        letter as u16,
+        target as u16,
+    );
+    if target < states {
+        return Progress {
+            states,
+            edges,
+            full: false,
+        };
+    }
+    Progress {
+        states: states + 1,
+        edges,
+        full: false,
+    }
 }
