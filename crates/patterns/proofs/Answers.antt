@@ -1,9 +1,8 @@
 -- From the parts of the check to its answer. Assumes nothing.
 use mathlib.Core.Path.{_≡_, refl, sym, _∙_}
-use mathlib.Core.Bool.{Bool, true, false, cond}
+use mathlib.Core.Bool.{Bool, true, false}
 use mathlib.Core.List.{List}
 use Prim.Native.Nat.{ℕ, zero, suc}
-use native.Mathlib.Omega.{arith}
 use lib.Dec.{eqb}
 use Rattle.basics.specs.Buffers.{or-else}
 use Rattle.basics.proofs.Booleans.{ne-eqb}
@@ -13,7 +12,6 @@ use Rattle.patterns.specs.Check.{check-refusal, as-checked}
 use Rattle.patterns.specs.Masks.{masks-of}
 use Rattle.patterns.specs.Pattern.{moves}
 use Rattle.patterns.specs.Shape.{shape-of, forked, Shape-asks, Small-shape}
-use Rattle.patterns.specs.declared.Checked.{Checked}
 use Rattle.patterns.specs.declared.Checked.the-variants.{Passed, Refused}
 use Rattle.patterns.specs.declared.Shape.{Shape}
 use Rattle.patterns.proofs.Forks.{check-number}

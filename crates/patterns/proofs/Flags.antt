@@ -1,8 +1,8 @@
 -- The loops that gather the initial and the accepting states, over any test of states. Assumes nothing.
-use mathlib.Core.Path.{_≡_, refl, sym, _∙_, ap}
-use mathlib.Core.Bool.{Bool, true, false, _&&_}
+use mathlib.Core.Path.{_≡_, refl, _∙_, ap}
+use mathlib.Core.Bool.{Bool, true, false}
 use mathlib.Core.List.{List}
-use Prim.Native.Nat.{ℕ, zero, suc, _+_, _*_, _%_, _^_, _≤_, _<_}
+use Prim.Native.Nat.{ℕ, _+_, _*_, _%_, _^_, _≤_, _<_}
 use native.Mathlib.Omega.{arith}
 use native.Mathlib.Numerals.{add-one}
 use native.Mathlib.Nat.{one-mul, add-comm, add-zero}
@@ -12,9 +12,9 @@ use Rattle.basics.proofs.Booleans.{and-make, and-false-r, lt-ltb, eq-eqb, ne-eq
 use Rattle.sets.specs.Sets.{set-of}
 use Rattle.sets.proofs.Members.{set-of-lt}
 use Rattle.tables.specs.Table.{pattern-range, table-refusal, n-of, flags-of, is-initial, is-accepting, meaning}
-use Rattle.tables.proofs.Laws.{Valid, valid}
+use Rattle.tables.proofs.Laws.{valid}
 use Rattle.patterns.specs.Pattern.{initial-states, accepting-states}
-use Rattle.patterns.proofs.Walks.{shifted}
+use Rattle.patterns.proofs.General.{shifted}
 
 -- the set so far is that of the states below `state` of which the test holds
 pub record Gathered (f : ℕ → Bool) (n set state : ℕ) : Type 0 where

@@ -1,16 +1,16 @@
 -- Q2: n rounds reach a set that grows no more, so edges from Q2 stay in Q2; and a state is in Q2 exactly if an accepting state reaches it.
 -- Assumes nothing.
-use mathlib.Core.Path.{_≡_, refl, sym, _∙_, ap}
+use mathlib.Core.Path.{_≡_, sym, _∙_, ap}
 use mathlib.Core.Bool.{Bool, true, false, _&&_, _||_, not}
 use mathlib.Core.Logic.{_⊎_, inl, inr, _↔_}
-use Prim.Native.Nat.{ℕ, zero, suc, _+_, _^_, _≤_, _<_}
+use Prim.Native.Nat.{ℕ, zero, suc, _^_, _≤_, _<_}
 use native.Mathlib.Omega.{arith}
-use lib.Dec.{ltb, eqb}
+use lib.Dec.{ltb}
 use Rattle.basics.specs.Bounded.{any, count}
-use Rattle.basics.proofs.Booleans.{either, clash, and-l, and-r, and-make, or-l, or-r, or-true, true-not, not-false, eqb-eq, lt-ltb, ltb-lt, same-truth, and-false}
+use Rattle.basics.proofs.Booleans.{either, clash, and-l, and-r, and-make, or-l, or-r, or-true, true-not, not-false, lt-ltb, ltb-lt, same-truth}
 use Rattle.basics.proofs.Bounded.{any-make, any-find, search-to, count-le, count-less}
 use Rattle.automata.specs.Automaton.{Automaton, Closed}
-use Rattle.sets.specs.Sets.{has, set-of}
+use Rattle.sets.specs.Sets.{has}
 use Rattle.sets.proofs.Members.{has-set-of, set-of-lt, ext, has-lt}
 use Rattle.patterns.specs.Pattern.{accepting-states, grown, reached-in, inner-of}
 use Rattle.patterns.specs.Reach.{Reaches, From-accepting}

@@ -1,26 +1,25 @@
 -- The table by state and by letter of target sets: each entry is the targets of that state on that letter; and the loop that fills it.
 -- Assumes nothing.
-use mathlib.Core.Path.{_≡_, refl, sym, _∙_, ap}
-use mathlib.Core.Bool.{Bool, true, false}
+use mathlib.Core.Path.{_≡_, sym, _∙_, ap}
+use mathlib.Core.Bool.{true, false}
 use mathlib.Core.List.{List, []}
 use mathlib.Core.Logic.{_⊎_, inl, inr}
-use Prim.Native.Nat.{ℕ, zero, suc, _+_, _-_, _^_, _≤_, _<_}
+use Prim.Native.Nat.{ℕ, _+_, _^_, _≤_, _<_}
 use native.Mathlib.Omega.{arith}
 use lib.Dec.{ltb, eqb}
 use lib.ListN.{length, getD, set, replicate, length-set, length-replicate, getD-replicate, List·getD-eq-default}
 use lib.Seq.{getD-set-same, getD-set-other, ext-getD}
-use Rattle.basics.proofs.Booleans.{either, clash, not-both, eqb-eq, eqb-ne, ltb-lt, ltb-ge}
+use Rattle.basics.proofs.Booleans.{either, not-both, eqb-eq, eqb-ne, ltb-lt, ltb-ge}
 use Rattle.automata.specs.Automaton.{Automaton, Closed}
 use Rattle.automata.specs.Decision.{tabulate}
 use Rattle.automata.proofs.Graphs.{tabulate-at}
-use Rattle.sets.specs.Sets.{has}
 use Rattle.sets.proofs.Members.{empty, set-of-lt}
-use Rattle.tables.specs.Table.{pattern-range, table-refusal, n-of, k-of, meaning}
-use Rattle.tables.proofs.Laws.{Valid, valid, meaning-closed}
+use Rattle.tables.specs.Table.{pattern-range, table-refusal, n-of, meaning}
+use Rattle.tables.proofs.Laws.{valid, meaning-closed}
 use Rattle.patterns.specs.Pattern.{targets-of, moves}
 use Rattle.patterns.specs.Masks.{row-of, masks-of, Row-asks}
+use Rattle.patterns.proofs.General.{tabulate-length, zeros-at}
 use Rattle.patterns.proofs.Split.{has-targets}
-use Rattle.patterns.proofs.Walks.{tabulate-length, zeros-at}
 
 -- an automaton that the table has room for
 pub record Fits-masks (a : Automaton) : Type 0 where

@@ -1,6 +1,6 @@
 -- What a passed check says: the table is a pattern, so a wide table too; it is semi-deterministic; and its sets and its Q2 are as the
 -- construction asks. Assumes nothing.
-use mathlib.Core.Path.{_≡_, refl, sym, _∙_}
+use mathlib.Core.Path.{_≡_, refl}
 use mathlib.Core.Bool.{Bool, true, false, cond}
 use mathlib.Core.List.{List}
 use mathlib.Core.Logic.{inl, inr}

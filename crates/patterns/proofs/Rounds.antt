@@ -1,9 +1,9 @@
 -- The closure over the masks: a round over them is a round over the edges, so n rounds from the accepting states give Q2; and a round that
 -- adds nothing ends it. Assumes nothing.
 use mathlib.Core.Path.{_≡_, refl, sym, _∙_, ap}
-use mathlib.Core.Bool.{Bool, true, false, _&&_, _||_}
+use mathlib.Core.Bool.{Bool, true, _&&_, _||_}
 use mathlib.Core.List.{List, []}
-use mathlib.Core.Logic.{_⊎_, inl, inr}
+use mathlib.Core.Logic.{inl, inr}
 use Prim.Native.Nat.{ℕ, zero, suc, _+_, _^_, _≤_, _<_}
 use native.Mathlib.Omega.{arith}
 use native.Mathlib.Numerals.{add-one}
@@ -11,17 +11,17 @@ use lib.Dec.{ltb, eqb}
 use lib.Bits.{bitOr, or-lt}
 use lib.ListN.{getD}
 use Rattle.basics.specs.Bounded.{any}
-use Rattle.basics.proofs.Booleans.{either, and-l, and-r, and-make, or-l, or-r, or-true, lt-ltb, eqb-eq, eqb-ne, same-truth}
+use Rattle.basics.proofs.Booleans.{either, and-l, and-r, and-make, lt-ltb, eqb-eq, eqb-ne, same-truth}
 use Rattle.basics.proofs.Bounded.{any-make, any-find}
-use Rattle.automata.specs.Automaton.{Automaton, Closed}
+use Rattle.automata.specs.Automaton.{Automaton}
 use Rattle.sets.specs.Sets.{has, union}
-use Rattle.sets.proofs.Members.{ext, has-or, has-union, has-lt, union-lt}
-use Rattle.patterns.specs.Pattern.{targets-of, accepting-states, grown, reached-in, inner-of, moves}
+use Rattle.sets.proofs.Members.{ext, has-or, has-union, union-lt}
+use Rattle.patterns.specs.Pattern.{accepting-states, grown, reached-in, inner-of, moves}
 use Rattle.patterns.specs.Masks.{masks-of, joined, joined-in}
+use Rattle.patterns.proofs.General.{or-assoc, or-none, any-zero, any-suc}
 use Rattle.patterns.proofs.Inner.{led, led-make, led-find, has-grown, grown-lt, reached-lt, accepting-lt}
 use Rattle.patterns.proofs.Masks.{Fits-masks, mask-right, targets-lt}
 use Rattle.patterns.proofs.Split.{has-targets}
-use Rattle.patterns.proofs.Walks.{or-assoc, or-none}
 
 -- THE LOOPS
 module _ (masks : List (List ℕ)) (letters : ℕ) where
@@ -71,14 +71,6 @@ module _ (masks : List (List ℕ)) (letters : ℕ) where
             let before = rounds-stop rounds set reached round next (omega arith) e n same in
             sym same ∙ n ∙ ap (joined letters masks) before
       ]
-
-any-zero : (f : ℕ → Bool) → any 0 f ≡ false
-unfolding any
-any-zero f = refl
-
-any-suc : (k : ℕ) (f : ℕ → Bool) → any (suc k) f ≡ (any k f || f k)
-unfolding any
-any-suc k f = refl
 
 -- A ROUND OVER THE MASKS IS A ROUND OVER THE EDGES
 module _ (a : Automaton) (f : Fits-masks a) where

@@ -13,7 +13,7 @@ use Rattle.tables.specs.Rows.{pattern-A, pattern-B, no-initial, forked, doubled
 use Rattle.tables.specs.Table.{pattern-range, n-of, k-of, m-of, flags-of, head-of, record-at, letter-of, target-of, next-of, is-initial, is-accepting, chain-has, edge, meaning, flags-good, records-good, named, heads-good, nexts-good, chains-good, table-refusal}
 use Rattle.patterns.specs.Check.{check-refusal}
 use Rattle.patterns.specs.Pattern.{targets-of, initial-states, accepting-states, grown, reached-in, inner-of, forks, semi-deterministic}
-use Rattle.patterns.specs.Rows.{Check-row, checks, check-rows, check-row}
+use Rattle.patterns.specs.Rows.{checks, check-rows, check-row}
 
 right : (i : ℕ) → Bool
 right i = eqb (check-refusal (check-row i .words)) (check-row i .answer)

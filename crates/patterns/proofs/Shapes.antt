@@ -1,10 +1,10 @@
 -- What the step reads beside the masks, put together from its parts. Assumes nothing.
-use mathlib.Core.Path.{_≡_, refl, sym, _∙_, ap}
+use mathlib.Core.Path.{_≡_}
 use mathlib.Core.List.{List}
 use Prim.Native.Nat.{ℕ}
 use lib.Bits.{bitAnd}
 use Rattle.tables.specs.Table.{n-of, k-of, meaning}
-use Rattle.patterns.specs.Masks.{masks-of, joined-in}
+use Rattle.patterns.specs.Masks.{joined-in}
 use Rattle.patterns.specs.Pattern.{initial-states, accepting-states, inner-of, marks-of, moves}
 use Rattle.patterns.specs.Shape.{shape-of, Shape-asks, Small-shape}
 use Rattle.patterns.specs.declared.Shape.{Shape}

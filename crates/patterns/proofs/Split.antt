@@ -3,18 +3,18 @@
 -- Only here are the laws of Q2 shown: whoever builds on them cites Split, whatever Q2 is.
 use mathlib.Core.Path.{_≡_, refl, sym, _∙_, ap}
 use mathlib.Core.Bool.{Bool, true, false, _&&_, not}
-use mathlib.Core.Logic.{_⊎_, inl, inr}
-use Prim.Native.Nat.{ℕ, zero, suc, _+_, _^_, _≤_, _<_}
+use mathlib.Core.Logic.{inl, inr}
+use Prim.Native.Nat.{ℕ, _<_}
 use native.Mathlib.Omega.{arith}
 use lib.Dec.{ltb, eqb}
-use lib.Bits.{bitAnd, and-le-l}
+use lib.Bits.{and-le-l}
 use Rattle.basics.specs.Bounded.{each, count}
 use Rattle.basics.proofs.Booleans.{either, clash, and-l, and-r, and-make, and-false-r, true-not, eqb-eq, eqb-self, ne-eqb, lt-ltb, ltb-ge, same-truth}
 use Rattle.basics.proofs.Bounded.{each-all, count-less}
-use Rattle.automata.specs.Automaton.{Automaton, Path, Closed}
+use Rattle.automata.specs.Automaton.{Automaton, Closed}
 use Rattle.sets.specs.Sets.{has, size, set-of}
 use Rattle.sets.proofs.Members.{has-set-of, set-of-lt, has-and}
-use Rattle.ncsb.specs.Moves.{Moves, Spread, Split}
+use Rattle.ncsb.specs.Moves.{Spread, Split}
 use Rattle.patterns.specs.Pattern.{targets-of, initial-states, accepting-states, inner-of, marks-of, forks, semi-deterministic, moves}
 use Rattle.patterns.proofs.Inner.{accepting-has, has-accepting, accepting-lt, inner-lt, inner-accepting, inner-closed}
 

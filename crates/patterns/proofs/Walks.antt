@@ -1,17 +1,16 @@
 -- The walk along a state's chain: the sets so far, with what the rest of the chain still has, are the state's edges. Assumes nothing.
-use mathlib.Core.Path.{_≡_, refl, sym, _∙_, ap}
-use mathlib.Core.Bool.{Bool, true, false, _&&_, _||_, cond}
+use mathlib.Core.Path.{_≡_, sym, _∙_, ap}
+use mathlib.Core.Bool.{true, false, _||_, cond}
 use mathlib.Core.List.{List}
 use mathlib.Core.Logic.{_⊎_, inl, inr}
-use Prim.Native.Nat.{ℕ, zero, suc, _+_, _*_, _-_, _%_, _^_, _≤_, _<_}
+use Prim.Native.Nat.{ℕ, suc, _*_, _-_, _%_, _^_, _≤_, _<_}
 use native.Mathlib.Omega.{arith}
-use native.Mathlib.Nat.{one-mul, mod-eq-of-lt, lt-of-lt-of-le}
 use lib.Dec.{ltb, eqb}
 use lib.Pow.{pow-pos, pow-lt}
 use lib.Bits.{bitOr, or-lt}
-use lib.ListN.{length, getD, set, replicate, length-set, length-replicate, getD-replicate, List·getD-eq-default}
+use lib.ListN.{length, getD, set, replicate, length-set, length-replicate}
 use lib.Seq.{getD-set-same, getD-set-other, ext-getD}
-use Rattle.basics.proofs.Booleans.{either, and-make, eqb-eq, eqb-ne, eq-eqb, eqb-self, ne-eqb, lt-ltb, ltb-lt, ltb-ge}
+use Rattle.basics.proofs.Booleans.{either, eqb-eq, eqb-ne, eq-eqb, ne-eqb, lt-ltb}
 use Rattle.automata.specs.Decision.{tabulate}
 use Rattle.automata.proofs.Graphs.{tabulate-at}
 use Rattle.sets.specs.Sets.{has}
@@ -21,6 +20,7 @@ use Rattle.tables.specs.Table.{pattern-range, n-of, m-of, head-of, letter-of, t
 use Rattle.tables.proofs.Laws.{Valid, valid, next-later, chain-ends, chain-step, meaning-closed}
 use Rattle.patterns.specs.Pattern.{targets-of, moves}
 use Rattle.patterns.specs.Masks.{row-of, Row-asks}
+use Rattle.patterns.proofs.General.{or-assoc, or-none, zeros-at, tabulate-length, shifted}
 use Rattle.patterns.proofs.Split.{has-targets}
 
 -- the sets so far, with what the chain from record `at` on still has, are the state's edges
@@ -33,34 +33,6 @@ pub record Walked (t : List ℕ) (state : ℕ) (row : List ℕ) (at : ℕ) : Typ
 -- what is left of a chain: none past its end, and less with each record
 unfoldable pub left : (m at : ℕ) → ℕ
 left m at = cond (eqb at 0) 0 (suc m - at)
-
-pub or-assoc : (a b c : Bool) → ((a || b) || c) ≡ (a || (b || c))
-or-assoc true b c = refl
-or-assoc false b c = refl
-
-pub or-none : (a : Bool) → (a || false) ≡ a
-or-none true = refl
-or-none false = refl
-
--- empty sets in every place
-pub zeros-at : (k c : ℕ) → getD {A = ℕ} (replicate k 0) c 0 ≡ 0
-zeros-at k c =
-    elim (either (ltb c k)) [
-      | inl e ↦ getD-replicate k c 0 0 (ltb-lt c k e)
-      | inr e ↦
-          let past = ltb-ge c k e in
-          let long = length-replicate {A = ℕ} k 0 in
-          List·getD-eq-default (replicate k 0) 0 (omega arith)
-    ]
-
-pub tabulate-length : {A : Type 0} (k : ℕ) (f : ℕ → A) → length (tabulate k f) ≡ k
-unfolding tabulate
-tabulate-length zero f = refl
-tabulate-length (suc k) f = ap suc (tabulate-length k (λ i. f (suc i)))
-
--- the set of one state, as it is shifted
-pub shifted : (q : ℕ) → q < 32 → 1 * 2 ^ q % 2 ^ 32 ≡ 2 ^ q
-shifted q l = rw (one-mul (2 ^ q)) (mod-eq-of-lt (pow-lt {i = q} {j = 32} l))
 
 module _ (t : List ℕ) (states s : ℕ) (asks : Row-asks t states s) where
   v : Valid pattern-range t

@@ -1,6 +1,6 @@
 -- Which states an automaton's states reach, by edges on any letters. Assumes nothing: these are definitions.
 use mathlib.Core.Path.{_≡_}
-use mathlib.Core.Bool.{Bool, true}
+use mathlib.Core.Bool.{true}
 use Prim.Native.Nat.{ℕ, _<_}
 use Rattle.automata.specs.Automaton.{Automaton}
 

@@ -1,7 +1,6 @@
 -- `patterns::closure` meets its contract. The invariant: what is reached in `round` rounds. Assumes nothing.
 use mathlib.Core.Path.{_≡_}
 use Prim.Native.Nat.{_-_, _≤_}
-use native.Mathlib.Nat.{le-of-lt}
 use native.Mathlib.Omega.{arith}
 use Rattle.patterns.specs.Masks.{joined-in}
 use Rattle.patterns.proofs.Rounds.{rounds-start, round-turn, rounds-end, rounds-stop}
