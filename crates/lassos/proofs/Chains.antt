@@ -129,12 +129,20 @@ module _ {t w : List ℕ} {states letter base first r : ℕ} (h : Walked t w sta
       let o : 1 ≤ r = omega arith in
       let p = eqb-eq (letter-of t r) letter (and-l (eqb (colour w (base + target-of t r)) 0) e) in
       let q = eqb-eq (colour w (base + target-of t r)) 0 (and-r (eqb (letter-of t r) letter) e) in
-      white-at o (h .asks .number-to) q (h .within (base + target-of t r) (here o p refl))
-      (λ y k.
-      elim (h .passed y k) [
-        | inl v ↦ inl v
-        | inr v ↦ elim (chain-parts v) [ inl s ↦ inr (inl (sym (s .1))) | inr s ↦ inr (inr s) ]
-      ])
+      white-at
+      (record {
+        from-one = o;
+        number-to = h .asks .number-to;
+        white = q;
+        edge = h .within (base + target-of t r) (here o p refl);
+        rest = λ y k. h .within y (later o k);
+        passed =
+            λ y k.
+            elim (h .passed y k) [
+              | inl v ↦ inl v
+              | inr v ↦ elim (chain-parts v) [ inl s ↦ inr (inl (sym (s .1))) | inr s ↦ inr (inr s) ]
+            ];
+      })
 
   pub walked-none : r ≡ 0 → Next-white t w letter base first 0
   walked-none e =

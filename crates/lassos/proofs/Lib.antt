@@ -1,5 +1,7 @@
 pub mod Chains
+pub mod Descends
 pub mod Drains
+pub mod Explores
 pub mod Follows
 pub mod Given
 pub mod Inner

@@ -57,6 +57,12 @@ grows-grows p q = record { stays = λ x l o. q .stays x l (p .stays x l o) }
 pub grows-same : {n : ℕ} {w : List ℕ} → Grows n w w
 grows-same = record { stays = λ x l o. o }
 
+-- one node less on the stack
+pub record Left-off (g : Graph) (w w′ : List ℕ) (d : ℕ) : Type 0 where
+  pub search : Search g w′ d
+  pub grows : Grows (g .size) w w′
+  pub fewer : whites (g .size) w′ ≤ whites (g .size) w
+
 module _ {g : Graph} (closed : Bounded g) where
   -- A NODE ENTERS: a white node that is reached, with an edge from the top of the stack
   module _ {w w′ : List ℕ} {d x : ℕ} (h : Search g w d) (l : x < g .size) (white : colour w x ≡ 0) (e : Enters (g .size) w w′ x (g .first x) d) where
@@ -160,6 +166,14 @@ module _ {g : Graph} (closed : Bounded g) where
                   | inl s ↦ rw (s, e .at-first) small
                   | inr ne ↦ let k = e .others y b ne in rw (e .cursors y b ne) (h .cursors y b (omega arith))
                 ];
+            on-chain =
+                λ y z b o k.
+                elim (same-or y x) [
+                  | inl s ↦ let f = e .at-first in rw s (rw (s, f) at k)
+                  | inr ne ↦
+                      let q = e .others y b ne in
+                      h .on-chain y z b (omega arith) (rw (e .cursors y b ne) at k)
+                ];
             ahead = enter-ahead;
             finished =
                 λ y z b o t.
@@ -177,9 +191,9 @@ module _ {g : Graph} (closed : Bounded g) where
     advance-whites = whites-mono (g .size) w w′ (λ y b z. sym (e .colours y b) ∙ z)
 
     pub advance-keeps :
-        r ≤ g .last → ((y : ℕ) → g .Ahead x (cursor (g .size) w x) y → (1 ≤ colour w y) ⊎ g .Ahead x r y) →
-        Search g w′ d
-    advance-keeps small passed =
+        r ≤ g .last → ((y : ℕ) → g .Ahead x r y → g .Ahead x (cursor (g .size) w x) y) →
+        ((y : ℕ) → g .Ahead x (cursor (g .size) w x) y → (1 ≤ colour w y) ⊎ g .Ahead x r y) → Search g w′ d
+    advance-keeps small fewer passed =
         let fits : d ≤ g .size = (let k = h .room in omega arith) in
         record {
           long = let k = e .size in let j = h .long in omega arith;
@@ -199,6 +213,15 @@ module _ {g : Graph} (closed : Bounded g) where
               elim (same-or y x) [
                 | inl s ↦ rw (s, e .here) small
                 | inr ne ↦ let k = e .colours y b in rw (e .others y ne) (h .cursors y b (omega arith))
+              ];
+          on-chain =
+              λ y z b o k.
+              let q = e .colours y b in
+              elim (same-or y x) [
+                | inl s ↦
+                    let f = e .here in
+                    h .on-chain y z b (omega arith) (rw s (fewer z (rw (s, f) at k)))
+                | inr ne ↦ h .on-chain y z b (omega arith) (rw (e .others y ne) at k)
               ];
           ahead =
               λ y z b o t.
@@ -296,6 +319,13 @@ module _ {g : Graph} (closed : Bounded g) where
                   | inl s ↦ h .cursors y b (let k = h .grey d (omega arith) in rw s (omega arith))
                   | inr s ↦ h .cursors y b (omega arith)
                 ]);
+            on-chain =
+                λ y z b o k.
+                let q : g .Ahead y (cursor (g .size) w y) z = rw (e .cursors y b) at k in
+                elim (leave-colour y) [
+                  | inl s ↦ h .on-chain y z b (let j = h .grey d (omega arith) in rw s (omega arith)) q
+                  | inr s ↦ h .on-chain y z b (omega arith) q
+                ];
             ahead =
                 λ y z b o t.
                 let lift : 1 ≤ colour w z → 1 ≤ colour w′ z = leave-grows .stays z (closed .edge y z b t) in
@@ -359,6 +389,7 @@ module _ {g : Graph} (closed : Bounded g) where
           linked = λ i b. rw (r .stack i (omega arith), r .stack (suc i) (omega arith)) (h .linked i b);
           reached = λ y b o. h .reached y b (visited-before y b o);
           cursors = λ y b o. rw (r .cursors y b) (h .cursors y b (visited-before y b o));
+          on-chain = λ y z b o k. h .on-chain y z b (visited-before y b o) (rw (r .cursors y b) at k);
           ahead =
               λ y z b o t.
               elim (h .ahead y z b (visited-before y b o) t) [
@@ -384,6 +415,42 @@ module _ {g : Graph} (closed : Bounded g) where
   red-no-cycle {w} {x} c l k reds q =
       let s = red-way c (closed .edge x (q .behind) l (q .leaves)) (reds (q .behind) (q .leaves)) (q .returns) in
       let z = s .1 in omega arith
+
+  -- THE TOP, FINISHED: black where it does not accept
+  pub black-leaves :
+      {w w′ : List ℕ} {d x : ℕ} → Search g w (suc d) → x ≡ stacked (g .size) w d → ((y : ℕ) → Leads g x y → 1 ≤ colour w y) →
+      g .accepts x ≡ false → Recolours (g .size) w w′ x 2 → Left-off g w w′ d
+  black-leaves {w} {w′} {d} {x} h top done rejects e =
+      let e′ : Recolours (g .size) w w′ (stacked (g .size) w d) 2 = rw top at e in
+      record {
+        search =
+            leave-keeps h e′ (omega arith) (omega arith) (rw top at done) (λ z. absurd (omega arith))
+            (λ accepts cycle. clash accepts (rw top at rejects));
+        grows = leave-grows h e′ (omega arith) (omega arith);
+        fewer = leave-whites h e′ (omega arith) (omega arith);
+      }
+
+  -- red after an inner search that met no grey node: then all its targets are red, and it lies on no cycle
+  pub red-leaves :
+      {w w1 w′ : List ℕ} {d x : ℕ} → Search g w (suc d) → x ≡ stacked (g .size) w d → length w1 ≡ length w → Redder (g .size) w w1 → Red-closed g w1 →
+      ((y : ℕ) → Leads g x y → colour w1 y ≡ 3) → Recolours (g .size) w1 w′ x 3 → Left-off g w w′ d
+  red-leaves {w} {w1} {w′} {d} {x} h top same r c reds e =
+      let fits : d < g .size = (let k = h .room in omega arith) in
+      let top1 : x ≡ stacked (g .size) w1 d = top ∙ sym (r .stack d fits) in
+      let h1 = redder-keeps h r same c in
+      let e′ : Recolours (g .size) w1 w′ (stacked (g .size) w1 d) 3 = rw top1 at e in
+      let grey : colour w1 x ≡ 1 = rw top1 (h1 .grey d (omega arith)) in
+      let inside : x < g .size = rw top1 (h1 .inside d (omega arith)) in
+      let no-cycle : Cycle g x → ⊥ = red-no-cycle c inside grey reds in
+      let visited : (y : ℕ) → Leads g x y → 1 ≤ colour w1 y = λ y t. (let k = reds y t in omega arith) in
+      record {
+        search =
+            leave-keeps h1 e′ (omega arith) (omega arith) (rw top1 at visited) (λ z. rw top1 at reds)
+            (λ accepts. rw top1 at no-cycle);
+        grows = grows-grows (redder-grows h r) (leave-grows h1 e′ (omega arith) (omega arith));
+        fewer =
+            let p = redder-whites h r in let q = leave-whites h1 e′ (omega arith) (omega arith) in omega arith;
+      }
 
   -- A GREY NODE that the inner search meets: from it the stack leads on to the top
   stack-way : {w : List ℕ} {d : ℕ} → Search g w d → (i j : ℕ) → i ≤ j → j < d → Way g (stacked (g .size) w i) (stacked (g .size) w j)

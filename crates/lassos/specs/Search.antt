@@ -61,9 +61,10 @@ pub record Search (g : Graph) (w : List ℕ) (depth : ℕ) : Type 0 where
   pub distinct : (i j : ℕ) → i < j → j < depth → stacked (g .size) w i ≡ stacked (g .size) w j → ⊥
   pub on-stack : (x : ℕ) → x < g .size → colour w x ≡ 1 → (i : ℕ) × (i < depth) × (stacked (g .size) w i ≡ x)
   pub linked : (i : ℕ) → suc i < depth → Leads g (stacked (g .size) w i) (stacked (g .size) w (suc i))
-  -- visited nodes are reached; their targets are visited or still ahead of the cursor
+  -- visited nodes are reached; the cursor is on their chain; their targets are visited or still ahead
   pub reached : (x : ℕ) → x < g .size → 1 ≤ colour w x → Reached g x
   pub cursors : (x : ℕ) → x < g .size → 1 ≤ colour w x → cursor (g .size) w x ≤ g .last
+  pub on-chain : (x y : ℕ) → x < g .size → 1 ≤ colour w x → g .Ahead x (cursor (g .size) w x) y → Leads g x y
   pub ahead :
       (x y : ℕ) → x < g .size → 1 ≤ colour w x → Leads g x y →
       (1 ≤ colour w y) ⊎ g .Ahead x (cursor (g .size) w x) y

@@ -10,7 +10,7 @@ use Rattle.automata.specs.Lasso.{positions}
 use Rattle.tables.specs.Table.{n-of, m-of, letter-of, target-of, next-of, wide-range, table-refusal}
 use Rattle.lassos.specs.Graph.{Graph, Leads, Found}
 use Rattle.lassos.specs.Product.{Chain-to, product}
-use Rattle.lassos.specs.Search.{colour, stacked, whites, blacks, reddened, Search, Grows, Inner-asks, Waiting}
+use Rattle.lassos.specs.Search.{colour, stacked, whites, blacks, recoloured, reddened, Search, Grows, Inner-asks, Inner-says, Waiting}
 
 -- A NODE of the product, and numbers small enough to count with
 pub record Node-asks (u v : List ℕ) (states node : ℕ) : Type 0 where
@@ -35,14 +35,21 @@ pub record Edge-asks (t : List ℕ) (states nodes base number : ℕ) : Type 0 wh
 unfoldable pub white-edge : (t w : List ℕ) → (letter base number : ℕ) → Bool
 white-edge t w c b r = eqb (letter-of t r) c && eqb (colour w (b + target-of t r)) 0
 
--- the first record of the chain on this letter whose target is white, or zero
+-- a record of the chain on this letter whose target is white; records before it lead to visited nodes on this letter
+pub record White-at (t w : List ℕ) (letter base first r : ℕ) : Type 0 where
+  pub from-one : 1 ≤ r
+  pub number-to : r ≤ m-of t
+  pub white : colour w (base + target-of t r) ≡ 0
+  pub edge : Chain-to t letter base (base + target-of t r) first
+  pub rest : (y : ℕ) → Chain-to t letter base y (next-of t r) → Chain-to t letter base y first
+  pub passed :
+      (y : ℕ) → Chain-to t letter base y first →
+      (1 ≤ colour w y) ⊎ ((y ≡ base + target-of t r) ⊎ Chain-to t letter base y (next-of t r))
+
+-- the first such record, or zero
 pub data Next-white (t w : List ℕ) (letter base first : ℕ) (r : ℕ) : Type 0 where
   no-white : r ≡ 0 → ((y : ℕ) → Chain-to t letter base y first → 1 ≤ colour w y) → Next-white t w letter base first r
-  white-at :
-      1 ≤ r → r ≤ m-of t → colour w (base + target-of t r) ≡ 0 → Chain-to t letter base (base + target-of t r) first →
-      ((y : ℕ) → Chain-to t letter base y first →
-      (1 ≤ colour w y) ⊎ ((y ≡ base + target-of t r) ⊎ Chain-to t letter base y (next-of t r))) →
-      Next-white t w letter base first r
+  white-at : White-at t w letter base first r → Next-white t w letter base first r
 
 -- ONE EDGE followed by the inner search
 pub record Follow-asks (t w : List ℕ) (states size base number wait : ℕ) : Type 0 where
@@ -95,7 +102,7 @@ pub record Meets-asks (t u v w : List ℕ) (states size node : ℕ) : Type 0 whe
   pub asks : Inner-asks (product t u v) node w
 
 -- A NODE ENTERS
-pub record Enter-asks (t w : List ℕ) (states size node depth : ℕ) : Type 0 where
+pub record Enter-asks (w : List ℕ) (states size node depth : ℕ) : Type 0 where
   pub some : 1 ≤ states
   pub few : states < 65536
   pub inside : node < size
@@ -117,16 +124,11 @@ pub data Descended (g : Graph) (w w-now : List ℕ) (node depth : ℕ) : (r : Bo
       Descended g w w-now node depth true
   all-visited : w-now ≡ w → ((y : ℕ) → Leads g node y → 1 ≤ colour w y) → Descended g w w-now node depth false
 
-pub record Finish-asks (t u v w : List ℕ) (states size node depth : ℕ) : Type 0 where
-  pub top : Top-asks t u v w states size node depth
-  pub done : (y : ℕ) → Leads (product t u v) node y → 1 ≤ colour w y
-
--- the top leaves the stack, or it closes a cycle
-pub data Finished (g : Graph) (w w-now : List ℕ) (depth : ℕ) : (r : Bool) → Type 0 where
-  closes : Found g → Finished g w w-now depth true
-  leaves :
-      Search g w-now (depth - 1) → Grows (g .size) w w-now → whites (g .size) w-now ≤ whites (g .size) w →
-      Finished g w w-now depth false
+-- a finished node turns black, or, if it accepts, red after an inner search that met no grey node
+pub data Finished (g : Graph) (node : ℕ) (w w-now : List ℕ) : (r : Bool) → Type 0 where
+  closes : g .accepts node ≡ true → Inner-says g node w w-now true → Finished g node w w-now true
+  black : g .accepts node ≡ false → w-now ≡ recoloured w node 2 → Finished g node w w-now false
+  red : (w-red : List ℕ) → length w-red ≡ length w → Inner-says g node w w-red false → w-now ≡ recoloured w-red node 3 → Finished g node w w-now false
 
 -- THE SEARCH from the nodes on the stack
 pub record Explore-asks (t u v w : List ℕ) (states size depth : ℕ) : Type 0 where
@@ -138,8 +140,18 @@ pub data Explored (g : Graph) (w w-now : List ℕ) : (r : Bool) → Type 0 where
   exhausted : Search g w-now 0 → Grows (g .size) w w-now → Explored g w w-now false
 
 -- and from one state at the first position
+pub record Try-asks (t u v w : List ℕ) (states size state : ℕ) : Type 0 where
+  pub given : Given t u v states size
+  pub search : Search (product t u v) w 0
+  pub inside : state < states
+
 pub data Tried (g : Graph) (w w-now : List ℕ) (state : ℕ) : (r : Bool) → Type 0 where
   found : Found g → Tried g w w-now state true
   tried :
       Search g w-now 0 → Grows (g .size) w w-now → (g .starts state ≡ true → 1 ≤ colour w-now state) →
       Tried g w w-now state false
+
+-- and from all states
+pub data Searched (g : Graph) : (r : Bool) → Type 0 where
+  found : Found g → Searched g true
+  nothing : (Found g → ⊥) → Searched g false

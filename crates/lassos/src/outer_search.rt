@@ -1,5 +1,5 @@
 // The outer search: depth first through the product, from the initial states at the first position.
-use crate::inner_search;
+use crate::inner_search::meets_grey;
 use crate::nodes::node_base;
 use crate::nodes::node_letter;
 use tables::flags_of;
@@ -8,8 +8,12 @@ use tables::letter_of;
 use tables::next_of;
 use tables::target_of;
 ghost use mathlib.Core.Path.{_≡_};
-ghost use Rattle.lassos.specs.Steps.{Chain-asks, Edge-asks, white-edge, Next-white};
+ghost use Prim.Native.Nat.{_%_};
 ghost use lib.ListN.{length};
+ghost use Rattle.tables.specs.Table.{head-of};
+ghost use Rattle.lassos.specs.Product.{product};
+ghost use Rattle.lassos.specs.Search.{entered};
+ghost use Rattle.lassos.specs.Steps.{Chain-asks, Edge-asks, white-edge, Next-white, Enter-asks, Top-asks, Descended, Meets-asks, Finished, Explore-asks, Explored, Try-asks, Tried, Searched};
 
 // Whether a record is an edge on the letter to a white node.
 fn leads_to_white(
@@ -49,4 +53,148 @@ fn next_white(
         at = next_of(table, states, at);
     }
     0
+}
+
+// A white node turns grey and lies on the stack; its cursor stands at its first record.
+fn enter(table: &[u16], work: &mut [u32], states: usize, size: usize, node: usize, depth: usize)
+    requires { ⌜ Enter-asks (now work) states size node depth ⌝ }
+    ensures { λ _. ⌜ now (work .exit) ≡ entered size (now (work .entry)) node (head-of (now (table .entry)) (node % states)) depth ⌝ }
+{
+    work[node] = 1;
+    work[size + depth] = node as u32;
+    work[2 * size + node] = head_of(table, node % states) as u32;
+}
+
+// The next white target of the stack's top enters, and then the top's cursor moves on. Answers false where there is none.
+fn descend(
+    table: &[u16],
+    prefix: &[u8],
+    cycle: &[u8],
+    work: &mut [u32],
+    states: usize,
+    size: usize,
+    node: usize,
+    depth: usize,
+) -> bool
+    requires { ⌜ Top-asks (now table) (now prefix) (now cycle) (now work) states size node depth ⌝ }
+    ensures { λ r. ⌜ Descended (product (now (table .entry)) (now (prefix .entry)) (now (cycle .entry)))
+        (now (work .entry)) (now (work .exit)) node depth r ⌝ }
+{
+    let letter = node_letter(prefix, cycle, states, node);
+    let base = node_base(prefix, cycle, states, node);
+    let first = work[2 * size + node] as usize;
+    let at = next_white(table, work, states, letter, base, first);
+    if at == 0 {
+        return false;
+    }
+    enter(
+        table,
+        work,
+        states,
+        size,
+        base + target_of(table, states, at),
+        depth,
+    );
+    work[2 * size + node] = next_of(table, states, at) as u32;
+    true
+}
+
+// A node whose targets are all visited is finished. Answers whether it accepts and closes a cycle.
+fn finish(
+    table: &[u16],
+    prefix: &[u8],
+    cycle: &[u8],
+    work: &mut [u32],
+    states: usize,
+    size: usize,
+    node: usize,
+) -> bool
+    requires { ⌜ Meets-asks (now table) (now prefix) (now cycle) (now work) states size node ⌝ }
+    ensures { λ r. ⌜ Finished (product (now (table .entry)) (now (prefix .entry)) (now (cycle .entry))) node
+        (now (work .entry)) (now (work .exit)) r ⌝ }
+{
+    if flags_of(table, node % states) < 2 {
+        work[node] = 2;
+        return false;
+    }
+    if meets_grey(table, prefix, cycle, work, states, size, node) {
+        return true;
+    }
+    work[node] = 3;
+    false
+}
+
+// Searches from the one node on the stack until the stack is empty. Answers whether an accepting node on a cycle was found.
+fn explore(
+    table: &[u16],
+    prefix: &[u8],
+    cycle: &[u8],
+    work: &mut [u32],
+    states: usize,
+    size: usize,
+) -> bool
+    requires { ⌜ Explore-asks (now table) (now prefix) (now cycle) (now work) states size 1 ⌝ }
+    ensures { λ r. ⌜ Explored (product (now (table .entry)) (now (prefix .entry)) (now (cycle .entry)))
+        (now (work .entry)) (now (work .exit)) r ⌝ }
+{
+    let mut depth: usize = 1;
+    while depth > 0 {
+        let top = depth - 1;
+        let node = work[size + top] as usize;
+        if descend(table, prefix, cycle, work, states, size, node, depth) {
+            depth = depth + 1;
+        } else {
+            if finish(table, prefix, cycle, work, states, size, node) {
+                return true;
+            }
+            depth = top;
+        }
+    }
+    false
+}
+
+// Searches from one state at the first position, if it is initial and white.
+fn try_state(
+    table: &[u16],
+    prefix: &[u8],
+    cycle: &[u8],
+    work: &mut [u32],
+    states: usize,
+    size: usize,
+    state: usize,
+) -> bool
+    requires { ⌜ Try-asks (now table) (now prefix) (now cycle) (now work) states size state ⌝ }
+    ensures { λ r. ⌜ Tried (product (now (table .entry)) (now (prefix .entry)) (now (cycle .entry)))
+        (now (work .entry)) (now (work .exit)) state r ⌝ }
+{
+    if flags_of(table, state) % 2 != 1 {
+        return false;
+    }
+    if work[state] != 0 {
+        return false;
+    }
+    enter(table, work, states, size, state, 0);
+    explore(table, prefix, cycle, work, states, size)
+}
+
+// Searches from all initial states. Answers whether an accepting node that is reached lies on a cycle.
+pub(crate) fn search(
+    table: &[u16],
+    prefix: &[u8],
+    cycle: &[u8],
+    work: &mut [u32],
+    states: usize,
+    size: usize,
+) -> bool
+    requires { ⌜ Explore-asks (now table) (now prefix) (now cycle) (now work) states size 0 ⌝ }
+    ensures { λ r. ⌜ Searched (product (now (table .entry)) (now (prefix .entry)) (now (cycle .entry))) r ⌝ }
+{
+    let mut state: usize = 0;
+    while state < states {
+        if try_state(table, prefix, cycle, work, states, size, state) {
+            return true;
+        }
+        state += 1;
+    }
+    false
 }

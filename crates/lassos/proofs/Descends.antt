@@ -1,0 +1,221 @@
+-- Laws of one step of the outer search: a white target of the stack's top enters, and the top's cursor moves on. Assumes nothing.
+use mathlib.Core.Path.{_≡_, refl, sym, _∙_, ap}
+use mathlib.Core.Bool.{Bool, true, false}
+use mathlib.Core.List.{List}
+use mathlib.Core.Logic.{_⊎_, inl, inr}
+use Prim.Native.Nat.{ℕ, zero, suc, _+_, _*_, _-_, _/_, _%_, _≤_, _<_}
+use native.Mathlib.Omega.{arith}
+use native.Mathlib.Nat.{mod-lt}
+use lib.Dec.{eqb}
+use lib.ListN.{length, getD, set}
+use Rattle.basics.proofs.Booleans.{eq-eqb, clash}
+use Rattle.basics.proofs.Bounded.{count-less}
+use Rattle.tables.specs.Access.{Record-asks}
+use Rattle.tables.specs.Table.{n-of, m-of, head-of, target-of, next-of}
+use Rattle.lassos.specs.Graph.{Graph, Leads, Bounded, Way, stay, onward, Reached}
+use Rattle.lassos.specs.Product.{Chain-to, node-letter, node-base, product}
+use Rattle.lassos.specs.Search.{colour, stacked, cursor, whites, entered, advanced, Search, Grows}
+use Rattle.lassos.specs.Steps.{Node-asks, Chain-asks, Next-white, White-at, no-white, white-at, Given, Enter-asks, Top-asks, Descended, deeper, all-visited}
+use Rattle.lassos.proofs.Chains.{reads-record, chain-inside}
+use Rattle.lassos.proofs.Given.{given-valid, given-bounded, given-few, given-some, given-small, given-node, given-chain, given-first}
+use Rattle.lassos.proofs.Outer.{grows-grows, enter-grows, enter-whites, enter-keeps, advance-grows, advance-whites, advance-keeps}
+use Rattle.lassos.proofs.Stores.{Enters, enters, Advances, advances}
+
+-- ENTERING, as it is written
+pub enter-state : {w : List ℕ} {states size x depth : ℕ} → Enter-asks w states size x depth → x % states < 65536
+enter-state {x = x} a = let k = mod-lt x (a .some) in let f = a .few in omega arith
+
+pub entered-is : (n : ℕ) (w : List ℕ) (x d : ℕ) {r first : ℕ} → r ≡ first → set (set (set w x 1) (n + d) x) (2 * n + x) r ≡ entered n w x first d
+unfolding entered
+entered-is n w x d e = rw e
+
+-- a white node is counted
+pub white-counted : (n : ℕ) (w : List ℕ) (x : ℕ) → x < n → colour w x ≡ 0 → 1 ≤ whites n w
+unfolding whites
+white-counted n w x l e =
+    let k = count-less n (λ y. false) (λ y. eqb (colour w y) 0) (λ y b f. absurd (clash f refl)) x l refl (eq-eqb e) in
+    omega arith
+
+-- a record that is not zero is one with a white target
+pub is-white : {t w : List ℕ} {letter base first r : ℕ} → Next-white t w letter base first r → (r ≡ 0 → ⊥) → White-at t w letter base first r
+is-white (no-white e f) ne = absurd (ne e)
+is-white (white-at h) ne = h
+
+-- THE TOP of the stack
+module _ {t u v w : List ℕ} {states size x depth : ℕ} (a : Top-asks t u v w states size x depth) where
+  top-index : depth - 1 < depth
+  top-index = let o = a .from-one in omega arith
+
+  pub top-inside : x < product t u v .size
+  top-inside = rw (a .top) (a .search .inside (depth - 1) top-index)
+
+  pub top-grey : colour w x ≡ 1
+  top-grey = rw (a .top) (a .search .grey (depth - 1) top-index)
+
+  pub top-node : Node-asks u v states x
+  top-node = given-node (a .given) top-inside
+
+  pub top-cursor : 2 * size + x < length w
+  top-cursor = let k = top-inside in let q = a .given .sized in let l = a .search .long in omega arith
+
+  pub top-small : 2 * size + x < 4294967296
+  top-small = let k = top-inside in let q = a .given .sized in let l = given-small (a .given) in omega arith
+
+  cursor-is : getD w (2 * size + x) 0 ≡ cursor (product t u v .size) w x
+  unfolding cursor
+  cursor-is = rw (a .given .sized)
+
+  cursor-to : getD w (2 * size + x) 0 ≤ m-of t
+  unfolding product
+  cursor-to = rw cursor-is (a .search .cursors x top-inside (let k = top-grey in omega arith))
+
+  module _ {letter base : ℕ} (is-letter : letter ≡ node-letter states u v x) (is-base : base ≡ node-base states u v x) where
+    -- the chain of its edges, from its cursor on
+    top-chain : Chain-asks t states size base (getD w (2 * size + x) 0)
+    top-chain = given-chain (a .given) top-inside is-letter is-base cursor-to
+
+    pub top-asks : Chain-asks t states (length w) base (getD w (2 * size + x) 0)
+    top-asks =
+        record {
+          valid = top-chain .valid;
+          counted = top-chain .counted;
+          number-to = top-chain .number-to;
+          fits = let k = top-chain .fits in let q = a .given .sized in let l = a .search .long in omega arith;
+          small = top-chain .small;
+        }
+
+    -- an edge of the product is one of this chain
+    to-chain : {r y : ℕ} → product t u v .Ahead x r y → Chain-to t letter base y r
+    unfolding product
+    to-chain h = rw (is-letter, is-base, a .given .counted) h
+
+    from-chain : {r y : ℕ} → Chain-to t letter base y r → product t u v .Ahead x r y
+    unfolding product
+    from-chain h = rw (is-letter, is-base, a .given .counted) at h
+
+    -- no white node is ahead: all targets are visited
+    pub none-white : {r : ℕ} → Next-white t w letter base (getD w (2 * size + x) 0) r → r ≡ 0 → Descended (product t u v) w w x depth false
+    none-white (no-white e f) z =
+        all-visited refl
+        (λ y h.
+        elim (a .search .ahead x y top-inside (let k = top-grey in omega arith) h) [
+          | inl o ↦ o
+          | inr o ↦ f y (to-chain (rw cursor-is o))
+        ])
+    none-white (white-at h) z = absurd (let o = h .from-one in omega arith)
+
+    -- the next white target enters
+    module _ {r : ℕ} (h : White-at t w letter base (getD w (2 * size + x) 0) r) where
+      pub white-record : Record-asks t states r
+      white-record =
+          reads-record (given-chain (a .given) top-inside is-letter is-base (h .number-to)) (h .from-one)
+
+      module _ {to : ℕ} (is-target : to ≡ target-of t r) where
+        target-is : base + target-of t r ≡ base + to
+        target-is = rw is-target
+
+        to-inside : base + to < product t u v .size
+        to-inside =
+            let k = chain-inside top-chain letter (base + target-of t r) (h .edge) in
+            let q = a .given .sized in let e = target-is in omega arith
+
+        to-white : colour w (base + to) ≡ 0
+        to-white = rw target-is at (h .white)
+
+        to-room : depth < product t u v .size
+        to-room =
+            let k = white-counted (product t u v .size) w (base + to) to-inside to-white in
+            let j = a .search .room in omega arith
+
+        pub to-asks : Enter-asks w states size (base + to) depth
+        to-asks =
+            let q = a .given .sized in
+            let e = a .given .counted in
+            record {
+              some = let k = given-some (a .given) in omega arith;
+              few = let k = given-few (a .given) in omega arith;
+              inside = let k = to-inside in omega arith;
+              room = let k = to-room in omega arith;
+              long = let k = a .search .long in omega arith;
+              small = let k = given-small (a .given) in omega arith;
+            }
+
+        -- and then the cursor moves on
+        module _ {w1 : List ℕ} (is-entered : w1 ≡ entered size w (base + to) (head-of t ((base + to) % states)) depth) {next : ℕ}
+            (is-next : next ≡ next-of t r) where
+          to-enters : Enters (product t u v .size) w w1 (base + to) (product t u v .first (base + to)) depth
+          unfolding product
+          to-enters =
+              let e : w1 ≡ entered (product t u v .size) w (base + to) (head-of t ((base + to) % n-of t)) depth =
+              rw (a .given .sized, a .given .counted) at is-entered in
+              rw e
+              (enters (product t u v .size) w (base + to) (head-of t ((base + to) % n-of t)) depth (a .search .long) to-inside to-room)
+
+          to-edge : Leads (product t u v) x (base + to)
+          to-edge =
+              a .search .on-chain x (base + to) top-inside (let k = top-grey in omega arith)
+              (rw cursor-is at (from-chain (rw target-is at (h .edge))))
+
+          to-reached : Reached (product t u v) (base + to)
+          to-reached =
+              let from = a .search .reached x top-inside (let k = top-grey in omega arith) in
+              record { start = from .start; begins = from .begins; way = onward (base + to) (from .way) to-edge }
+
+          to-first : product t u v .first (base + to) ≤ product t u v .last
+          unfolding product
+          to-first = given-first (a .given) to-inside (rw (a .given .counted))
+
+          to-linked : (i : ℕ) → suc i ≡ depth → Leads (product t u v) (stacked (product t u v .size) w i) (base + to)
+          to-linked i e =
+              let top : depth - 1 ≡ i = omega arith in
+              let s : x ≡ stacked (product t u v .size) w i = rw top at (a .top) in rw (← s) to-edge
+
+          deeper-search : Search (product t u v) w1 (suc depth)
+          deeper-search =
+              enter-keeps (given-bounded (a .given)) (a .search) to-inside to-white to-enters to-reached to-first to-linked
+
+          -- the cursor of the top is where it was
+          kept-cursor : cursor (product t u v .size) w1 x ≡ getD w (2 * size + x) 0
+          kept-cursor =
+              to-enters .cursors x top-inside
+              (λ s. let k = top-grey in let z : colour w x ≡ 0 = rw (← s) at to-white in omega arith)
+              ∙ sym cursor-is
+
+          next-advances : Advances (product t u v .size) w1 (set w1 (2 * size + x) next) x next
+          unfolding advanced
+          next-advances =
+              rw (a .given .sized) (advances (product t u v .size) w1 x next (deeper-search .long) top-inside)
+
+          next-to : next ≤ product t u v .last
+          unfolding product
+          next-to = let k = given-valid (a .given) .next r (h .from-one) (h .number-to) in omega arith
+
+          next-fewer : (y : ℕ) → product t u v .Ahead x next y → product t u v .Ahead x (cursor (product t u v .size) w1 x) y
+          next-fewer y k = rw kept-cursor (from-chain (h .rest y (rw is-next at (to-chain k))))
+
+          next-passed :
+              (y : ℕ) → product t u v .Ahead x (cursor (product t u v .size) w1 x) y →
+              (1 ≤ colour w1 y) ⊎ product t u v .Ahead x next y
+          next-passed y k =
+              let c = to-chain (rw kept-cursor at k) in
+              elim (h .passed y c) [
+                | inl o ↦
+                    inl
+                    (enter-grows (given-bounded (a .given)) (a .search) to-inside to-white to-enters .stays y
+                    (let b = chain-inside top-chain letter y c in let q = a .given .sized in omega arith)
+                    o)
+                | inr o ↦
+                    elim o [
+                      | inl s ↦ inl (let q = to-enters .here in rw (s, target-is) (omega arith))
+                      | inr s ↦ inr (from-chain (rw is-next s))
+                    ]
+              ]
+
+          pub next-deeper : Descended (product t u v) w (set w1 (2 * size + x) next) x depth true
+          next-deeper =
+              let bounded = given-bounded (a .given) in
+              deeper (advance-keeps bounded deeper-search next-advances next-to next-fewer next-passed)
+              (grows-grows (enter-grows bounded (a .search) to-inside to-white to-enters)
+              (advance-grows bounded deeper-search next-advances))
+              (let p = enter-whites bounded (a .search) to-inside to-white to-enters in
+              let q = advance-whites bounded deeper-search next-advances in omega arith)

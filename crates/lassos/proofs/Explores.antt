@@ -1,0 +1,313 @@
+-- Laws of the outer search as its functions see it: a node is finished, the stack is emptied, and all states are tried.
+-- Assumes nothing.
+use mathlib.Core.Path.{_≡_, refl, sym, _∙_, ap}
+use mathlib.Core.Bool.{Bool, true, false, _&&_}
+use mathlib.Core.List.{List}
+use mathlib.Core.Logic.{_⊎_, inl, inr}
+use Prim.Native.Nat.{ℕ, zero, suc, _+_, _*_, _-_, _/_, _%_, _≤_, _<_}
+use native.Mathlib.Omega.{arith}
+use native.Mathlib.Nat.{zero-mul}
+use native.Mathlib.Numerals.{add-one}
+use lib.Arith.{digits-lt}
+use lib.Dec.{eqb, leb, ltb}
+use lib.ListN.{length, getD, set}
+use Rattle.basics.proofs.Booleans.{clash, and-l, and-r, and-make, eqb-eq, eq-eqb, ltb-lt, lt-ltb, gt-leb, le-leb}
+use Rattle.automata.specs.Lasso.{positions}
+use Rattle.automata.proofs.Positions.{next-below}
+use Rattle.tables.specs.Table.{n-of, head-of, flags-of, is-initial, is-accepting}
+use Rattle.lassos.specs.Graph.{Graph, Leads, Bounded, Found, stay}
+use Rattle.lassos.specs.Product.{product}
+use Rattle.lassos.specs.Search.{colour, stacked, whites, recoloured, entered, Search, Grows, Redder, Red-closed, Inner-asks, Inner-says, met, none}
+use Rattle.lassos.specs.Steps.{Given, Meets-asks, Top-asks, Descended, deeper, all-visited, Finished, closes, black, red, Enter-asks, Explore-asks, Explored, found, exhausted, Try-asks, Tried, tried, Searched, nothing}
+use Rattle.lassos.proofs.Given.{size-is, given-bounded, given-few, given-some, given-small, given-first, given-state}
+use Rattle.lassos.proofs.Outer.{grows-grows, grows-same, enter-grows, enter-keeps, none-found, Left-off, black-leaves, red-leaves, grey-cycle}
+use Rattle.lassos.proofs.Stores.{same-or, recolours, Enters, enters}
+
+-- A FINISHED NODE
+module _ {t u v w : List ℕ} {states size x : ℕ} (a : Meets-asks t u v w states size x) where
+  pub finish-state : x % states < 65536
+  finish-state = given-state (a .given) (a .asks .inside)
+
+  pub finish-some : 1 ≤ states
+  finish-some = let k = given-some (a .given) in let e = a .given .counted in omega arith
+
+  pub finish-index : x < length w
+  finish-index = let k = a .asks .inside in let l = a .asks .long in omega arith
+
+  module _ {f : ℕ} (is-flags : f ≡ flags-of t (x % states)) where
+    pub finish-black : f < 2 → Finished (product t u v) x w (set w x 2) false
+    unfolding product is-accepting recoloured
+    finish-black l =
+        let e : f ≡ flags-of t (x % n-of t) = rw (a .given .counted) at is-flags in
+        let b : flags-of t (x % n-of t) < 2 = omega arith in black (gt-leb b) refl
+
+    pub finish-closes : 2 ≤ f → {w1 : List ℕ} {r : Bool} → Inner-says (product t u v) x w w1 r → r ≡ true → Finished (product t u v) x w w1 true
+    unfolding product is-accepting
+    finish-closes l h e =
+        let k : f ≡ flags-of t (x % n-of t) = rw (a .given .counted) at is-flags in
+        let b : 2 ≤ flags-of t (x % n-of t) = omega arith in closes (le-leb b) (rw e at h)
+
+  pub finish-red :
+      {w1 : List ℕ} {r : Bool} → length w1 ≡ length w → Inner-says (product t u v) x w w1 r → r ≡ false →
+      Finished (product t u v) x w (set w1 x 3) false
+  unfolding recoloured
+  finish-red {w1} s h e = red w1 s (rw e at h) refl
+
+-- THE STACK IS EMPTIED: the invariant
+pub record Exploring (t u v w : List ℕ) (states size : ℕ) (w-now : List ℕ) (depth : ℕ) : Type 0 where
+  pub given : Given t u v states size
+  pub same : length w-now ≡ length w
+  pub search : Search (product t u v) w-now depth
+  pub grows : Grows (product t u v .size) w w-now
+
+pub exploring-start :
+    {t u v w : List ℕ} {states size depth : ℕ} → Explore-asks t u v w states size depth →
+    Exploring t u v w states size w depth
+exploring-start a = record { given = a .given; same = refl; search = a .search; grows = grows-same }
+
+module _ {t u v w : List ℕ} {states size : ℕ} {w1 : List ℕ} {depth : ℕ} (h : Exploring t u v w states size w1 depth) where
+  pub exploring-end : depth ≤ 0 → Explored (product t u v) w w1 false
+  exploring-end l = let e : depth ≡ 0 = omega arith in exhausted (rw e at (h .search)) (h .grows)
+
+  module _ (o : 0 < depth) where
+    pub exploring-below : size + (depth - 1) < length w1
+    exploring-below = let k = h .search .room in let l = h .search .long in let q = h .given .sized in omega arith
+
+    pub exploring-small : (size + (depth - 1) < 4294967296) × (depth < 1073741824)
+    exploring-small = let k = h .search .room in let l = given-small (h .given) in let q = h .given .sized in omega arith
+
+    top-is : getD w1 (size + (depth - 1)) 0 ≡ stacked (product t u v .size) w1 (depth - 1)
+    unfolding stacked
+    top-is = rw (h .given .sized)
+
+    pub exploring-top : Top-asks t u v w1 states size (getD w1 (size + (depth - 1)) 0) depth
+    exploring-top = record { given = h .given; search = h .search; from-one = o; top = top-is }
+
+-- DEEPER
+module _ {t u v w : List ℕ} {states size : ℕ} {w1 w2 : List ℕ} {depth : ℕ} (h : Exploring t u v w states size w1 depth)
+    (same : length w2 ≡ length w1) where
+  pub exploring-deeper :
+      {x : ℕ} {r : Bool} → Descended (product t u v) w1 w2 x depth r → r ≡ true → Exploring t u v w states size w2 (depth + 1)
+  exploring-deeper (deeper s g l) e =
+      record {
+        given = h .given;
+        same = same ∙ h .same;
+        search = rw (add-one depth) s;
+        grows = grows-grows (h .grows) g;
+      }
+  exploring-deeper (all-visited s f) e = absurd (clash e refl)
+
+  pub deeper-less :
+      {x : ℕ} {r : Bool} → Descended (product t u v) w1 w2 x depth r → r ≡ true →
+      2 * whites size w2 + (depth + 1) < 2 * whites size w1 + depth
+  deeper-less (deeper s g l) e = rw (h .given .sized) (omega arith)
+  deeper-less (all-visited s f) e = absurd (clash e refl)
+
+-- FINISHED: all targets of the top are visited
+pub record Finishing (t u v w : List ℕ) (states size : ℕ) (w-now : List ℕ) (x depth : ℕ) : Type 0 where
+  pub exploring : Exploring t u v w states size w-now depth
+  pub from-one : 0 < depth
+  pub top : x ≡ stacked (product t u v .size) w-now (depth - 1)
+  pub done : (y : ℕ) → Leads (product t u v) x y → 1 ≤ colour w-now y
+
+pub finishing-start :
+    {t u v w : List ℕ} {states size : ℕ} {w1 w2 : List ℕ} {x depth : ℕ} {r : Bool} →
+    Exploring t u v w states size w1 depth → 0 < depth → x ≡ getD w1 (size + (depth - 1)) 0 →
+    Descended (product t u v) w1 w2 x depth r → r ≡ false → Finishing t u v w states size w2 x depth
+finishing-start h o n (deeper s g l) e = absurd (clash refl e)
+finishing-start h o n (all-visited s f) e =
+    rw s (record { exploring = h; from-one = o; top = n ∙ top-is h o; done = f })
+
+pub finishing-same :
+    {g : Graph} {w1 w2 : List ℕ} {x depth : ℕ} {r : Bool} → Descended g w1 w2 x depth r → r ≡ false → w2 ≡ w1
+finishing-same (deeper s g l) e = absurd (clash refl e)
+finishing-same (all-visited s f) e = s
+
+module _ {t u v w : List ℕ} {states size : ℕ} {w1 : List ℕ} {x depth : ℕ} (h : Finishing t u v w states size w1 x depth) where
+  bounded : Bounded (product t u v)
+  bounded = given-bounded (h .exploring .given)
+
+  from-top : depth ≡ suc (depth - 1)
+  from-top = let o = h .from-one in omega arith
+
+  search-top : Search (product t u v) w1 (suc (depth - 1))
+  search-top = rw from-top at (h .exploring .search)
+
+  inside-top : x < product t u v .size
+  inside-top = rw (h .top) (search-top .inside (depth - 1) (omega arith))
+
+  pub finishing-asks : Meets-asks t u v w1 states size x
+  finishing-asks =
+      let s = h .exploring .search in
+      record {
+        given = h .exploring .given;
+        asks =
+            record {
+              long = s .long;
+              inside = inside-top;
+              colours = s .colours;
+              begun = h .done;
+              finished = s .finished;
+              closed = record { edges = s .red };
+            };
+      }
+
+  -- the top closes a cycle
+  pub finishing-found :
+      {w2 : List ℕ} {r : Bool} → Finished (product t u v) x w1 w2 r → r ≡ true → Explored (product t u v) w w2 true
+  finishing-found (closes a (met y z t p b c)) e =
+      found (grey-cycle bounded search-top y z (rw (h .top) at t) p b c (rw (h .top) at a))
+  finishing-found (black a s) e = absurd (clash e refl)
+  finishing-found (red w′ l i s) e = absurd (clash e refl)
+
+  -- or it leaves the stack
+  finishing-off : {w2 : List ℕ} {r : Bool} → Finished (product t u v) x w1 w2 r → r ≡ false → Left-off (product t u v) w1 w2 (depth - 1)
+  finishing-off (closes a i) e = absurd (clash refl e)
+  finishing-off (black a s) e =
+      black-leaves bounded search-top (h .top) (h .done) a
+      (rw s (recolours (product t u v .size) w1 x 2 (search-top .long) inside-top))
+  finishing-off (red w′ l (none r c f) s) e =
+      red-leaves bounded search-top (h .top) l r c f
+      (rw s
+      (recolours (product t u v .size) w′ x 3 (let k = search-top .long in omega arith) inside-top))
+
+  pub finishing-left :
+      {w2 : List ℕ} {r : Bool} → length w2 ≡ length w1 → Finished (product t u v) x w1 w2 r → r ≡ false →
+      Exploring t u v w states size w2 (depth - 1)
+  finishing-left same f e =
+      let k = finishing-off f e in
+      record {
+        given = h .exploring .given;
+        same = same ∙ h .exploring .same;
+        search = k .search;
+        grows = grows-grows (h .exploring .grows) (k .grows);
+      }
+
+  pub finishing-less :
+      {w0 w2 : List ℕ} {r : Bool} → w1 ≡ w0 → Finished (product t u v) x w1 w2 r → r ≡ false →
+      2 * whites size w2 + (depth - 1) < 2 * whites size w0 + depth
+  finishing-less s f e =
+      let k = finishing-off f e .fewer in
+      let o = h .from-one in rw (h .exploring .given .sized, ← s) (omega arith)
+
+-- ONE STATE at the first position
+module _ {t u v w : List ℕ} {states size q : ℕ} (a : Try-asks t u v w states size q) where
+  pub try-few : q < 65536
+  try-few = let k = given-few (a .given) in let b = a .inside in let e = a .given .counted in omega arith
+
+  try-below : q < n-of t
+  try-below = let b = a .inside in let e = a .given .counted in omega arith
+
+  -- its node is the state's own number
+  try-inside : q < product t u v .size
+  try-inside =
+      let z : 0 < positions u v = (let b = next-below u v (a .given .endless) 0 in omega arith) in
+      let k = digits-lt {q = 0} {r = q} z try-below in
+      let s = size-is t u v in
+      let o = zero-mul (n-of t) in omega arith
+
+  pub try-index : q < length w
+  try-index = let k = try-inside in let l = a .search .long in omega arith
+
+  pub not-initial : {f : ℕ} → f ≡ flags-of t q → (f % 2 ≡ 1 → ⊥) → Tried (product t u v) w w q false
+  unfolding product is-initial
+  not-initial {f} e ne =
+      tried (a .search) grows-same
+      (λ s. absurd (ne (rw e (eqb-eq (flags-of t q % 2) 1 (and-r (ltb q (n-of t)) s)))))
+
+  pub not-white : (getD w q 0 ≡ 0 → ⊥) → Tried (product t u v) w w q false
+  unfolding colour
+  not-white ne = tried (a .search) grows-same (λ s. omega arith)
+
+  module _ (white : getD w q 0 ≡ 0) where
+    pub try-enter : Enter-asks w states size q 0
+    try-enter =
+        let s = a .given .sized in
+        let e = a .given .counted in
+        let b = try-inside in
+        record {
+          some = let k = given-some (a .given) in omega arith;
+          few = let k = given-few (a .given) in omega arith;
+          inside = omega arith;
+          room = omega arith;
+          long = let k = a .search .long in omega arith;
+          small = let k = given-small (a .given) in omega arith;
+        }
+
+    module _ {f : ℕ} (is-flags : f ≡ flags-of t q) (odd : f % 2 ≡ 1) {w1 : List ℕ} (is-entered : w1 ≡ entered size w q (head-of t (q % states)) 0) where
+      try-enters : Enters (product t u v .size) w w1 q (product t u v .first q) 0
+      unfolding product
+      try-enters =
+          let e : w1 ≡ entered (product t u v .size) w q (head-of t (q % n-of t)) 0 =
+          rw (a .given .sized, a .given .counted) at is-entered in
+          rw e
+          (enters (product t u v .size) w q (head-of t (q % n-of t)) 0 (a .search .long) try-inside (let b = try-inside in omega arith))
+
+      try-starts : product t u v .starts q ≡ true
+      unfolding product is-initial
+      try-starts =
+          let e : flags-of t q % 2 ≡ 1 = rw is-flags at odd in and-make (lt-ltb try-below) (eq-eqb e)
+
+      try-first : product t u v .first q ≤ product t u v .last
+      unfolding product
+      try-first = given-first (a .given) try-inside (rw (a .given .counted))
+
+      try-search : Search (product t u v) w1 1
+      unfolding colour
+      try-search =
+          enter-keeps (given-bounded (a .given)) (a .search) try-inside white try-enters
+          (record { start = q; begins = try-starts; way = stay }) try-first (λ i e. absurd (omega arith))
+
+      pub try-explore : Explore-asks t u v w1 states size 1
+      try-explore = record { given = a .given; search = try-search }
+
+      pub try-end : {w2 : List ℕ} {r : Bool} → Explored (product t u v) w1 w2 r → Tried (product t u v) w w2 q r
+      unfolding colour
+      try-end (found f) = found f
+      try-end (exhausted s g) =
+          tried s (grows-grows (enter-grows (given-bounded (a .given)) (a .search) try-inside white try-enters) g)
+          (λ e. g .stays q try-inside (let k = try-enters .here in omega arith))
+
+-- ALL STATES: the invariant
+pub record Trying (t u v w : List ℕ) (states size : ℕ) (w-now : List ℕ) (q : ℕ) : Type 0 where
+  pub given : Given t u v states size
+  pub same : length w-now ≡ length w
+  pub search : Search (product t u v) w-now 0
+  pub tried : (p : ℕ) → p < q → product t u v .starts p ≡ true → 1 ≤ colour w-now p
+
+pub trying-start : {t u v w : List ℕ} {states size : ℕ} → Explore-asks t u v w states size 0 → Trying t u v w states size w 0
+trying-start a =
+    record { given = a .given; same = refl; search = a .search; tried = λ p l. absurd (omega arith) }
+
+module _ {t u v w : List ℕ} {states size : ℕ} {w1 : List ℕ} {q : ℕ} (h : Trying t u v w states size w1 q) where
+  pub trying-asks : q < states → Try-asks t u v w1 states size q
+  trying-asks l = record { given = h .given; search = h .search; inside = l }
+
+  pub trying-found : {w2 : List ℕ} {r : Bool} → Tried (product t u v) w1 w2 q r → r ≡ true → Searched (product t u v) true
+  trying-found (found f) e = found f
+  trying-found (tried s g f) e = absurd (clash e refl)
+
+  pub trying-turn :
+      {w2 : List ℕ} {r : Bool} → length w2 ≡ length w1 → Tried (product t u v) w1 w2 q r → r ≡ false →
+      Trying t u v w states size w2 (q + 1)
+  trying-turn same (found f) e = absurd (clash refl e)
+  trying-turn same (tried s g f) e =
+      record {
+        given = h .given;
+        same = same ∙ h .same;
+        search = s;
+        tried =
+            λ p l b.
+            elim (same-or p q) [
+              | inl z ↦ rw z (f (rw z at b))
+              | inr ne ↦ g .stays p (given-bounded (h .given) .start p b) (h .tried p (omega arith) b)
+            ];
+      }
+
+  starts-below : states ≤ q → (p : ℕ) → product t u v .starts p ≡ true → p < q
+  unfolding product
+  starts-below l p b = let k = ltb-lt p (n-of t) (and-l (is-initial t p) b) in let e = h .given .counted in omega arith
+
+  pub trying-end : states ≤ q → Searched (product t u v) false
+  trying-end l =
+      nothing (none-found (given-bounded (h .given)) (h .search) (λ p b. h .tried p (starts-below l p b) b))

@@ -1,0 +1,137 @@
+-- `lassos::outer_search::explore` meets its contract. The invariant is that of the search. The measure falls: a node that enters
+-- the stack is no longer white, and one that leaves it makes it shorter. Assumes nothing.
+use mathlib.Core.Path.{refl, _∙_}
+use Prim.Native.Nat.{_+_, _*_, _-_}
+use native.Mathlib.Omega.{arith}
+use denote.Ref.{now}
+use lib.ListN.{getD}
+use Rattle.lassos.specs.Search.{whites}
+use Rattle.lassos.proofs.Explores.{Exploring, exploring-start, exploring-below, exploring-small, exploring-top, exploring-deeper, deeper-less, exploring-end, Finishing, finishing-start, finishing-same, finishing-asks, finishing-found, finishing-left, finishing-less}
+use Rattle.lassos.proofs.outer_search.explore.Statement.{statement}
+use Rattle.lassos.proofs.outer_search.explore.Tie as tie
+
+abbrev Inv-loop : tie.InvT-loop
+Inv-loop table prefix cycle work₀ states size depth₀ work depth =
+    Exploring table prefix cycle work₀ states size work depth
+
+abbrev μ-loop : tie.MeasureT-loop
+μ-loop table prefix cycle work₀ states size depth₀ work depth = 2 * whites size work + depth
+
+loop-holds : tie.Need-loop-holds Inv-loop μ-loop
+loop-holds c = exploring-start (c .before .before .before .before .pre)
+
+sub-top : tie.Need-sub-top Inv-loop μ-loop
+sub-top c = omega arith
+
+add-node : tie.Need-add-node Inv-loop μ-loop
+add-node c = omega (arith, exploring-small (c .before .loop .inv) (c .loop-test .taken))
+
+mul-node : tie.Need-mul-node Inv-loop μ-loop
+mul-node c = omega (arith, exploring-small (c .before .loop .inv) (c .loop-test .taken))
+
+slice-read-node : tie.Need-slice-read-node Inv-loop μ-loop
+slice-read-node c = exploring-below (c .before .before .loop .inv) (c .before .loop-test .taken)
+
+cast-node : tie.Need-cast-node Inv-loop μ-loop
+cast-node c =
+    let at = c .before .before in
+    omega (arith, c .slice-known2 .given (at .before .before .before .before .before .args .size + (at .loop .depth - 1)))
+
+descend-requires : tie.Need-descend-requires Inv-loop μ-loop
+descend-requires c κs =
+    let at = c .before .before in exploring-top (at .before .loop .inv) (at .loop-test .taken)
+
+-- where the top was looked at
+module _ (c : tie.After-descend Inv-loop μ-loop) where
+  abbrev turn : tie.In-loop Inv-loop μ-loop
+  turn = c .before .before .before
+
+add-depth : tie.Need-add-depth Inv-loop μ-loop
+add-depth c =
+    let at = turn (c .before .before .before) in
+    omega (arith, exploring-small (at .before .loop .inv) (at .loop-test .taken))
+
+loop-less : tie.Need-loop-less Inv-loop μ-loop
+loop-less c =
+    let after = c .before .before .before in
+    deeper-less (turn after .before .loop .inv) (after .descend .kept .1 .1 .1 .0) (after .descend .ensures) (c .if1 .taken)
+
+loop-again : tie.Need-loop-again Inv-loop μ-loop
+loop-again c =
+    let after = c .before .before .before in
+    exploring-deeper (turn after .before .loop .inv) (after .descend .kept .1 .1 .1 .0) (after .descend .ensures)
+    (c .if1 .taken)
+
+-- all targets of the top are visited
+module _ (c : tie.Else1 Inv-loop μ-loop) where
+  abbrev after : tie.After-descend Inv-loop μ-loop
+  after = c .before .before .before
+
+  abbrev begun : tie.Start Inv-loop μ-loop
+  begun = turn after .before .before .before .before .before .before
+
+  finishing :
+      Finishing (now (begun .args .table)) (now (begun .args .prefix)) (now (begun .args .cycle)) (now (begun .args .work))
+      (begun .args .states) (begun .args .size) (after .descend .last .1 .1 .1 .0)
+      (getD (turn after .before .loop .work) (begun .args .size + (turn after .before .loop .depth - 1)) 0)
+      (turn after .before .loop .depth)
+  finishing =
+      finishing-start (turn after .before .loop .inv) (turn after .loop-test .taken) refl (after .descend .ensures)
+      (c .if1 .left)
+
+finish-requires : tie.Need-finish-requires Inv-loop μ-loop
+finish-requires c κs = finishing-asks (finishing (c .before))
+
+same-length : tie.Need-same-length Inv-loop μ-loop
+same-length c =
+    let finished = c .before .before .before in
+    let a = after (finished .before .before) in
+    finished .finish .kept .1 .1 .1 .0 ∙ a .descend .kept .1 .1 .1 .0 ∙ turn a .before .loop .inv .same
+
+returns : tie.Need-returns Inv-loop μ-loop
+returns c =
+    let finished = c .before .before .before in
+    finishing-found (finishing (finished .before .before)) (finished .finish .ensures) (c .if2 .taken)
+
+loop-less-2 : tie.Need-loop-less-2 Inv-loop μ-loop
+loop-less-2 c =
+    let finished = c .before .before .before in
+    let e = finished .before .before in
+    finishing-less (finishing e) (finishing-same (after e .descend .ensures) (e .if1 .left)) (finished .finish .ensures)
+    (c .if2 .left)
+
+loop-again-2 : tie.Need-loop-again-2 Inv-loop μ-loop
+loop-again-2 c =
+    let finished = c .before .before .before in
+    finishing-left (finishing (finished .before .before)) (finished .finish .kept .1 .1 .1 .0) (finished .finish .ensures)
+    (c .if2 .left)
+
+same-length-2 : tie.Need-same-length-2 Inv-loop μ-loop
+same-length-2 c = c .before .loop .inv .same
+
+returns-2 : tie.Need-returns-2 Inv-loop μ-loop
+returns-2 c = exploring-end (c .before .loop .inv) (c .loop-test .left)
+
+pub explore-spec : {M : Type 1} → statement M
+explore-spec =
+    tie.close
+    (tie.spec
+    Inv-loop
+    μ-loop
+    loop-holds
+    sub-top
+    add-node
+    mul-node
+    slice-read-node
+    cast-node
+    descend-requires
+    add-depth
+    loop-less
+    loop-again
+    finish-requires
+    same-length
+    returns
+    loop-less-2
+    loop-again-2
+    same-length-2
+    returns-2)
