@@ -8,7 +8,10 @@ use lib.ListN.{length, getD, take}
 use lib.Seq.{sets}
 use Rattle.automata.specs.System.{Edge, Built}
 use Rattle.tables.specs.Table.{Limits, wide-range}
+use Rattle.ncsb.specs.Array.{from-array}
+use Rattle.ncsb.specs.Moves.{Moves}
 use Rattle.ncsb.specs.declared.Quadruple.{Quadruple}
+use Rattle.patterns.specs.declared.Shape.{Shape}
 use Rattle.complement.specs.Complement.{quadruple-words}
 use Rattle.complement.specs.Records.{capacity, with-quadruple, Looked-up}
 use Rattle.complement.specs.declared.explore.Progress.{Progress}
@@ -77,6 +80,17 @@ pub record Step-asks (words sets-words : List ℕ) (p : Progress) (source letter
   pub shows : Shows built words sets-words p
   pub inside : source < p .states
   pub letter-inside : letter < 16
+
+-- the same of all letters of a state
+pub record Expand-asks (words sets-words : List ℕ) (p : Progress) (source letters : ℕ) : Type 0 where
+  pub built : Built Quadruple
+  pub shows : Shows built words sets-words p
+  pub inside : source < p .states
+  pub letters-inside : letters ≤ 16
+
+-- the moves that a step reads off the table by state and by letter
+unfoldable pub array-moves : (masks : List (List ℕ)) → Shape → Moves
+array-moves m s = from-array m 0 (s .marks) (s .inner)
 
 -- a quadruple behind so many others, and its number: it is one of them, or new, or new and there is no room for it
 pub data Placed (sets-words : List ℕ) (count : ℕ) (x : Quadruple) (sets-now : List ℕ) (number : ℕ) : Type 0 where

@@ -1,13 +1,14 @@
 // Exploring the complement: states by number in the records, and edges from word 3 on as letter, target and source.
 use crate::records;
 use ncsb::Quadruple;
+use patterns::Shape;
 ghost use mathlib.Core.Path.{_≡_};
 ghost use Prim.Native.Nat.{_≤_};
-ghost use Rattle.automata.specs.System.{an-edge, add-edge};
+ghost use Rattle.automata.specs.System.{an-edge, add-edge, add-all, by-letters};
 ghost use Rattle.ncsb.specs.Moves.{Moves};
-ghost use Rattle.ncsb.specs.Successors.{ncsb};
-ghost use Rattle.complement.specs.Records.{capacity};
-ghost use Rattle.complement.specs.Found.{with-edge, one-more, Placed, Turns, Step-asks};
+ghost use Rattle.ncsb.specs.Successors.{ncsb, successors};
+ghost use Rattle.complement.specs.Records.{capacity, quadruple-at};
+ghost use Rattle.complement.specs.Found.{with-edge, one-more, Placed, Turns, Step-asks, Expand-asks, array-moves};
 
 // What has been found: how many states and edges, and whether there were more states than fit.
 pub(crate) struct Progress {
@@ -90,4 +91,70 @@ fn meet(
         edges,
         full: false,
     }
+}
+
+// Meets the successors of a state on one letter, by rising choice.
+fn add_successors(
+    masks: [[u32; 16]; 32],
+    shape: Shape,
+    words: &mut [u16],
+    sets: &mut [u32],
+    found: Progress,
+    source: usize,
+    x: Quadruple,
+    letter: usize,
+) -> Progress
+    requires { ⌜ Step-asks (now words) (now sets) found source letter ⌝ }
+    ensures { λ r. ⌜ Turns (add-all (ncsb (array-moves masks shape)) source letter (successors (array-moves masks shape) x letter))
+        (now (words .entry)) (now (sets .entry)) found (now (words .exit)) (now (sets .exit)) r ⌝ }
+{
+    let asked = x.on_letter(masks, shape.marks, shape.inner, letter);
+    if x.blocked(masks, shape.marks, letter, asked) {
+        return found;
+    }
+    let choices = asked.choices();
+    let mut now = found;
+    let mut choice = 0;
+    while choice < choices {
+        now = meet(
+            words,
+            sets,
+            now,
+            source,
+            letter,
+            x.successor(asked, choice as u32),
+        );
+        if now.full {
+            return now;
+        }
+        choice += 1;
+    }
+    now
+}
+
+// Adds all edges of a state, by rising letter.
+fn expand(
+    masks: [[u32; 16]; 32],
+    shape: Shape,
+    words: &mut [u16],
+    sets: &mut [u32],
+    found: Progress,
+    source: usize,
+) -> Progress
+    requires { ⌜ Expand-asks (now words) (now sets) found source (shape .letters) ⌝ }
+    ensures { λ r. ⌜ Turns (by-letters (ncsb (array-moves masks shape)) (shape .letters) source (quadruple-at (now (sets .entry)) source))
+        (now (words .entry)) (now (sets .entry)) found (now (words .exit)) (now (sets .exit)) r ⌝ }
+{
+    let x = records::load(sets, source);
+    let letters = shape.letters;
+    let mut now = found;
+    let mut letter = 0;
+    while letter < letters {
+        now = add_successors(masks, shape, words, sets, now, source, x, letter);
+        if now.full {
+            return now;
+        }
+        letter += 1;
+    }
+    now
 }

@@ -1,0 +1,92 @@
+-- The choices of a step, one by one: the successor for a choice is the successor with that number, and there are as many of them. The same of
+-- initial quadruples. All of it over the table by state and by letter that the code reads. Assumes nothing.
+use mathlib.Core.Path.{_≡_, refl, sym, _∙_, ap}
+use mathlib.Core.Bool.{Bool, true, false, cond}
+use mathlib.Core.List.{List, [], map}
+use Prim.Native.Nat.{ℕ, _%_, _^_, _≤_, _<_}
+use native.Mathlib.Nat.{mod-eq-of-lt}
+use native.Mathlib.Omega.{arith}
+use lib.ListN.{length, getD, length-map}
+use lib.Pow.{pow-mono}
+use Rattle.sets.specs.Sets.{size, subsets}
+use Rattle.sets.proofs.Size.{size-le}
+use Rattle.sets.proofs.Subsets.{subsets-length}
+use Rattle.ncsb.specs.Moves.{Moves}
+use Rattle.ncsb.specs.Array.{from-array, chosen, nth-initial, asks, blocked-by, nth-successor}
+use Rattle.ncsb.specs.Successors.{quadruple, initial-for, initial-free, initials, next-B, dead-end, blocked, free, successor-for, successors}
+use Rattle.ncsb.specs.declared.Asked.{Asked}
+use Rattle.ncsb.specs.declared.Quadruple.{Quadruple}
+use Rattle.ncsb.proofs.Lists.{getD-map}
+
+-- a choice below the number of parts is that part
+chosen-at : (s j : ℕ) → j < 2 ^ size 32 s → chosen s j ≡ getD (subsets 32 s) j 0
+unfolding chosen
+chosen-at s j l = rw (mod-eq-of-lt l) refl
+
+pub choices-fit : (s : ℕ) → 2 ^ size 32 s ≤ 2 ^ 32
+choices-fit s = pow-mono (size-le 32 s)
+
+module _ (m : List (List ℕ)) (f q2 : ℕ) (x : Quadruple) (c : ℕ) where
+  -- what stops the step
+  pub blocked-same :
+      {a : Asked} → a ≡ asks (from-array m 0 f q2) x c → blocked-by (from-array m 0 f 0) x c a ≡ blocked (from-array m 0 f q2) x c
+  unfolding blocked-by asks blocked dead-end from-array
+  blocked-same e = rw e refl
+
+  pub none-blocked : blocked (from-array m 0 f q2) x c ≡ true → successors (from-array m 0 f q2) x c ≡ []
+  unfolding successors
+  none-blocked b = rw b refl
+
+  some-free :
+      blocked (from-array m 0 f q2) x c ≡ false →
+      successors (from-array m 0 f q2) x c
+      ≡ map (successor-for (from-array m 0 f q2) x c) (subsets 32 (free (from-array m 0 f q2) x c))
+  unfolding successors from-array
+  some-free b = rw b refl
+
+  pub choices-count :
+      {a : Asked} → a ≡ asks (from-array m 0 f q2) x c → blocked (from-array m 0 f q2) x c ≡ false →
+      length (successors (from-array m 0 f q2) x c) ≡ 2 ^ size 32 (a .free)
+  unfolding asks
+  choices-count e b =
+      ap length (some-free b) ∙ length-map (subsets 32 (free (from-array m 0 f q2) x c)) (successor-for (from-array m 0 f q2) x c)
+      ∙ subsets-length 32 (free (from-array m 0 f q2) x c) ∙ rw e refl
+
+  by-choice :
+      (j : ℕ) →
+      nth-successor x (asks (from-array m 0 f q2) x c) j
+      ≡ successor-for (from-array m 0 f q2) x c (chosen (free (from-array m 0 f q2) x c) j)
+  unfolding nth-successor asks successor-for next-B
+  by-choice j = refl
+
+  pub choice-successor :
+      {a : Asked} → a ≡ asks (from-array m 0 f q2) x c → blocked (from-array m 0 f q2) x c ≡ false →
+      (j : ℕ) → j < 2 ^ size 32 (a .free) →
+      nth-successor x a j ≡ getD (successors (from-array m 0 f q2) x c) j (quadruple 0 0 0 0)
+  unfolding asks
+  choice-successor e b j l =
+      let parts = subsets 32 (free (from-array m 0 f q2) x c) in
+      let l′ : j < 2 ^ size 32 (free (from-array m 0 f q2) x c) = rw e at l in
+      let long = subsets-length 32 (free (from-array m 0 f q2) x c) in
+      ap (λ (a : Asked). nth-successor x a j) e ∙ by-choice j
+      ∙ ap (successor-for (from-array m 0 f q2) x c) (chosen-at (free (from-array m 0 f q2) x c) j l′)
+      ∙ sym (getD-map (successor-for (from-array m 0 f q2) x c) parts 0 (quadruple 0 0 0 0) j (omega arith))
+      ∙ ap (λ (ys : List Quadruple). getD ys j (quadruple 0 0 0 0)) (sym (some-free b))
+
+-- INITIAL QUADRUPLES
+module _ (i f q2 : ℕ) where
+  pub initials-count : length (initials (from-array [] i f q2)) ≡ 2 ^ size 32 (initial-free (from-array [] i f q2))
+  unfolding initials from-array
+  initials-count =
+      length-map (subsets 32 (initial-free (from-array [] i f q2))) (initial-for (from-array [] i f q2))
+      ∙ subsets-length 32 (initial-free (from-array [] i f q2))
+
+  pub choice-initial :
+      (j : ℕ) → j < 2 ^ size 32 (initial-free (from-array [] i f q2)) →
+      nth-initial (from-array [] i f q2) j ≡ getD (initials (from-array [] i f q2)) j (quadruple 0 0 0 0)
+  unfolding nth-initial initials from-array
+  choice-initial j l =
+      let long = subsets-length 32 (initial-free (from-array [] i f q2)) in
+      ap (initial-for (from-array [] i f q2)) (chosen-at (initial-free (from-array [] i f q2)) j l)
+      ∙ sym
+      (getD-map (initial-for (from-array [] i f q2)) (subsets 32 (initial-free (from-array [] i f q2))) 0 (quadruple 0 0 0 0) j (omega arith))

@@ -1,0 +1,185 @@
+-- The loops over the choices of one letter and over the letters of one state, within the room. Assumes nothing.
+use mathlib.Core.Path.{_≡_, refl, sym, _∙_, ap}
+use mathlib.Core.Bool.{Bool, true, false}
+use mathlib.Core.List.{List, []}
+use mathlib.Core.Logic.{inl, inr}
+use Prim.Native.Nat.{ℕ, zero, suc, _+_, _*_, _^_, _≤_, _<_}
+use native.Mathlib.Numerals.{add-one}
+use native.Mathlib.Omega.{arith}
+use lib.Dec.{eqb}
+use lib.ListN.{length, getD, take}
+use lib.Seq.{take-all}
+use Rattle.basics.proofs.Booleans.{either, eqb-eq, eqb-ne}
+use Rattle.automata.specs.System.{Built, state-at, add-edge, add-all, by-letters}
+use Rattle.automata.proofs.Exploring.{Grows, grows-self, grows-then, grows-edge, grows-letters, add-all-take}
+use Rattle.sets.specs.Sets.{size}
+use Rattle.ncsb.specs.Array.{from-array, asks, blocked-by, nth-successor}
+use Rattle.ncsb.specs.Moves.{Moves}
+use Rattle.ncsb.specs.Successors.{quadruple, blocked, successors, ncsb}
+use Rattle.ncsb.specs.declared.Asked.{Asked}
+use Rattle.ncsb.specs.declared.Quadruple.{Quadruple}
+use Rattle.patterns.specs.declared.Shape.{Shape}
+use Rattle.complement.specs.Found.{Shows, Ends, within, Turns, Step-asks, Expand-asks, array-moves}
+use Rattle.complement.specs.declared.explore.Progress.{Progress}
+use Rattle.complement.proofs.Choices.{blocked-same, none-blocked, choices-count, choice-successor}
+use Rattle.complement.proofs.Meeting.{capacity-words}
+use Rattle.complement.proofs.Reaching.{Reaching, reach-start, reach-asks, reach-turn, reach-full, reach-end}
+
+-- CHOICES one by one: an edge to each
+pub by-choice : Moves → (choice : ℕ → Quadruple) → (source letter count : ℕ) → Built Quadruple → Built Quadruple
+by-choice d y i c zero b = b
+by-choice d y i c (suc k) b = add-edge (ncsb d) i c (y k) (by-choice d y i c k b)
+
+module _ (d : Moves) (y : ℕ → Quadruple) (i c : ℕ) where
+  choice-grows : (j k : ℕ) → j ≤ k → (b : Built Quadruple) → Grows (by-choice d y i c j b) (by-choice d y i c k b)
+  unfolding by-choice
+  choice-grows j zero l b = let e : j ≡ 0 = omega arith in rw e (grows-self b)
+  choice-grows j (suc k) l b =
+      elim (either (eqb j (suc k))) [
+        | inl q ↦ rw (eqb-eq j (suc k) q) (grows-self (by-choice d y i c (suc k) b))
+        | inr q ↦
+            let ne = eqb-ne j (suc k) q in
+            grows-then (choice-grows j k (omega arith) b) (grows-edge (ncsb d) i c (y k) (by-choice d y i c k b))
+      ]
+
+  choice-all :
+      (ys : List Quadruple) → ((j : ℕ) → j < length ys → y j ≡ getD ys j (quadruple 0 0 0 0)) →
+      (k : ℕ) → k ≤ length ys → (b : Built Quadruple) → by-choice d y i c k b ≡ add-all (ncsb d) i c (take k ys) b
+  unfolding by-choice add-all ncsb state-at
+  choice-all ys same zero l b = refl
+  choice-all ys same (suc k) l b =
+      rw (choice-all ys same k (omega arith) b, same k (omega arith)) (sym (add-all-take (ncsb d) i c k ys b (omega arith)))
+
+-- the loop over the choices, for all moves at once
+pub record Choosing (y : ℕ → Quadruple) (i c : ℕ) (w₀ s₀ : List ℕ) (p₀ : Progress) (w s : List ℕ) (p : Progress) (count : ℕ) : Type 0 where
+  pub words-size : length w ≡ length w₀
+  pub sets-size : length s ≡ length s₀
+  pub reaching : (d : Moves) → Reaching (by-choice d y i c) w₀ s₀ p₀ w s p count
+
+module _ {y : ℕ → Quadruple} {i c : ℕ} {w₀ s₀ : List ℕ} {p₀ : Progress} where
+  pub choose-start : Choosing y i c w₀ s₀ p₀ w₀ s₀ p₀ 0
+  unfolding by-choice
+  choose-start = record { words-size = refl; sets-size = refl; reaching = λ d. reach-start (λ b. refl) }
+
+  module _ {w s : List ℕ} {p : Progress} {k : ℕ} (h : Choosing y i c w₀ s₀ p₀ w s p k) where
+    pub choose-asks : Moves → Step-asks w₀ s₀ p₀ i c → Step-asks w s p i c
+    unfolding by-choice
+    choose-asks d asked = reach-asks (h .reaching d) c (choice-grows d y i c 0 k (omega arith)) (asked .letter-inside) asked
+
+    module _ {w′ s′ : List ℕ} {p′ : Progress} (turn : (d : Moves) → Turns (add-edge (ncsb d) i c (y k)) w s p w′ s′ p′) where
+      pub choose-turn : length w′ ≡ length w → length s′ ≡ length s → p′ .full ≡ false → Choosing y i c w₀ s₀ p₀ w′ s′ p′ (k + 1)
+      unfolding by-choice
+      choose-turn e e′ left =
+          record {
+            words-size = e ∙ h .words-size;
+            sets-size = e′ ∙ h .sets-size;
+            reaching = λ d. reach-turn (h .reaching d) (λ b. refl) (turn d) e e′ left;
+          }
+
+      choose-full : (d : Moves) (n : ℕ) → k < n → p′ .full ≡ true → Turns (by-choice d y i c n) w₀ s₀ p₀ w′ s′ p′
+      unfolding by-choice
+      choose-full d n l full = reach-full (h .reaching d) (λ b. refl) (turn d) n (choice-grows d y i c (suc k) n l) full
+
+-- a step by another name
+turns-same :
+    {f g : Built Quadruple → Built Quadruple} {w s w′ s′ : List ℕ} {p p′ : Progress} → ((b : Built Quadruple) → f b ≡ g b) →
+    Turns f w s p w′ s′ p′ → Turns g w s p w′ s′ p′
+turns-same same turn = record { from = λ b shows. rw (← same b) (turn .from b shows) }
+
+-- ONE LETTER
+module _
+    (m : List (List ℕ)) (shape : Shape) (x : Quadruple) (i c : ℕ) {asked : Asked} {stopped : Bool}
+    (asking : asked ≡ asks (from-array m 0 (shape .marks) (shape .inner)) x c)
+    (stopping : stopped ≡ blocked-by (from-array m 0 (shape .marks) 0) x c asked) where
+  stops : stopped ≡ blocked (array-moves m shape) x c
+  unfolding array-moves
+  stops = stopping ∙ blocked-same m (shape .marks) (shape .inner) x c asking
+
+  pub letter-blocked :
+      {w s : List ℕ} {p : Progress} → stopped ≡ true →
+      Turns (add-all (ncsb (array-moves m shape)) i c (successors (array-moves m shape) x c)) w s p w s p
+  unfolding add-all array-moves
+  letter-blocked e =
+      record {
+        from = λ b shows.
+            rw (none-blocked m (shape .marks) (shape .inner) x c (sym stops ∙ e)) (within shows);
+      }
+
+  module _ (goes : stopped ≡ false) {choices : ℕ} (counted : choices ≡ 2 ^ size 32 (asked .free)) where
+    open-blocked : blocked (array-moves m shape) x c ≡ false
+    open-blocked = sym stops ∙ goes
+
+    all-choices : length (successors (array-moves m shape) x c) ≡ choices
+    unfolding array-moves
+    all-choices = choices-count m (shape .marks) (shape .inner) x c asking open-blocked ∙ sym counted
+
+    each-choice :
+        (b : Built Quadruple) →
+        by-choice (array-moves m shape) (nth-successor x asked) i c choices b
+        ≡ add-all (ncsb (array-moves m shape)) i c (successors (array-moves m shape) x c) b
+    unfolding array-moves
+    each-choice b =
+        let ys = successors (array-moves m shape) x c in
+        let long = all-choices in
+        choice-all (array-moves m shape) (nth-successor x asked) i c ys
+        (λ j l. choice-successor m (shape .marks) (shape .inner) x c asking open-blocked j (let e = counted in omega arith))
+        choices (omega arith) b
+        ∙ ap (λ (zs : List Quadruple). add-all (ncsb (array-moves m shape)) i c zs b) (take-all choices ys (omega arith))
+
+    module _ {w₀ s₀ w s : List ℕ} {p₀ p : Progress} {k : ℕ} (h : Choosing (nth-successor x asked) i c w₀ s₀ p₀ w s p k) where
+      pub letter-full :
+          {w′ s′ : List ℕ} {p′ : Progress} {z : Quadruple} → z ≡ nth-successor x asked k →
+          ((d : Moves) → Turns (add-edge (ncsb d) i c z) w s p w′ s′ p′) → k < choices → p′ .full ≡ true →
+          Turns (add-all (ncsb (array-moves m shape)) i c (successors (array-moves m shape) x c)) w₀ s₀ p₀ w′ s′ p′
+      letter-full e turn l full =
+          turns-same each-choice (choose-full h (λ d. rw e at (turn d)) (array-moves m shape) choices l full)
+
+      pub letter-end :
+          k ≤ choices → choices ≤ k →
+          Turns (add-all (ncsb (array-moves m shape)) i c (successors (array-moves m shape) x c)) w₀ s₀ p₀ w s p
+      letter-end l g =
+          let e : k ≡ choices = omega arith in
+          turns-same each-choice
+          (reach-end (h .reaching (array-moves m shape)) choices
+          (λ b. ap (λ (n : ℕ). by-choice (array-moves m shape) (nth-successor x asked) i c n b) e))
+
+-- ALL LETTERS: so many of a state's letters are done
+pub record Spelling (d : Moves) (i : ℕ) (x : Quadruple) (w₀ s₀ : List ℕ) (p₀ : Progress) (w s : List ℕ) (p : Progress) (count : ℕ) : Type 0 where
+  pub reaching : Reaching (λ k. by-letters (ncsb d) k i x) w₀ s₀ p₀ w s p count
+
+module _ {d : Moves} {i : ℕ} {x : Quadruple} {w₀ s₀ : List ℕ} {p₀ : Progress} where
+  pub spell-start : Spelling d i x w₀ s₀ p₀ w₀ s₀ p₀ 0
+  unfolding by-letters
+  spell-start = record { reaching = reach-start (λ b. refl) }
+
+  module _ {w s : List ℕ} {p : Progress} {k : ℕ} (h : Spelling d i x w₀ s₀ p₀ w s p k) where
+    pub spell-asks : {letters : ℕ} → k < letters → Expand-asks w₀ s₀ p₀ i letters → Step-asks w s p i k
+    unfolding by-letters
+    spell-asks l asked =
+        let most = asked .letters-inside in
+        let first : Step-asks w₀ s₀ p₀ i k =
+        record { built = asked .built; shows = asked .shows; inside = asked .inside; letter-inside = omega arith } in
+        reach-asks (h .reaching) k (λ b. grows-letters (ncsb d) 0 k i x b (omega arith)) (omega arith) first
+
+    module _ {w′ s′ : List ℕ} {p′ : Progress} (turn : Turns (add-all (ncsb d) i k (successors d x k)) w s p w′ s′ p′) where
+      pub spell-turn : length w′ ≡ length w → length s′ ≡ length s → p′ .full ≡ false → Spelling d i x w₀ s₀ p₀ w′ s′ p′ (k + 1)
+      unfolding by-letters ncsb
+      spell-turn e e′ left = record { reaching = reach-turn (h .reaching) (λ b. refl) turn e e′ left }
+
+      pub spell-full :
+          (letters : ℕ) → k < letters → p′ .full ≡ true → Turns (by-letters (ncsb d) letters i x) w₀ s₀ p₀ w′ s′ p′
+      unfolding by-letters ncsb
+      spell-full letters l full =
+          reach-full (h .reaching) (λ b. refl) turn letters (λ b. grows-letters (ncsb d) (suc k) letters i x b l) full
+
+    pub spell-end : (letters : ℕ) → k ≤ letters → letters ≤ k → Turns (by-letters (ncsb d) letters i x) w₀ s₀ p₀ w s p
+    spell-end letters l g =
+        let e : k ≡ letters = omega arith in
+        reach-end (h .reaching) letters (λ b. ap (λ (n : ℕ). by-letters (ncsb d) n i x b) e)
+
+pub expand-load : {w s : List ℕ} {p : Progress} {i letters : ℕ} → Expand-asks w s p i letters → 4 * i + 4 ≤ length s
+expand-load {w} {s} {p} {i} asked =
+    let l = asked .inside in
+    let fits = asked .shows .states .fits in
+    let e = asked .shows .states .counted in
+    let h = capacity-words s (suc i) (omega arith) in omega arith
