@@ -4,4 +4,6 @@ pub mod Letters
 pub mod Lookup
 pub mod Meeting
 pub mod Reaching
+pub mod Rising
+pub mod Second
 pub mod Stored

@@ -4,7 +4,7 @@ use mathlib.Core.Bool.{Bool, _||_, cond}
 use mathlib.Core.List.{List}
 use Prim.Native.Nat.{ℕ, zero, suc, _+_, _*_, _/_}
 use lib.Dec.{ltb}
-use lib.ListN.{length}
+use lib.ListN.{length, take}
 use Rattle.basics.specs.Buffers.{or-else, zeros, filled}
 use Rattle.tables.specs.Table.{Limits, wide-range}
 use Rattle.patterns.specs.Check.{check-refusal}
@@ -49,3 +49,11 @@ pub record Build-says (t : List ℕ) (r : Counts) (o o-now s s-now : List ℕ) :
       r ≡ as-counts (build-refusal t (room-of o s)) (length (complement t .states)) (length (complement t .edges))
   pub words : o-now ≡ after-build (build-refusal t (room-of o s)) (complement-words t) o
   pub sets : s-now ≡ after-build (build-refusal t (room-of o s)) (sets-words t) s
+
+-- THE COMPLEMENT: the used part of the table words, by the counts answered
+unfoldable pub used : Counts → List ℕ → List ℕ
+used r x = take (words-needed (r .states) (r .edges)) x
+
+-- and of the sets words
+unfoldable pub used-sets : Counts → List ℕ → List ℕ
+used-sets r x = take (record-width * r .states) x

@@ -18,7 +18,7 @@ use Rattle.patterns.specs.Check.{check-refusal}
 use Rattle.patterns.proofs.Split.{spread, split}
 
 -- two refusals, and none is met
-or-else-none : (x y : ℕ) → or-else x y ≡ 0 → (x ≡ 0) × (y ≡ 0)
+pub or-else-none : (x y : ℕ) → or-else x y ≡ 0 → (x ≡ 0) × (y ≡ 0)
 unfolding or-else
 or-else-none x y h =
     elim (either (eqb x 0)) [
