@@ -7,3 +7,4 @@ pub mod Reaching
 pub mod Rising
 pub mod Second
 pub mod Stored
+pub mod Third
