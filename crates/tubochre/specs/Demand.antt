@@ -1,0 +1,47 @@
+-- The second and the third demand, each as one statement over what the check, the build and the lasso decision answer and leave
+-- (document 01, "Numbering and result" and "Runs, and what the third demand compares"). Assumes nothing: these are definitions.
+use mathlib.Core.Path.{_≡_}
+use mathlib.Core.Bool.{true}
+use mathlib.Core.List.{List}
+use mathlib.Core.Logic.{_⊎_, _↔_}
+use Prim.Native.Nat.{ℕ, _≤_}
+use lib.ListN.{length}
+use Rattle.automata.specs.Automaton.{Takes, Single-run, Same}
+use Rattle.automata.specs.Lasso.{letter-at, Lasso}
+use Rattle.automata.specs.System.{Member, Reached, Exactly}
+use Rattle.tables.specs.Table.{k-of, meaning, wide-range, table-refusal}
+use Rattle.ncsb.specs.Bound.{bound}
+use Rattle.ncsb.specs.Step.{Start, Step}
+use Rattle.ncsb.specs.declared.Quadruple.{Quadruple}
+use Rattle.patterns.specs.Check.{check-refusal, as-checked}
+use Rattle.patterns.specs.Pattern.{moves}
+use Rattle.patterns.specs.declared.Checked.{Checked}
+use Rattle.patterns.specs.declared.Checked.the-variants.{Passed}
+use Rattle.complement.specs.Build.{Build-says, used, used-sets}
+use Rattle.complement.specs.Complement.{system-of, complement, complement-automaton, complement-words, sets-words}
+use Rattle.complement.specs.declared.Counts.{Counts}
+
+-- THE SECOND DEMAND, of an accepted build that left these words and sets
+pub record Built-exactly (t : List ℕ) (r : Counts) (words sets : List ℕ) : Type 0 where
+  -- the system explored is the paper's: its initial quadruples, what follows a reached one on a letter, and which accept
+  pub starts : (x : Quadruple) → Member x (system-of t .starts) ↔ Start (meaning t) (moves (meaning t)) x
+  pub steps :
+      (x : Quadruple) → Reached (system-of t) x → (c : ℕ) (y : Quadruple) →
+      Member y (system-of t .nexts x c) ↔ Step (meaning t) (moves (meaning t)) x c y
+  pub accepting : (x : Quadruple) → (system-of t .accepting x ≡ true) ↔ (x .B ≡ 0)
+  -- every reachable state and every edge and no other, once, numbered in order of discovery
+  pub exactly : Exactly (system-of t) (complement t)
+  -- the counts answered are its sizes
+  pub states : r .states ≡ length (complement t .states)
+  pub edges : r .edges ≡ length (complement t .edges)
+  -- the used words are its table: a valid wide one, which means it
+  pub table : used r words ≡ complement-words t
+  pub valid : table-refusal wide-range (used r words) ≡ 0
+  pub means : Same (meaning (used r words)) (complement-automaton t)
+  -- the used records are its states
+  pub records : used-sets r sets ≡ sets-words t
+
+unfoldable pub Second-demand : Type 0
+Second-demand =
+    (t : List ℕ) (r : Counts) (o o-now s s-now : List ℕ) → Build-says t r o o-now s s-now → r .number ≡ 0 →
+    Built-exactly t r o-now s-now
