@@ -1,0 +1,124 @@
+// A small reader laid over a chained table: the caller's words and the number of a record (document 01, "The chained table").
+// The checker proves no function over such a struct by itself, so `new`, `edge`, `next` and `count_edges` are proved by hand.
+// The first three are thin: the work is done on the slice and the number, by `first_record`, `edge_at` and `record_after`.
+// Every function answers on every slice: damaged links lead to the end.
+ghost use mathlib.Core.Path.{_≡_};
+ghost use Rattle.reader.specs.Chain.{reading-at, record-after, first-record, goes-on, edges-of};
+use tables::head_of;
+use tables::letter_of;
+use tables::next_of;
+use tables::records_of;
+use tables::states_of;
+use tables::target_of;
+
+// What stands at a record number: an edge, or the end of the chain.
+pub enum Reading {
+    Edge { letter: usize, target: usize },
+    End,
+}
+
+// A place in a state's chain. Zero, and any number past the last record, is the end.
+pub struct Reader<'a> {
+    pub table: &'a [u16],
+    pub number: usize,
+}
+
+// ON THE SLICE AND THE NUMBER
+
+// The first record of a state's chain; zero where it has none, or where there is no such state.
+pub fn first_record(table: &[u16], state: usize) -> usize
+    ensures { λ r. ⌜ r ≡ first-record (now (table .entry)) state ⌝ }
+{
+    if state < states_of(table) {
+        head_of(table, state)
+    } else {
+        0
+    }
+}
+
+// The edge of a record, or the end where there is no such record.
+pub fn edge_at(table: &[u16], number: usize) -> Reading
+    ensures { λ r. ⌜ r ≡ reading-at (now (table .entry)) number ⌝ }
+{
+    if number < 1 {
+        return Reading::End;
+    }
+    if number > records_of(table) {
+        return Reading::End;
+    }
+    let n = states_of(table);
+    Reading::Edge {
+        letter: letter_of(table, n, number),
+        target: target_of(table, n, number),
+    }
+}
+
+// The number of the record that follows in the chain; zero where there is no such record.
+pub fn record_after(table: &[u16], number: usize) -> usize
+    ensures { λ r. ⌜ r ≡ record-after (now (table .entry)) number ⌝ }
+{
+    if number < 1 {
+        return 0;
+    }
+    if number > records_of(table) {
+        return 0;
+    }
+    next_of(table, states_of(table), number)
+}
+
+// A walk goes on at an edge, for as many turns as there are records; so it ends where damaged links lead round.
+fn goes_on(reading: Reading, turns: usize, records: usize) -> bool
+    ensures { λ r. ⌜ r ≡ goes-on reading turns records ⌝ }
+{
+    match reading {
+        Reading::Edge {
+            letter: _,
+            target: _,
+        } => turns < records,
+        Reading::End => false,
+    }
+}
+
+// THE READER
+
+// A reader at the head of a state's chain.
+pub fn new<'a>(table: &'a [u16], state: usize) -> Reader<'a>
+    ensures { λ r. ⌜ (r .table ≡ table .entry) × (r .number ≡ first-record (now (table .entry)) state) ⌝ }
+{
+    Reader {
+        table,
+        number: first_record(table, state),
+    }
+}
+
+// What stands at the reader.
+pub fn edge<'a>(reader: Reader<'a>) -> Reading
+    ensures { λ r. ⌜ r ≡ reading-at (now (reader .entry .table)) (reader .entry .number) ⌝ }
+{
+    edge_at(reader.table, reader.number)
+}
+
+// The step to the next edge: the same words, and the record that follows.
+pub fn next<'a>(reader: Reader<'a>) -> Reader<'a>
+    ensures { λ r. ⌜ (r .table ≡ reader .entry .table)
+        × (r .number ≡ record-after (now (reader .entry .table)) (reader .entry .number)) ⌝ }
+{
+    Reader {
+        table: reader.table,
+        number: record_after(reader.table, reader.number),
+    }
+}
+
+// How many edges a state's chain has. Its parameters are plain, so its callers need no proof by hand.
+pub fn count_edges(table: &[u16], state: usize) -> usize
+    ensures { λ r. ⌜ r ≡ edges-of (now (table .entry)) state ⌝ }
+{
+    let records = records_of(table);
+    let mut reader = new(table, state);
+    let mut count = 0;
+    while goes_on(edge(reader), count, records) {
+        reader = next(reader);
+        count += 1;
+    }
+    count
+}
