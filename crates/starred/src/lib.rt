@@ -1,0 +1,1 @@
+// The starred trial pieces of document 01.
