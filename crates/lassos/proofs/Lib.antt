@@ -1,4 +1,6 @@
 pub mod Chains
+pub mod Clears
+pub mod Decides
 pub mod Descends
 pub mod Drains
 pub mod Explores
@@ -6,6 +8,7 @@ pub mod Follows
 pub mod Given
 pub mod Inner
 pub mod Outer
+pub mod Parts
 pub mod Places
 pub mod Product
 pub mod Stores

@@ -10,7 +10,7 @@ use lib.Dec.{eqb}
 use lib.ListN.{length}
 use Rattle.basics.specs.Bounded.{count}
 use Rattle.basics.proofs.Booleans.{eqb-eq, eq-eqb, eqb-ne, ne-eqb, clash}
-use Rattle.basics.proofs.Bounded.{count-mono, count-less}
+use Rattle.basics.proofs.Bounded.{count-le, count-mono, count-less}
 use Rattle.lassos.specs.Graph.{Graph, Leads, Bounded, Way, stay, onward, Reached, Cycle, Found}
 use Rattle.lassos.specs.Search.{colour, stacked, cursor, waiting, whites, blacks, Search, Grows, Redder, Red-closed, Inner-asks, Inner-says, met, none}
 use Rattle.lassos.proofs.Stores.{same-or, Recolours, Enters, Advances}
@@ -20,7 +20,12 @@ pub way-way : {g : Graph} {x y z : ℕ} → Way g x y → Way g y z → Way g x 
 way-way p stay = p
 way-way p (onward z q e) = onward z (way-way p q) e
 
--- COLOURS. Where no node turns white, there are no more white nodes
+-- COLOURS
+pub whites-le : (n : ℕ) (w : List ℕ) → whites n w ≤ n
+unfolding whites
+whites-le n w = count-le n _
+
+-- where no node turns white, there are no more white nodes
 pub whites-mono : (n : ℕ) (w w′ : List ℕ) → ((x : ℕ) → x < n → colour w′ x ≡ 0 → colour w x ≡ 0) → whites n w′ ≤ whites n w
 unfolding whites
 whites-mono n w w′ h =

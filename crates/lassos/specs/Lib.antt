@@ -1,3 +1,4 @@
+pub mod Decision
 pub mod Graph
 pub mod Product
 pub mod Refusals

@@ -3,9 +3,119 @@ mod inner_search;
 mod nodes;
 mod outer_search;
 
+use outer_search::search;
+use tables::letters_of;
+use tables::states_of;
+use tables::table_refusal;
+ghost use mathlib.Core.Path.{_≡_};
+ghost use Prim.Native.Nat.{_<_};
+ghost use lib.ListN.{length};
+ghost use Rattle.basics.specs.Buffers.{zeros};
+ghost use Rattle.automata.specs.Decision.{takes?};
+ghost use Rattle.automata.specs.Lasso.{all-below};
+ghost use Rattle.tables.specs.Table.{meaning};
+ghost use Rattle.lassos.specs.Decision.{Lasso-says, Takes-asks};
+ghost use Rattle.lassos.specs.Refusals.{parts-refusal, lasso-refusal};
+
 // What the decision answers: taken, not taken, or the number of the refusal.
 pub enum Decision {
     Taken,
     NotTaken,
     Refused(u32),
+}
+
+// Whether all letters of a part are below k.
+fn letters_below(part: &[u8], k: usize) -> bool
+    ensures { λ r. ⌜ r ≡ all-below k (now (part .entry)) ⌝ }
+{
+    let mut i = 0;
+    while i < part.len() {
+        let letter = part[i] as usize;
+        if letter >= k {
+            return false;
+        }
+        i += 1;
+    }
+    true
+}
+
+// The first of refusals 13 to 16 that a lasso meets for a table of n states and k letters and so many work words, or zero.
+pub fn parts_refusal(n: usize, k: usize, prefix: &[u8], cycle: &[u8], work: usize) -> u32
+    requires { ⌜ n < 65536 ⌝ }
+    ensures { λ r. ⌜ r ≡ parts-refusal n k (now (prefix .entry)) (now (cycle .entry)) work ⌝ }
+{
+    if cycle.len() == 0 {
+        return 13;
+    }
+    if prefix.len() > 4096 {
+        return 14;
+    }
+    if cycle.len() > 4096 {
+        return 14;
+    }
+    if !letters_below(prefix, k) {
+        return 15;
+    }
+    if !letters_below(cycle, k) {
+        return 15;
+    }
+    if work < 4 * n * (prefix.len() + cycle.len()) {
+        return 16;
+    }
+    0
+}
+
+// The first refusal that a decision meets, or zero: first the table's, then the lasso's.
+fn lasso_refusal(table: &[u16], prefix: &[u8], cycle: &[u8], work: usize) -> u32
+    ensures { λ r. ⌜ r ≡ lasso-refusal (now (table .entry)) (now (prefix .entry)) (now (cycle .entry)) work ⌝ }
+{
+    let refusal = table_refusal(table, 65535, 65535);
+    if refusal != 0 {
+        return refusal;
+    }
+    parts_refusal(states_of(table), letters_of(table), prefix, cycle, work)
+}
+
+// Sets all work words to zero.
+fn clear(work: &mut [u32])
+    ensures { λ _. ⌜ now (work .exit) ≡ zeros (now (work .entry)) ⌝ }
+{
+    let mut i = 0;
+    while i < work.len() {
+        work[i] = 0;
+        i += 1;
+    }
+}
+
+// Whether a table takes a lasso, none of which is refused. The work words are clear.
+fn takes(table: &[u16], prefix: &[u8], cycle: &[u8], work: &mut [u32]) -> bool
+    requires { ⌜ Takes-asks (now table) (now prefix) (now cycle) (now work) ⌝ }
+    ensures { λ r. ⌜ r ≡ takes? (meaning (now (table .entry))) (now (prefix .entry)) (now (cycle .entry)) ⌝ }
+{
+    let states = states_of(table);
+    search(
+        table,
+        prefix,
+        cycle,
+        work,
+        states,
+        (prefix.len() + cycle.len()) * states,
+    )
+}
+
+// Decides whether a table takes a lasso. Nothing is asked of the work words at entry, and they are all zero afterwards.
+pub fn decide_lasso(table: &[u16], prefix: &[u8], cycle: &[u8], work: &mut [u32]) -> Decision
+    ensures { λ r. ⌜ Lasso-says (now (table .entry)) (now (prefix .entry)) (now (cycle .entry)) r (now (work .entry)) (now (work .exit)) ⌝ }
+{
+    clear(work);
+    let refusal = lasso_refusal(table, prefix, cycle, work.len());
+    if refusal != 0 {
+        return Decision::Refused(refusal);
+    }
+    let taken = takes(table, prefix, cycle, work);
+    clear(work);
+    if taken {
+        return Decision::Taken;
+    }
+    Decision::NotTaken
 }

@@ -1,0 +1,158 @@
+-- The lasso decision: the search begins with clear work words, what it finds is what the automaton takes, and the answer is the
+-- definition's. Assumes nothing.
+use mathlib.Core.Path.{_≡_, refl, sym, _∙_, ap}
+use mathlib.Core.Bool.{Bool, true, false}
+use mathlib.Core.List.{List}
+use Prim.Native.Nat.{ℕ, zero, suc, _+_, _*_, _^_, _≤_, _<_}
+use native.Mathlib.Omega.{arith}
+use native.Mathlib.Nat.{mul-le-mul, mul-comm, mul-assoc}
+use lib.ListN.{length, getD}
+use Rattle.basics.specs.Buffers.{zeros}
+use Rattle.basics.proofs.Booleans.{not-both}
+use Rattle.automata.specs.Decision.{takes?}
+use Rattle.automata.specs.Lasso.{positions}
+use Rattle.automata.proofs.Cycles.{takes-cycle, cycle-takes}
+use Rattle.automata.proofs.Decision.{takes-right}
+use Rattle.tables.specs.Table.{n-of, meaning, wide-range}
+use Rattle.tables.proofs.Laws.{Valid, valid, meaning-closed}
+use Rattle.lassos.specs.Decision.{as-decision, decision, Lasso-says, Takes-asks}
+use Rattle.lassos.specs.Graph.{Graph, Found}
+use Rattle.lassos.specs.Product.{product}
+use Rattle.lassos.specs.Refusals.{lasso-refusal}
+use Rattle.lassos.specs.Search.{colour, Search}
+use Rattle.lassos.specs.Steps.{Given, Explore-asks, Searched, found, nothing}
+use Rattle.lassos.specs.declared.Decision.{Decision}
+use Rattle.lassos.specs.declared.Decision.the-variants.{Taken, NotTaken, Refused}
+use Rattle.lassos.proofs.Clears.{zeros-same, zeros-length, zeros-zeros, zeros-at}
+use Rattle.lassos.proofs.Given.{size-is}
+use Rattle.lassos.proofs.Outer.{whites-le}
+use Rattle.lassos.proofs.Parts.{Accepted, accepted}
+use Rattle.lassos.proofs.Product.{found-cycle, cycle-found}
+
+-- THE BEGINNING: all nodes are white, and the stack is empty
+pub fresh : (g : Graph) (w : List ℕ) → 4 * g .size ≤ length w → ((x : ℕ) → x < g .size → colour w x ≡ 0) → Search g w 0
+fresh g w long white =
+    let unmet : (x : ℕ) → x < g .size → 1 ≤ colour w x → ⊥ = λ x l o. (let k = white x l in omega arith) in
+    record {
+      long = long;
+      colours = λ x l. let k = white x l in omega arith;
+      room = let k = whites-le (g .size) w in omega arith;
+      inside = λ i l. absurd (omega arith);
+      grey = λ i l. absurd (omega arith);
+      distinct = λ i j l m. absurd (omega arith);
+      on-stack = λ x l k. absurd (unmet x l (omega arith));
+      linked = λ i l. absurd (omega arith);
+      reached = λ x l o. absurd (unmet x l o);
+      cursors = λ x l o. absurd (unmet x l o);
+      on-chain = λ x y l o. absurd (unmet x l o);
+      ahead = λ x y l o. absurd (unmet x l o);
+      finished = λ x y l o. absurd (unmet x l (omega arith));
+      red = λ x y l o. absurd (unmet x l (omega arith));
+      fruitless = λ x l o. absurd (unmet x l (omega arith));
+    }
+
+-- A TABLE AND A LASSO that are not refused, and clear work words
+module _ {t u v w : List ℕ} (a : Takes-asks t u v w) where
+  not-refused : Accepted t u v (length w)
+  not-refused = accepted t u v (length w) (a .accepted)
+
+  sound : Valid wide-range t
+  sound = valid wide-range t (not-refused .valid)
+
+  enough : 4 * product t u v .size ≤ length w
+  unfolding positions
+  enough =
+      let s = size-is t u v in
+      let p = mul-assoc 4 (n-of t) (length u + length v) in
+      let q = mul-comm (n-of t) (length u + length v) in
+      let r = not-refused .room in omega arith
+
+  begins : Search (product t u v) w 0
+  unfolding colour
+  begins =
+      fresh (product t u v) w enough
+      (λ x l. ap (λ (z : List ℕ). getD z x 0) (a .clear) ∙ zeros-at w x (let k = enough in omega arith))
+
+  module _ {states : ℕ} (is-states : states ≡ n-of t) where
+    pub size-fits : (length u + length v) * states < 2 ^ 64
+    unfolding wide-range
+    size-fits =
+        let p : length u + length v ≤ 8192 =
+        (let i = not-refused .prefix-short in let j = not-refused .loop-short in omega arith) in
+        let q : states ≤ 65535 = (let k = sound .states-to in omega arith) in
+        let m = mul-le-mul p q in omega arith
+
+    takes-given : Given t u v states ((length u + length v) * states)
+    unfolding positions
+    takes-given =
+        record {
+          valid = not-refused .valid;
+          counted = is-states;
+          sized = rw is-states (sym (size-is t u v));
+          endless = not-refused .endless;
+          prefix-short = not-refused .prefix-short;
+          loop-short = not-refused .loop-short;
+        }
+
+    pub takes-explore : Explore-asks t u v w states ((length u + length v) * states) 0
+    takes-explore = record { given = takes-given; search = begins }
+
+  -- what the search finds is what the automaton takes
+  pub takes-end : {r : Bool} → Searched (product t u v) r → r ≡ takes? (meaning t) u v
+  takes-end (found f) =
+      let o = not-refused .endless in
+      let closed = meaning-closed sound in
+      sym (takes-right (meaning t) u v closed o .1 (cycle-takes closed o (found-cycle sound u v o f)))
+  takes-end (nothing n) =
+      let o = not-refused .endless in
+      let closed = meaning-closed sound in
+      sym
+      (not-both (takes? (meaning t) u v)
+      (λ e. n (cycle-found sound u v o (takes-cycle o (takes-right (meaning t) u v closed o .0 e)))))
+
+-- THE ANSWERS by number
+as-refused : (r : ℕ) (b : Bool) → (r ≡ 0 → ⊥) → Refused r ≡ as-decision r b
+unfolding as-decision
+as-refused zero b ne = absurd (ne refl)
+as-refused (suc r) b ne = refl
+
+as-taken : (r : ℕ) (b : Bool) → r ≡ 0 → b ≡ true → Taken ≡ as-decision r b
+unfolding as-decision
+as-taken r b z e = rw (z, e)
+
+as-not-taken : (r : ℕ) (b : Bool) → r ≡ 0 → b ≡ false → NotTaken ≡ as-decision r b
+unfolding as-decision
+as-not-taken r b z e = rw (z, e)
+
+module _ (t u v w : List ℕ) {w1 : List ℕ} {r : ℕ} (is-clear : w1 ≡ zeros w) (is-refusal : r ≡ lasso-refusal t u v (length w1)) where
+  same-words : length w1 ≡ length w
+  same-words = ap length is-clear ∙ zeros-length w
+
+  refusal-is : lasso-refusal t u v (length w) ≡ r
+  refusal-is = sym (rw same-words at is-refusal)
+
+  pub decide-refused : (r ≡ 0 → ⊥) → Lasso-says t u v (Refused r) w w1
+  unfolding decision
+  decide-refused ne =
+      record { answer = rw refusal-is (as-refused r (takes? (meaning t) u v) ne); work = is-clear }
+
+  module _ (z : r ≡ 0) where
+    pub decide-asks : Takes-asks t u v w1
+    decide-asks =
+        record { accepted = sym is-refusal ∙ z; clear = is-clear ∙ sym (zeros-same w w1 same-words) }
+
+    -- the work words are cleared once more
+    module _ {b : Bool} (is-taken : b ≡ takes? (meaning t) u v) (w2 : List ℕ) {w3 : List ℕ} (same : length w2 ≡ length w1)
+        (is-clear-again : w3 ≡ zeros w2) where
+      cleared : w3 ≡ zeros w
+      cleared = is-clear-again ∙ zeros-same w w2 (same ∙ same-words)
+
+      pub decide-taken : b ≡ true → Lasso-says t u v Taken w w3
+      unfolding decision
+      decide-taken e =
+          record { answer = rw refusal-is (as-taken r (takes? (meaning t) u v) z (sym is-taken ∙ e)); work = cleared }
+
+      pub decide-not-taken : b ≡ false → Lasso-says t u v NotTaken w w3
+      unfolding decision
+      decide-not-taken e =
+          record { answer = rw refusal-is (as-not-taken r (takes? (meaning t) u v) z (sym is-taken ∙ e)); work = cleared }

@@ -1,0 +1,52 @@
+-- `lassos::letters_below` meets its contract. The invariant: the letters so far are below k. Assumes nothing.
+use Prim.Native.Nat.{_-_}
+use native.Mathlib.Omega.{arith}
+use lib.ListN.{length}
+use Rattle.lassos.proofs.Parts.{Below, below-start, below-turn, below-all, not-below}
+use Rattle.lassos.proofs.letters_below.Statement.{statement}
+use Rattle.lassos.proofs.letters_below.Tie as tie
+
+abbrev Inv-loop : tie.InvT-loop
+Inv-loop part k i₀ i = Below k part i
+
+abbrev μ-loop : tie.MeasureT-loop
+μ-loop part k i₀ i = length part - i
+
+loop-holds : tie.Need-loop-holds Inv-loop μ-loop
+loop-holds c = below-start _ _
+
+shared-slice-read-letter : tie.Need-shared-slice-read-letter Inv-loop μ-loop
+shared-slice-read-letter c = omega arith
+
+cast-letter : tie.Need-cast-letter Inv-loop μ-loop
+cast-letter c = omega (arith, c .shared-slice-known .given (c .before .before .loop .i))
+
+returns : tie.Need-returns Inv-loop μ-loop
+returns c = not-below _ _ _ (c .before .before .loop-test .taken) (c .if1 .taken)
+
+add-i : tie.Need-add-i Inv-loop μ-loop
+add-i c = omega arith
+
+loop-less : tie.Need-loop-less Inv-loop μ-loop
+loop-less c = omega arith
+
+loop-again : tie.Need-loop-again Inv-loop μ-loop
+loop-again c = below-turn (c .before .before .before .loop .inv) (c .before .before .loop-test .taken) (c .if1 .left)
+
+returns-2 : tie.Need-returns-2 Inv-loop μ-loop
+returns-2 c = below-all (c .before .loop .inv) (c .loop-test .left)
+
+pub letters-below-spec : {M : Type 1} → statement M
+letters-below-spec =
+    tie.close
+    (tie.spec
+    Inv-loop
+    μ-loop
+    loop-holds
+    shared-slice-read-letter
+    cast-letter
+    returns
+    add-i
+    loop-less
+    loop-again
+    returns-2)
