@@ -1,1 +1,2 @@
 pub mod Chain_laws
+pub mod Counting
