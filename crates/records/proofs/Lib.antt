@@ -1,1 +1,3 @@
+pub mod Laid
 pub mod Machine
+pub mod Words

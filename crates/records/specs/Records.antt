@@ -1,7 +1,23 @@
 -- A lent run of records, four sets each (document 01, "Numbering and result"). Assumes nothing: these are definitions.
+use mathlib.Core.List.{List, [], _∷_}
+use Prim.Native.Nat.{ℕ, zero, suc}
 use Rattle.ncsb.specs.Successors.{quadruple}
 use Rattle.ncsb.specs.declared.Quadruple.{Quadruple}
 
 -- what stands where no record is: four empty sets
 unfoldable pub blank : Quadruple
 blank = quadruple 0 0 0 0
+
+-- the records of words: N, C, S, B in that order; words left over that make no full record count as none
+unfoldable pub records-of : (words : List ℕ) → List Quadruple
+records-of [] = []
+records-of (n ∷ []) = []
+records-of (n ∷ c ∷ []) = []
+records-of (n ∷ c ∷ s ∷ []) = []
+records-of (n ∷ c ∷ s ∷ b ∷ words) = quadruple n c s b ∷ records-of words
+
+-- so many records that begin with given ones, as many as fit, and are blank beyond them
+unfoldable pub fitted : (count : ℕ) → List Quadruple → List Quadruple
+fitted zero xs = []
+fitted (suc n) [] = blank ∷ fitted n []
+fitted (suc n) (x ∷ xs) = x ∷ fitted n xs

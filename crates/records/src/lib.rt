@@ -3,7 +3,7 @@ use ncsb::Quadruple;
 ghost use mathlib.Core.Path.{_≡_};
 ghost use Prim.Native.Nat.{_<_};
 ghost use lib.ListN.{length, getD, set};
-ghost use Rattle.records.specs.Records.{blank};
+ghost use Rattle.records.specs.Records.{blank, records-of, fitted};
 
 // How many records are lent.
 pub fn count(records: &[Quadruple]) -> usize
@@ -26,4 +26,36 @@ pub fn store(records: &mut [Quadruple], number: usize, x: Quadruple)
     ensures { λ _. ⌜ now (records .exit) ≡ set (now (records .entry)) number x ⌝ }
 {
     records[number] = x;
+}
+
+// The record with a number of a run of words, and four empty sets where the words make no full record.
+pub fn record_in(sets: &[u32], number: usize) -> Quadruple
+    ensures { λ r. ⌜ r ≡ getD (records-of (now (sets .entry))) number blank ⌝ }
+{
+    if number < sets.len() / 4 {
+        let at = 4 * number;
+        return Quadruple {
+            N: sets[at],
+            C: sets[at + 1],
+            S: sets[at + 2],
+            B: sets[at + 3],
+        };
+    }
+    Quadruple {
+        N: 0,
+        C: 0,
+        S: 0,
+        B: 0,
+    }
+}
+
+// Fills the lent records from the sets words of a build, and clears the rest.
+pub fn fill(records: &mut [Quadruple], sets: &[u32])
+    ensures { λ _. ⌜ now (records .exit) ≡ fitted (length (now (records .entry))) (records-of (now (sets .entry))) ⌝ }
+{
+    let mut number = 0;
+    while number < records.len() {
+        records[number] = record_in(sets, number);
+        number += 1;
+    }
 }
