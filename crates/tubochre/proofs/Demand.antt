@@ -1,19 +1,29 @@
--- The second and the third demand are met. Assumes nothing.
-use mathlib.Core.Path.{_≡_, refl}
+-- The second and the third demand are met, whatever the calls answer. Assumes nothing.
+use mathlib.Core.Path.{_≡_}
 use mathlib.Core.List.{List}
 use mathlib.Core.Logic.{_⊎_, inl, inr}
 use Prim.Native.Nat.{ℕ}
+use lib.ListN.{length}
 use Rattle.basics.proofs.Booleans.{eqb-eq, eq-eqb}
+use Rattle.automata.specs.Automaton.{Run, Takes, Single-run}
+use Rattle.automata.specs.Lasso.{letter-at, Lasso}
+use Rattle.automata.specs.System.{numbered}
+use Rattle.tables.specs.Table.{k-of, meaning}
 use Rattle.ncsb.specs.Successors.{ncsb, accepting}
 use Rattle.ncsb.proofs.Initials.{initials-right}
 use Rattle.ncsb.proofs.Reached.{reached-fine}
 use Rattle.ncsb.proofs.Successors.{successors-right}
-use Rattle.patterns.proofs.Passed.{checked-split}
-use Rattle.complement.specs.Build.{Build-says}
-use Rattle.complement.specs.Complement.{system-of}
-use Rattle.complement.specs.declared.Counts.{Counts}
-use Rattle.complement.proofs.Second.{pattern-exactly, words-mean, words-valid, build-passed, build-fits, build-states, build-edges, build-used, build-sets}
-use Rattle.tubochre.specs.Demand.{Built-exactly, Second-demand}
+use Rattle.patterns.specs.Check.{check-refusal}
+use Rattle.patterns.specs.Pattern.{moves}
+use Rattle.patterns.proofs.Passed.{checked-split, checked-wide}
+use Rattle.complement.specs.Complement.{system-of, complement, complement-automaton, complement-words}
+use Rattle.complement.proofs.Second.{Fits, pattern-exactly, few-states, words-mean, words-valid, build-passed, build-fits, build-states, build-edges, build-used, build-sets}
+use Rattle.complement.proofs.Third.{Parted, parted-words}
+use Rattle.lassos.specs.Decision.{Lasso-says}
+use Rattle.lassos.specs.declared.Decision.{Decision}
+use Rattle.lassos.specs.declared.Decision.the-variants.{Taken, NotTaken, Refused}
+use Rattle.tubochre.specs.Demand.{Second-demand, Not-refused, Compared, Third-demand}
+use Rattle.tubochre.proofs.Answers.{says-taken, says-not, says-refused}
 
 -- THE SECOND DEMAND: an accepted build leaves exactly the reachable NCSB complement, every state, edge and mark and no other
 pub second-demand : Second-demand
@@ -34,3 +44,63 @@ second-demand t r o o-now s s-now says accepted =
       means = rw used (words-mean t passed);
       records = build-sets says accepted;
     }
+
+-- the pattern and the words of its complement
+module _ (t : List ℕ) (passed : check-refusal t ≡ 0) (fits : Fits t) (u v : List ℕ) (lasso : Lasso (k-of t) u v) where
+  abbrev word : ℕ → ℕ
+  word = letter-at u v
+
+  abbrev c : List ℕ
+  c = complement-words t
+
+  -- they have the same letters
+  over-complement : Lasso (k-of c) u v
+  unfolding meaning complement-automaton numbered system-of ncsb moves
+  over-complement = rw (words-mean t passed .letters) lasso
+
+  decisions :
+      Parted (meaning t) (meaning c) word → (d e : Decision) (w w-now z z-now : List ℕ) → Lasso-says t u v d w w-now →
+      Lasso-says c u v e z z-now → Not-refused d → Not-refused e →
+      (Takes (meaning t) word × (d ≡ Taken) × (e ≡ NotTaken)) ⊎ (Takes (meaning c) word × (d ≡ NotTaken) × (e ≡ Taken))
+  decisions (inl (taken, none)) d e w w-now z z-now says other h k =
+      inl
+      (taken, says-taken says (checked-wide t passed) lasso h taken, says-not other (words-valid t passed fits) over-complement k none)
+  decisions (inr (none, one)) d e w w-now z z-now says other h k =
+      let taken : Takes (meaning c) word = record { run = one .run; accepting-run = one .accepting-run } in
+      inr
+      (taken, says-not says (checked-wide t passed) lasso h none, says-taken other (words-valid t passed fits) over-complement k taken)
+
+  refusals :
+      (d : Decision) (w w-now : List ℕ) (number : ℕ) → Lasso-says t u v d w w-now ⊎ Lasso-says c u v d w w-now →
+      d ≡ Refused number → (number ≡ 14) ⊎ (number ≡ 16)
+  refusals d w w-now number (inl says) h = says-refused says (checked-wide t passed) lasso number h
+  refusals d w w-now number (inr says) h = says-refused says (words-valid t passed fits) over-complement number h
+
+  no-run : Parted (meaning t) (meaning c) word →
+      (Takes (meaning t) word × ((run : ℕ → ℕ) → Run (meaning c) word run → ⊥))
+      ⊎ ((Takes (meaning t) word → ⊥) × Single-run (meaning c) word)
+  no-run (inl (taken, none)) = inl (taken, λ run r. none (record { run = run; accepting-run = r }))
+  no-run (inr other) = inr other
+
+  compared : Compared t c u v (length (complement t .states))
+  compared =
+      let both = parted-words t passed u v lasso in
+      record {
+        parted = no-run both;
+        tables = (checked-wide t passed, words-valid t passed fits);
+        refusals = refusals;
+        decisions = decisions both;
+        few = few-states t passed;
+      }
+
+  -- and so for words and a state count that are the complement's
+  compared-as : {words : List ℕ} {states : ℕ} → words ≡ c → states ≡ length (complement t .states) → Compared t words u v states
+  compared-as same count = rw (same, count) compared
+
+-- THE THIRD DEMAND: every lasso over the pattern's letters is taken by exactly one of pattern and complement, by the complement in a
+-- single accepting run; the decision says which; and the states are at most 2^p·3^a·4^r
+pub third-demand : Third-demand
+unfolding Third-demand
+third-demand t checked r o o-now s s-now u v answer passes says accepted lasso =
+    compared-as t (build-passed says accepted) (build-fits says accepted) u v lasso (build-used says accepted)
+    (build-states says accepted)

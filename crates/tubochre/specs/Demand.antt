@@ -6,7 +6,7 @@ use mathlib.Core.List.{List}
 use mathlib.Core.Logic.{_⊎_, _↔_}
 use Prim.Native.Nat.{ℕ, _≤_}
 use lib.ListN.{length}
-use Rattle.automata.specs.Automaton.{Takes, Single-run, Same}
+use Rattle.automata.specs.Automaton.{Run, Takes, Single-run, Same}
 use Rattle.automata.specs.Lasso.{letter-at, Lasso}
 use Rattle.automata.specs.System.{Member, Reached, Exactly}
 use Rattle.tables.specs.Table.{k-of, meaning, wide-range, table-refusal}
@@ -20,6 +20,9 @@ use Rattle.patterns.specs.declared.Checked.the-variants.{Passed}
 use Rattle.complement.specs.Build.{Build-says, used, used-sets}
 use Rattle.complement.specs.Complement.{system-of, complement, complement-automaton, complement-words, sets-words}
 use Rattle.complement.specs.declared.Counts.{Counts}
+use Rattle.lassos.specs.Decision.{Lasso-says}
+use Rattle.lassos.specs.declared.Decision.{Decision}
+use Rattle.lassos.specs.declared.Decision.the-variants.{Taken, NotTaken, Refused}
 
 -- THE SECOND DEMAND, of an accepted build that left these words and sets
 pub record Built-exactly (t : List ℕ) (r : Counts) (words sets : List ℕ) : Type 0 where
@@ -45,3 +48,36 @@ unfoldable pub Second-demand : Type 0
 Second-demand =
     (t : List ℕ) (r : Counts) (o o-now s s-now : List ℕ) → Build-says t r o o-now s s-now → r .number ≡ 0 →
     Built-exactly t r o-now s-now
+
+-- THE THIRD DEMAND. A decision that does not refuse
+unfoldable pub Not-refused : Decision → Type 0
+Not-refused d = (number : ℕ) → d ≡ Refused number → ⊥
+
+-- of a pattern t, the words c left of its complement, a lasso, and the state count
+pub record Compared (t c u v : List ℕ) (states : ℕ) : Type 0 where
+  -- either the pattern takes the lasso and the complement has no accepting run over it, or the pattern does not and the complement
+  -- has exactly one
+  pub parted :
+      (Takes (meaning t) (letter-at u v) × ((run : ℕ → ℕ) → Run (meaning c) (letter-at u v) run → ⊥))
+      ⊎ ((Takes (meaning t) (letter-at u v) → ⊥) × Single-run (meaning c) (letter-at u v))
+  -- both are valid wide tables, so a decision refuses neither for its table
+  pub tables : (table-refusal wide-range t ≡ 0) × (table-refusal wide-range c ≡ 0)
+  -- only for a part of the lasso that is too long, or for too few work words
+  pub refusals :
+      (d : Decision) (w w-now : List ℕ) (number : ℕ) → Lasso-says t u v d w w-now ⊎ Lasso-says c u v d w w-now →
+      d ≡ Refused number → (number ≡ 14) ⊎ (number ≡ 16)
+  -- two decisions that do not refuse answer taken for exactly the one that takes it
+  pub decisions :
+      (d e : Decision) (w w-now z z-now : List ℕ) → Lasso-says t u v d w w-now → Lasso-says c u v e z z-now →
+      Not-refused d → Not-refused e →
+      (Takes (meaning t) (letter-at u v) × (d ≡ Taken) × (e ≡ NotTaken))
+      ⊎ (Takes (meaning c) (letter-at u v) × (d ≡ NotTaken) × (e ≡ Taken))
+  -- and the states are few: 2^p·3^a·4^r
+  pub few : states ≤ bound (moves (meaning t))
+
+-- whatever pattern passes the check, whatever room its complement is built in without refusal, and whatever lasso over its letters
+unfoldable pub Third-demand : Type 0
+Third-demand =
+    (t : List ℕ) (checked : Checked) (r : Counts) (o o-now s s-now u v : List ℕ) →
+    checked ≡ as-checked (check-refusal t) → checked ≡ Passed → Build-says t r o o-now s s-now → r .number ≡ 0 →
+    Lasso (k-of t) u v → Compared t (used r o-now) u v (r .states)
