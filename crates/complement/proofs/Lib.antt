@@ -1,10 +1,14 @@
+pub mod Agreeing
+pub mod Arrays
 pub mod Choices
 pub mod Kept
 pub mod Letters
 pub mod Lookup
 pub mod Meeting
+pub mod Numbering
 pub mod Reaching
 pub mod Rising
 pub mod Second
+pub mod Starting
 pub mod Stored
 pub mod Third

@@ -10,7 +10,9 @@ use Rattle.automata.specs.System.{Edge, Built}
 use Rattle.tables.specs.Table.{Limits, wide-range}
 use Rattle.ncsb.specs.Array.{from-array}
 use Rattle.ncsb.specs.Moves.{Moves}
+use Rattle.ncsb.specs.Successors.{initials}
 use Rattle.ncsb.specs.declared.Quadruple.{Quadruple}
+use Rattle.patterns.specs.Check.{check-refusal}
 use Rattle.patterns.specs.declared.Shape.{Shape}
 use Rattle.complement.specs.Complement.{quadruple-words}
 use Rattle.complement.specs.Records.{capacity, with-quadruple, Looked-up}
@@ -101,3 +103,18 @@ pub data Placed (sets-words : List ℕ) (count : ℕ) (x : Quadruple) (sets-now 
   left-out :
       number ≡ count → Looked-up sets-words count x count → capacity sets-words ≤ count → sets-now ≡ sets-words →
       Placed sets-words count x sets-now number
+
+-- INITIAL STATES: all of them are kept, or they do not fit
+unfoldable pub start-moves : Shape → Moves
+start-moves s = from-array [] (s .starts) (s .marks) (s .inner)
+
+pub data Started (shape : Shape) (sets-words : List ℕ) (p : Progress) : Type 0 where
+  started :
+      p .full ≡ false → p .edges ≡ 0 → States-kept (initials (start-moves shape)) sets-words (p .states) → Started shape sets-words p
+  too-many : p .full ≡ true → capacity sets-words < length (initials (start-moves shape)) → Started shape sets-words p
+
+-- what exploring asks: the table passes the check, and both buffers are zero
+pub record Explore-asks (table words sets-words : List ℕ) : Type 0 where
+  pub passed : check-refusal table ≡ 0
+  pub words-clear : Begins [] words
+  pub sets-clear : Begins [] sets-words

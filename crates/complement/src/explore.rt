@@ -2,13 +2,17 @@
 use crate::records;
 use ncsb::Quadruple;
 use patterns::Shape;
+use patterns::masks_of;
+use patterns::shape_of;
 ghost use mathlib.Core.Path.{_≡_};
+ghost use mathlib.Core.List.{[]};
 ghost use Prim.Native.Nat.{_≤_};
 ghost use Rattle.automata.specs.System.{an-edge, add-edge, add-all, by-letters};
 ghost use Rattle.ncsb.specs.Moves.{Moves};
 ghost use Rattle.ncsb.specs.Successors.{ncsb, successors};
+ghost use Rattle.complement.specs.Complement.{complement};
 ghost use Rattle.complement.specs.Records.{capacity, quadruple-at};
-ghost use Rattle.complement.specs.Found.{with-edge, one-more, Placed, Turns, Step-asks, Expand-asks, array-moves};
+ghost use Rattle.complement.specs.Found.{with-edge, one-more, Placed, Turns, Step-asks, Expand-asks, array-moves, Begins, Started, Ends, Explore-asks};
 
 // What has been found: how many states and edges, and whether there were more states than fit.
 pub(crate) struct Progress {
@@ -157,4 +161,53 @@ fn expand(
         letter += 1;
     }
     now
+}
+
+// Stores the initial quadruples, by rising choice. They all differ, so none has to be looked up.
+fn store_initials(shape: Shape, sets: &mut [u32]) -> Progress
+    requires { ⌜ Begins [] (now sets) ⌝ }
+    ensures { λ r. ⌜ Started shape (now (sets .exit)) r ⌝ }
+{
+    let free = sets::without(shape.starts & shape.inner, shape.marks);
+    let choices = sets::choices(free) as usize;
+    if records::room(sets) < choices {
+        return Progress {
+            states: 0,
+            edges: 0,
+            full: true,
+        };
+    }
+    let mut choice = 0;
+    while choice < choices {
+        let x = Quadruple::initial(shape.starts, shape.marks, shape.inner, choice as u32);
+        records::store(sets, choice, x);
+        choice += 1;
+    }
+    Progress {
+        states: choices,
+        edges: 0,
+        full: false,
+    }
+}
+
+// Explores the complement of a pattern from the initial states on, in number order.
+pub(crate) fn explore(table: &[u16], words: &mut [u16], sets: &mut [u32]) -> Progress
+    requires { ⌜ Explore-asks (now table) (now words) (now sets) ⌝ }
+    ensures { λ r. ⌜ Ends (complement (now (table .entry))) (now (words .exit)) (now (sets .exit)) r ⌝ }
+{
+    let masks = masks_of(table);
+    let shape = shape_of(table, masks);
+    let mut found = store_initials(shape, sets);
+    if found.full {
+        return found;
+    }
+    let mut number = 0;
+    while number < found.states {
+        found = expand(masks, shape, words, sets, found, number);
+        if found.full {
+            return found;
+        }
+        number += 1;
+    }
+    found
 }

@@ -1,0 +1,185 @@
+-- Exploring in number order within the room: the buffers keep what was found so far of the complement, until all of it is found or there are more
+-- states than fit. Assumes nothing.
+use mathlib.Core.Path.{_≡_, refl, sym, _∙_, ap}
+use mathlib.Core.Bool.{Bool, true, false}
+use mathlib.Core.List.{List, []}
+use Prim.Native.Nat.{ℕ, suc, _+_, _^_, _≤_, _<_}
+use native.Mathlib.Numerals.{add-one}
+use native.Mathlib.Omega.{arith}
+use lib.ListN.{length, getD}
+use Rattle.automata.specs.System.{System, Decides, Built, built, state-at, At-most, Distinct, by-letters, expand, begin, explore}
+use Rattle.automata.proofs.Explore.{begin-is}
+use Rattle.automata.proofs.Exploring.{Grows, grows-explore, At-state, at-most-le, state-begin, state-step, state-end, state-grows}
+use Rattle.tables.specs.Table.{n-of, k-of, meaning}
+use Rattle.ncsb.specs.Array.{from-array}
+use Rattle.ncsb.specs.Bound.{bound}
+use Rattle.ncsb.specs.Moves.{Moves, Spread, Split}
+use Rattle.ncsb.specs.Step.{Small}
+use Rattle.ncsb.specs.Successors.{quadruple, initials, successors, ncsb}
+use Rattle.ncsb.specs.declared.Quadruple.{Quadruple}
+use Rattle.ncsb.proofs.Bound.{bound-le, few-reached}
+use Rattle.ncsb.proofs.Reached.{decides, initials-apart, reached-fine}
+use Rattle.patterns.specs.Check.{check-refusal}
+use Rattle.patterns.specs.Masks.{masks-of}
+use Rattle.patterns.specs.Pattern.{moves}
+use Rattle.patterns.specs.Shape.{shape-of}
+use Rattle.patterns.specs.declared.Shape.{Shape}
+use Rattle.patterns.proofs.Masks.{pattern-fits, mask-move}
+use Rattle.patterns.proofs.Passed.{checked-table, checked-split}
+use Rattle.complement.specs.Complement.{system-of, complement}
+use Rattle.complement.specs.Records.{quadruple-at, capacity}
+use Rattle.complement.specs.Found.{Begins, States-kept, Shows, Ends, within, beyond, Turns, Expand-asks, array-moves, start-moves, Started}
+use Rattle.complement.specs.declared.explore.Progress.{Progress}
+use Rattle.complement.proofs.Agreeing.{letters-agree}
+use Rattle.complement.proofs.Arrays.{Widens, Widens-starts, successors-same, initials-same}
+use Rattle.complement.proofs.Kept.{kept-at}
+use Rattle.complement.proofs.Meeting.{capacity-limit}
+use Rattle.complement.proofs.Reaching.{ends-within, ends-grown}
+use Rattle.complement.proofs.Starting.{started-ends}
+
+-- so many states are expanded
+pub record Exploring (t w s : List ℕ) (p : Progress) (i : ℕ) : Type 0 where
+  pub built : Built Quadruple
+  pub shows : Shows built w s p
+  pub at : At-state (system-of t) (16 ^ n-of t) i built
+
+module _ (t : List ℕ) (passed : check-refusal t ≡ 0) where
+  -- AT MOST 16^n quadruples are reached
+  pub most-reached : At-most (system-of t) (16 ^ n-of t)
+  unfolding system-of moves meaning
+  most-reached =
+      let both = checked-split t passed in
+      at-most-le (few-reached (both .0) (both .1)) (bound-le (moves (meaning t)) (λ q h. both .1 .within q h .0))
+
+  pub system-decides : Decides (system-of t)
+  unfolding system-of
+  system-decides = decides (moves (meaning t))
+
+  -- initial quadruples are told apart
+  pub starts-apart : Distinct (system-of t) (system-of t .starts)
+  unfolding system-of ncsb
+  starts-apart = initials-apart (moves (meaning t))
+
+  module _ {masks : List (List ℕ)} {shape : Shape} (masked : masks ≡ masks-of (moves (meaning t))) (shaped : shape ≡ shape-of (moves (meaning t))) where
+    -- what the code reads is the pattern's
+    widens : Widens (moves (meaning t)) (array-moves masks shape)
+    unfolding array-moves from-array shape-of moves
+    widens =
+        let fits = pattern-fits t (checked-table t passed) in
+        record {
+          states = fits .states;
+          move = λ q c. rw masked (mask-move (meaning t) fits q c);
+          marks = ap (λ (z : Shape). z .marks) shaped;
+          inner = ap (λ (z : Shape). z .inner) shaped;
+        }
+
+    starts-widen : Widens-starts (moves (meaning t)) (start-moves shape)
+    unfolding start-moves from-array shape-of moves
+    starts-widen =
+        record {
+          states = pattern-fits t (checked-table t passed) .states;
+          starts = ap (λ (z : Shape). z .starts) shaped;
+          marks = ap (λ (z : Shape). z .marks) shaped;
+          inner = ap (λ (z : Shape). z .inner) shaped;
+        }
+
+    letters-all : shape .letters ≡ system-of t .letters
+    unfolding shape-of system-of ncsb
+    letters-all = ap (λ (z : Shape). z .letters) shaped
+
+    letters-few : shape .letters ≤ 16
+    unfolding system-of ncsb moves
+    letters-few = let e = letters-all in let l = pattern-fits t (checked-table t passed) .letters in omega arith
+
+    -- the initial states are the beginning
+    begins-with : built (initials (start-moves shape)) [] ≡ begin (system-of t)
+    unfolding system-of ncsb
+    begins-with =
+        ap (λ (xs : List Quadruple). built xs []) (initials-same (checked-split t passed .0) starts-widen)
+        ∙ sym (begin-is (system-of t) system-decides starts-apart)
+
+    pub begin-full :
+        {w s : List ℕ} {p : Progress} → Begins [] w → Started shape s p → p .full ≡ true → Ends (complement t) w s p
+    unfolding complement explore
+    begin-full {w} {s} {p} clear h full =
+        let ends : Ends (begin (system-of t)) w s p = rw begins-with at (started-ends clear h) in
+        ends-grown full (grows-explore (system-of t) (16 ^ n-of t) 0 (begin (system-of t))) ends
+
+    pub begin-within : {w s : List ℕ} {p : Progress} → Begins [] w → Started shape s p → p .full ≡ false → Exploring t w s p 0
+    unfolding system-of
+    begin-within {w} {s} {p} clear h left =
+        let ends : Ends (begin (system-of t)) w s p = rw begins-with at (started-ends clear h) in
+        record {
+          built = begin (system-of t);
+          shows = ends-within left ends;
+          at = state-begin (system-of t) system-decides (16 ^ n-of t) most-reached starts-apart;
+        }
+
+    module _ {w s : List ℕ} {p : Progress} {i : ℕ} (h : Exploring t w s p i) (inside : i < p .states) where
+      pub expand-asks : Expand-asks w s p i (shape .letters)
+      expand-asks = record { built = h .built; shows = h .shows; inside = inside; letters-inside = letters-few }
+
+      listed : i < length (h .built .states)
+      listed = let e = h .shows .states .counted in let l = inside in omega arith
+
+      at-state : quadruple-at s i ≡ state-at (system-of t) (h .built .states) i
+      unfolding state-at system-of ncsb
+      at-state = kept-at (h .shows .states) i inside
+
+      small : Small (moves (meaning t) .states) (state-at (system-of t) (h .built .states) i)
+      unfolding system-of
+      small =
+          let both = checked-split t passed in
+          reached-fine (both .0) (both .1) (h .at .explored .sound .reached i listed) .small
+
+      same-test : (x y : Quadruple) → ncsb (array-moves masks shape) .same x y ≡ system-of t .same x y
+      unfolding system-of ncsb
+      same-test x y = refl
+
+      nexts :
+          (c : ℕ) →
+          ncsb (array-moves masks shape) .nexts (state-at (system-of t) (h .built .states) i) c
+          ≡ system-of t .nexts (state-at (system-of t) (h .built .states) i) c
+      unfolding system-of ncsb
+      nexts c = successors-same (checked-split t passed .0) widens (state-at (system-of t) (h .built .states) i) small c
+
+      -- a state's edges by the code are its edges in the complement
+      expands : by-letters (ncsb (array-moves masks shape)) (shape .letters) i (quadruple-at s i) (h .built) ≡ expand (system-of t) i (h .built)
+      unfolding expand array-moves
+      expands =
+          rw (at-state, letters-all)
+          (letters-agree (ncsb (array-moves masks shape)) (system-of t) same-test (system-of t .letters) i
+          (state-at (system-of t) (h .built .states) i) (λ c l. nexts c) (h .built))
+
+      next : At-state (system-of t) (16 ^ n-of t) (suc i) (expand (system-of t) i (h .built))
+      unfolding system-of
+      next = state-step (system-of t) system-decides (16 ^ n-of t) most-reached listed (h .at)
+
+      module _
+          {w′ s′ : List ℕ} {p′ : Progress}
+          (turn : Turns (by-letters (ncsb (array-moves masks shape)) (shape .letters) i (quadruple-at s i)) w s p w′ s′ p′) where
+        pub expand-full : p′ .full ≡ true → Ends (complement t) w′ s′ p′
+        unfolding complement
+        expand-full full =
+            let ends : Ends (expand (system-of t) i (h .built)) w′ s′ p′ = rw expands at (turn .from (h .built) (h .shows)) in
+            ends-grown full (state-grows (system-of t) system-decides (16 ^ n-of t) most-reached next) ends
+
+        pub expand-turn : p′ .full ≡ false → Exploring t w′ s′ p′ (i + 1)
+        expand-turn left =
+            let ends : Ends (expand (system-of t) i (h .built)) w′ s′ p′ = rw expands at (turn .from (h .built) (h .shows)) in
+            rw add-one (record { built = expand (system-of t) i (h .built); shows = ends-within left ends; at = next })
+
+  module _ {w s : List ℕ} {p : Progress} {i : ℕ} (h : Exploring t w s p i) where
+    pub explore-limit : p .states ≤ 65535
+    explore-limit =
+        let e = h .shows .states .counted in
+        let l = h .shows .states .fits in
+        let m = capacity-limit s in omega arith
+
+    pub explore-end : p .states ≤ i → Ends (complement t) w s p
+    unfolding system-of complement
+    explore-end l =
+        let e = h .shows .states .counted in
+        let all : h .built ≡ explore (16 ^ n-of t) (system-of t) =
+        state-end (system-of t) system-decides (16 ^ n-of t) most-reached (omega arith) (h .at) in
+        within (rw all at (h .shows))

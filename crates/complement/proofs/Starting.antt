@@ -1,0 +1,113 @@
+-- Storing the initial quadruples by rising choice. Assumes nothing.
+use mathlib.Core.Path.{_≡_, refl, sym, _∙_, ap}
+use mathlib.Core.Bool.{Bool, true, false}
+use mathlib.Core.List.{List, [], _∷_, _++_}
+use Prim.Native.Nat.{ℕ, zero, suc, _+_, _*_, _^_, _≤_, _<_, min}
+use native.Mathlib.Numerals.{add-one}
+use native.Mathlib.Omega.{arith}
+use lib.Bits.{bitAnd}
+use lib.ListN.{length, getD, take}
+use lib.Seq.{take-suc, take-all, take-nil}
+use Rattle.sets.specs.Sets.{without, size}
+use Rattle.automata.specs.System.{Built, built}
+use Rattle.tables.specs.Table.{wide-range}
+use Rattle.ncsb.specs.Array.{from-array, nth-initial}
+use Rattle.ncsb.specs.Successors.{quadruple, initial-free, initials}
+use Rattle.ncsb.specs.declared.Quadruple.{Quadruple}
+use Rattle.patterns.specs.declared.Shape.{Shape}
+use Rattle.complement.specs.Complement.{record-width}
+use Rattle.complement.specs.Records.{with-quadruple, capacity}
+use Rattle.complement.specs.Found.{Begins, records, States-kept, triples, edge-room, counted-to, Edges-kept, Shows, Ends, within, beyond, start-moves, Started, started, too-many}
+use Rattle.complement.specs.declared.explore.Progress.{Progress}
+use Rattle.complement.proofs.Choices.{choices-fit, initials-count, choice-initial}
+use Rattle.complement.proofs.Kept.{kept-more}
+use Rattle.complement.proofs.Meeting.{capacity-words, capacity-kept}
+
+module _ (shape : Shape) where
+  start-free : initial-free (start-moves shape) ≡ without (bitAnd (shape .starts) (shape .inner)) (shape .marks)
+  unfolding initial-free start-moves from-array
+  start-free = refl
+
+  -- so many of the initial quadruples are stored
+  pub record Storing (s₀ s : List ℕ) (count : ℕ) : Type 0 where
+    pub size : length s ≡ length s₀
+    pub some : count ≤ length (initials (start-moves shape))
+    pub kept : States-kept (take count (initials (start-moves shape))) s count
+
+  module _ {free choices : ℕ} (freed : free ≡ without (bitAnd (shape .starts) (shape .inner)) (shape .marks)) (counted : choices ≡ 2 ^ size 32 free) where
+    pub start-count : length (initials (start-moves shape)) ≡ choices
+    unfolding start-moves
+    start-count =
+        initials-count (shape .starts) (shape .marks) (shape .inner)
+        ∙ ap (λ (f : ℕ). 2 ^ size 32 f) (start-free ∙ sym freed) ∙ sym counted
+
+    pub start-fits : (j : ℕ) → j < choices → j < 2 ^ 32
+    start-fits j l = let h = choices-fit free in let e = counted in omega arith
+
+    -- they do not fit
+    pub start-full : {s : List ℕ} {p : Progress} {room : ℕ} → room ≡ capacity s → room < choices → p .full ≡ true → Started shape s p
+    start-full e l full = let n = start-count in too-many full (omega arith)
+
+    pub store-start : {s : List ℕ} → Begins [] s → Storing s s 0
+    unfolding records
+    store-start h =
+        record {
+          size = refl;
+          some = omega arith;
+          kept = record { counted = refl; fits = omega arith; begins = h };
+        }
+
+    module _ {s₀ s : List ℕ} {k room : ℕ} (h : Storing s₀ s k) (l : k < choices) (roomy : room ≡ capacity s₀) (most : choices ≤ room) where
+      below : k < capacity s
+      below = let e = capacity-kept s₀ s (h .size) in omega arith
+
+      pub store-asks : 4 * k + 4 ≤ length s
+      store-asks = let b = below in let w = capacity-words s (suc k) (omega arith) in omega arith
+
+      pub store-turn :
+          {x : Quadruple} {s′ : List ℕ} → x ≡ nth-initial (from-array [] (shape .starts) (shape .marks) (shape .inner)) k →
+          s′ ≡ with-quadruple s k x → length s′ ≡ length s → Storing s₀ s′ (k + 1)
+      unfolding start-moves
+      store-turn {x} {s′} e e′ kept =
+          let xs = initials (start-moves shape) in
+          let count = start-count in
+          let parts = initials-count (shape .starts) (shape .marks) (shape .inner) in
+          let at : x ≡ getD xs k (quadruple 0 0 0 0) =
+          e ∙ choice-initial (shape .starts) (shape .marks) (shape .inner) k (omega arith) in
+          let more : take (k + 1) xs ≡ take k xs ++ (x ∷ []) =
+          rw add-one
+          (take-suc xs k (quadruple 0 0 0 0) (omega arith)
+          ∙ ap (λ (y : Quadruple). take k xs ++ (y ∷ [])) (sym at)) in
+          record {
+            size = kept ∙ h .size;
+            some = omega arith;
+            kept = rw (more, e′) (kept-more x (h .kept) below);
+          }
+
+    pub store-end :
+        {s₀ s : List ℕ} {k : ℕ} {p : Progress} → Storing s₀ s k → k ≤ choices → choices ≤ k → p .full ≡ false → p .edges ≡ 0 → p .states ≡ choices →
+        Started shape s p
+    store-end {s₀} {s} {k} {p} h l g left none e =
+        let xs = initials (start-moves shape) in
+        let count = start-count in
+        let whole : States-kept xs s k = rw (take-all k xs (omega arith)) at (h .kept) in
+        let states : p .states ≡ k = omega arith in started left none (rw states whole)
+
+-- no edge is kept in words that are zero
+three-zeros : (i : ℕ) → getD {A = ℕ} [] i 0 ≡ getD (0 ∷ 0 ∷ 0 ∷ []) i 0
+three-zeros zero = refl
+three-zeros (suc zero) = refl
+three-zeros (suc (suc zero)) = refl
+three-zeros (suc (suc (suc i))) = refl
+
+no-edges : {w : List ℕ} → Begins [] w → Begins (0 ∷ 0 ∷ 0 ∷ triples (take (edge-room w) [])) w
+unfolding triples
+no-edges {w} h = rw (take-nil (edge-room w)) (record { at = λ i. h .at i ∙ three-zeros i })
+
+-- what is kept of the initial states is kept of the beginning
+pub started-ends :
+    {shape : Shape} {w s : List ℕ} {p : Progress} → Begins [] w → Started shape s p → Ends (built (initials (start-moves shape)) []) w s p
+unfolding built
+started-ends h (started left none kept) =
+    within (record { not-full = left; states = kept; edges = record { counted = omega arith; begins = no-edges h } })
+started-ends h (too-many full l) = beyond full l
