@@ -1,0 +1,33 @@
+/* The same three jobs without any proof, written for speed: what the library's times are measured against. */
+#ifndef FAST_H
+#define FAST_H
+
+#include <stddef.h>
+#include <stdint.h>
+
+struct fast_counts {
+    uint32_t number, states, edges;
+};
+
+struct fast_decision {
+    uint32_t number, taken;
+};
+
+/* How a build looks a quadruple up: in a hash table, or by going through all states found so far. */
+enum fast_lookup { FAST_HASH, FAST_SCAN };
+
+uint32_t fast_check(const uint16_t *table, size_t len);
+
+/* Allocates its hash table and its list of edges within the call. */
+struct fast_counts fast_build(const uint16_t *table, size_t len, uint16_t *words, size_t words_len, uint32_t *sets,
+                              size_t sets_len, enum fast_lookup lookup);
+
+/* The words of work that fast_lasso is lent: five for each state and position. */
+size_t fast_work_words(uint32_t states, size_t prefix_len, size_t loop_len);
+
+/* Allocates lists of targets by state and letter within the call, and clears the part of the work words that it needs
+ * cleared. It leaves the work words as they are in the end. */
+struct fast_decision fast_lasso(const uint16_t *table, size_t len, const uint8_t *prefix, size_t prefix_len,
+                                const uint8_t *loop, size_t loop_len, uint32_t *work);
+
+#endif

@@ -1,0 +1,457 @@
+/* Compares the library's three calls with the reference, on random patterns, lassos and damaged tables.
+ *
+ *     compare [--seed N] [--trials N]
+ *
+ * Each trial has a seed of its own, one more than the last. At a difference the program says which trial it was and
+ * ends with status 1; --seed with that number runs it as the first trial. All that the library writes to lies between
+ * unreadable pages and holds garbage before the call; every word of it is compared after. */
+#include "draw.h"
+#include "fence.h"
+#include "reference.h"
+#include "tubochre.h"
+
+#include <errno.h>
+#include <inttypes.h>
+#include <stdarg.h>
+#include <stdio.h>
+#include <stdlib.h>
+#include <string.h>
+
+enum {
+    TRIALS = 22000,
+    LASSOS = 5,      /* for each pattern, on it and on its complement */
+    WIDE_LASSOS = 2, /* for each table that is no pattern */
+    DAMAGES = 2,     /* for each pattern */
+    WORDS_ROOM = 700000,
+    SETS_ROOM = 300000,
+    WORK_ROOM = 40 * 1000 * 1000
+};
+
+static const uint64_t default_seed = 20160404;
+
+/* ---- What is being tried, for messages. */
+
+static struct {
+    uint64_t seed;
+    char text[100];
+} trial;
+
+static struct {
+    uint64_t patterns, passed, built, lassos, decisions, damaged, taken, states, edges, runs_checked;
+    uint64_t largest;
+    uint64_t refused[17];
+} tally;
+
+static void differ(const char *format, ...)
+{
+    va_list words;
+    fflush(stdout);
+    fprintf(stderr, "FAILED in the trial with seed %" PRIu64 " (repeat by --seed %" PRIu64 " --trials 1): ", trial.seed,
+            trial.seed);
+    va_start(words, format);
+    vfprintf(stderr, format, words);
+    va_end(words);
+    fputc('\n', stderr);
+    exit(1);
+}
+
+static void print_table(const char *name, const uint16_t *words, size_t len)
+{
+    size_t i;
+    fprintf(stderr, "%s:", name);
+    for (i = 0; i < len && i < 400; i++)
+        fprintf(stderr, " %u", (unsigned)words[i]);
+    fprintf(stderr, "%s\n", len > 400 ? " ..." : "");
+}
+
+/* ---- Lent memory. */
+
+static struct {
+    struct fence table, prefix, loop, words, sets, work;
+    uint16_t *expected_words;
+    uint32_t *expected_sets, *expected_work;
+} lent;
+
+static void *room_for(size_t bytes)
+{
+    void *const p = malloc(bytes);
+    if (p == NULL) {
+        fputs("compare: out of memory\n", stderr);
+        exit(2);
+    }
+    return p;
+}
+
+static void make_rooms(void)
+{
+    lent.table = fence_make(WORDS_ROOM * sizeof(uint16_t));
+    lent.prefix = fence_make(DRAWN_LETTERS);
+    lent.loop = fence_make(DRAWN_LETTERS);
+    lent.words = fence_make(WORDS_ROOM * sizeof(uint16_t));
+    lent.sets = fence_make(SETS_ROOM * sizeof(uint32_t));
+    lent.work = fence_make(WORK_ROOM * sizeof(uint32_t));
+    lent.expected_words = room_for(WORDS_ROOM * sizeof(uint16_t));
+    lent.expected_sets = room_for(SETS_ROOM * sizeof(uint32_t));
+    lent.expected_work = room_for(WORK_ROOM * sizeof(uint32_t));
+}
+
+static enum fence_side some_side(struct random *r)
+{
+    return random_chance(r, 50) ? FENCE_LOW : FENCE_HIGH;
+}
+
+/* A lent copy; the bytes that it is a copy of are compared with it after the call. */
+static void *lend_copy(struct random *r, const struct fence *fence, const void *bytes, size_t len)
+{
+    void *const copy = fence_place(fence, len, some_side(r));
+    memcpy(copy, bytes, len);
+    return copy;
+}
+
+static void *lend_garbage(struct random *r, const struct fence *fence, size_t len)
+{
+    void *const place = fence_place(fence, len, some_side(r));
+    draw_garbage(r, place, len);
+    return place;
+}
+
+static void must_be_unchanged(const char *what, const void *now, const void *before, size_t len)
+{
+    if (memcmp(now, before, len) != 0)
+        differ("%s: the %s was written", trial.text, what);
+}
+
+/* ---- The three calls beside the reference. */
+
+static uint32_t compare_check(struct random *r, const uint16_t *table, size_t len)
+{
+    const uint16_t *const copy = lend_copy(r, &lent.table, table, len * sizeof *table);
+    const uint32_t expected = reference_check(table, len);
+    const uint32_t number = tubochre_check(copy, len);
+    must_be_unchanged("table", copy, table, len * sizeof *table);
+    if (number != expected) {
+        print_table("table", table, len);
+        differ("%s: the check answers %" PRIu32 " instead of %" PRIu32, trial.text, number, expected);
+    }
+    tally.refused[expected]++;
+    return number;
+}
+
+static void compare_buffers(const uint16_t *table, size_t len, const uint16_t *words, size_t words_len,
+                            const uint32_t *sets, size_t sets_len)
+{
+    size_t i;
+    for (i = 0; i < words_len; i++)
+        if (words[i] != lent.expected_words[i]) {
+            print_table("table", table, len);
+            differ("%s: word %zu of %zu is %u instead of %u", trial.text, i, words_len, (unsigned)words[i],
+                   (unsigned)lent.expected_words[i]);
+        }
+    for (i = 0; i < sets_len; i++)
+        if (sets[i] != lent.expected_sets[i]) {
+            print_table("table", table, len);
+            differ("%s: sets word %zu of %zu is %" PRIu32 " instead of %" PRIu32, trial.text, i, sets_len, sets[i],
+                   lent.expected_sets[i]);
+        }
+}
+
+/* A build in so much room. */
+static struct tubochre_counts compare_build(struct random *r, const uint16_t *table, size_t len,
+                                            const struct reference_complement *complement, size_t words_len,
+                                            size_t sets_len)
+{
+    const uint16_t *const copy = lend_copy(r, &lent.table, table, len * sizeof *table);
+    uint16_t *const words = lend_garbage(r, &lent.words, words_len * sizeof *words);
+    uint32_t *const sets = lend_garbage(r, &lent.sets, sets_len * sizeof *sets);
+    const struct reference_counts expected =
+        reference_lay(complement, lent.expected_words, words_len, lent.expected_sets, sets_len);
+    const struct tubochre_counts counts = tubochre_build(copy, len, words, words_len, sets, sets_len);
+    must_be_unchanged("table", copy, table, len * sizeof *table);
+    if (counts.number != expected.number || counts.states != expected.states || counts.edges != expected.edges) {
+        print_table("table", table, len);
+        differ("%s: the build in %zu words and %zu sets words answers %" PRIu32 " %" PRIu32 " %" PRIu32
+               " instead of %" PRIu32 " %" PRIu32 " %" PRIu32,
+               trial.text, words_len, sets_len, counts.number, counts.states, counts.edges, expected.number,
+               expected.states, expected.edges);
+    }
+    compare_buffers(table, len, words, words_len, sets, sets_len);
+    tally.refused[expected.number]++;
+    return counts;
+}
+
+static struct tubochre_decision compare_lasso(struct random *r, const uint16_t *table, size_t len,
+                                              const struct drawn_lasso *l, size_t work_len)
+{
+    const uint16_t *const copy = lend_copy(r, &lent.table, table, len * sizeof *table);
+    const uint8_t *const prefix = lend_copy(r, &lent.prefix, l->prefix, l->prefix_len);
+    const uint8_t *const loop = lend_copy(r, &lent.loop, l->loop, l->loop_len);
+    uint32_t *const work = lend_garbage(r, &lent.work, work_len * sizeof *work);
+    const struct reference_decision expected = reference_lasso(table, len, l->prefix, l->prefix_len, l->loop,
+                                                               l->loop_len, lent.expected_work, work_len);
+    const struct tubochre_decision d =
+        tubochre_lasso(copy, len, prefix, l->prefix_len, loop, l->loop_len, work, work_len);
+    must_be_unchanged("table", copy, table, len * sizeof *table);
+    must_be_unchanged("prefix", prefix, l->prefix, l->prefix_len);
+    must_be_unchanged("loop", loop, l->loop, l->loop_len);
+    if (d.number != expected.number || d.taken != expected.taken) {
+        print_table("table", table, len);
+        differ("%s: a lasso of %zu and %zu letters with %zu work words is answered %" PRIu32 " %" PRIu32
+               " instead of %" PRIu32 " %" PRIu32,
+               trial.text, l->prefix_len, l->loop_len, work_len, d.number, d.taken, expected.number, expected.taken);
+    }
+    if (memcmp(work, lent.expected_work, work_len * sizeof *work) != 0)
+        differ("%s: a lasso of %zu and %zu letters with %zu work words leaves some that are not zero", trial.text,
+               l->prefix_len, l->loop_len, work_len);
+    tally.refused[expected.number]++;
+    tally.decisions++;
+    tally.taken += d.taken == TUBOCHRE_TAKEN;
+    return d;
+}
+
+/* ---- Rooms. */
+
+/* As much as is needed, or more; in the limits of what is lent here. */
+static size_t enough_work(struct random *r, uint32_t states, const struct drawn_lasso *l)
+{
+    const size_t need = tubochre_work_words(states, l->prefix_len, l->loop_len);
+    return random_chance(r, 50) ? need : need + random_below(r, 9);
+}
+
+/* One word short, none, or anything below. */
+static size_t short_work(struct random *r, uint32_t states, const struct drawn_lasso *l)
+{
+    const size_t need = tubochre_work_words(states, l->prefix_len, l->loop_len);
+    if (need == 0)
+        return 0;
+    switch (random_below(r, 3)) {
+    case 0: return 0;
+    case 1: return random_below(r, (uint32_t)need);
+    default: return need - 1;
+    }
+}
+
+/* Long lassos on large complements would need more than the memory lent here: their parts are cut. */
+static void fit_lasso(struct drawn_lasso *l, uint32_t states)
+{
+    while (tubochre_work_words(states, l->prefix_len, l->loop_len) + 9 > WORK_ROOM) {
+        l->prefix_len /= 2;
+        l->loop_len = l->loop_len / 2 + 1;
+    }
+}
+
+/* ---- A pattern, its complement, and lassos over both: the third demand. */
+
+static void compare_rooms(struct random *r, const uint16_t *table, size_t len,
+                          const struct reference_complement *complement, struct tubochre_counts counts)
+{
+    const size_t words = tubochre_table_words(counts.states, counts.edges), sets = tubochre_sets_words(counts.states);
+    compare_build(r, table, len, complement, words, sets);
+    compare_build(r, table, len, complement, words, sets - 1);
+    compare_build(r, table, len, complement, words - 1, sets);
+    switch (random_below(r, 6)) {
+    case 0: compare_build(r, table, len, complement, 0, sets); break;
+    case 1: compare_build(r, table, len, complement, words, 0); break;
+    case 2: compare_build(r, table, len, complement, 0, 0); break;
+    case 3: compare_build(r, table, len, complement, words - 1, sets - 1); break;
+    case 4: compare_build(r, table, len, complement, words + random_below(r, 9), sets + random_below(r, 9)); break;
+    default:
+        compare_build(r, table, len, complement, random_below(r, (uint32_t)words),
+                      random_below(r, (uint32_t)sets + 9));
+        break;
+    }
+}
+
+static void third_demand(struct random *r, const struct drawn_table *t, const uint16_t *complement,
+                         struct tubochre_counts counts)
+{
+    const size_t len = tubochre_table_words(counts.states, counts.edges);
+    static struct drawn_lasso l;
+    struct tubochre_decision by_pattern, by_complement;
+    unsigned runs;
+    draw_lasso(r, &l, t->words[1]);
+    fit_lasso(&l, counts.states);
+    by_pattern = compare_lasso(r, t->words, t->len, &l, enough_work(r, t->words[0], &l));
+    by_complement = compare_lasso(r, complement, len, &l, enough_work(r, counts.states, &l));
+    if (by_pattern.number != 0 || by_complement.number != 0 || by_pattern.taken == by_complement.taken)
+        differ("%s: pattern and complement answer %" PRIu32 " %" PRIu32 " and %" PRIu32 " %" PRIu32, trial.text,
+               by_pattern.number, by_pattern.taken, by_complement.number, by_complement.taken);
+    runs = reference_runs(complement, l.prefix, l.prefix_len, l.loop, l.loop_len);
+    if (runs != (by_complement.taken == TUBOCHRE_TAKEN ? 1U : 0U))
+        differ("%s: the complement has %u accepting runs (2: or more) and answers %" PRIu32, trial.text, runs,
+               by_complement.taken);
+    tally.lassos++;
+    tally.runs_checked++;
+    if (random_chance(r, 10))
+        compare_lasso(r, complement, len, &l, short_work(r, counts.states, &l));
+}
+
+static void odd_lasso(struct random *r, const uint16_t *table, size_t len)
+{
+    const uint32_t states = len < 3 ? 1 : table[0], letters = len < 3 || table[1] > 16 ? 16 : table[1];
+    static struct drawn_lasso l;
+    draw_odd_lasso(r, &l, letters);
+    fit_lasso(&l, states);
+    compare_lasso(r, table, len, &l, random_chance(r, 50) ? enough_work(r, states, &l) : short_work(r, states, &l));
+    tally.lassos++;
+}
+
+static void plain_lasso(struct random *r, const uint16_t *table, size_t len)
+{
+    const uint32_t states = len < 3 ? 1 : table[0], letters = len < 3 || table[1] > 16 ? 16 : table[1];
+    static struct drawn_lasso l;
+    struct tubochre_decision d;
+    draw_lasso(r, &l, letters);
+    fit_lasso(&l, states);
+    d = compare_lasso(r, table, len, &l, enough_work(r, states, &l));
+    if (d.number == 0) { /* the reference's two ways must agree with each other too */
+        const unsigned runs = reference_runs(table, l.prefix, l.prefix_len, l.loop, l.loop_len);
+        if ((runs > 0) != (d.taken == TUBOCHRE_TAKEN))
+            differ("%s: the reference counts %u runs of a lasso that is answered %" PRIu32, trial.text, runs, d.taken);
+    }
+    tally.lassos++;
+}
+
+static void try_complement(struct random *r, const struct drawn_table *t, const struct reference_complement *complement,
+                           struct tubochre_counts counts)
+{
+    const size_t len = tubochre_table_words(counts.states, counts.edges);
+    uint16_t *const words = room_for(len * sizeof *words);
+    int i;
+    memcpy(words, lent.expected_words, len * sizeof *words); /* compared with what the library wrote */
+    if (counts.states > reference_bound(t->words))
+        differ("%s: %" PRIu32 " states are above the bound %" PRIu64, trial.text, counts.states,
+               reference_bound(t->words));
+    tally.states += counts.states;
+    tally.edges += counts.edges;
+    if (counts.states > tally.largest)
+        tally.largest = counts.states;
+    tally.built++;
+    compare_rooms(r, t->words, t->len, complement, counts);
+    for (i = 0; i < LASSOS; i++)
+        third_demand(r, t, words, counts);
+    odd_lasso(r, words, len);
+    free(words);
+}
+
+static void try_pattern(struct random *r, struct drawn_table *t)
+{
+    struct reference_complement *const complement = reference_explore(t->words, t->len);
+    const struct reference_counts sizes = reference_sizes(complement);
+    const int most = random_below(r, 200) == 0; /* seldom all the room that a complement could need */
+    const size_t words = most ? TUBOCHRE_WIDE_WORDS_MOST : tubochre_table_words(sizes.states, sizes.edges);
+    const size_t sets = tubochre_sets_words(most ? TUBOCHRE_WIDE_STATES_MOST : sizes.states);
+    struct tubochre_counts counts;
+    int i;
+    tally.patterns++;
+    if (compare_check(r, t->words, t->len) == 0)
+        tally.passed++;
+    counts = compare_build(r, t->words, t->len, complement, words + random_below(r, 9), sets + random_below(r, 9));
+    if (counts.number == 0)
+        try_complement(r, t, complement, counts);
+    else
+        for (i = 0; i < LASSOS; i++)
+            plain_lasso(r, t->words, t->len);
+    odd_lasso(r, t->words, t->len);
+    reference_forget(complement);
+}
+
+static void try_wide(struct random *r, struct drawn_table *t)
+{
+    int i;
+    draw_wide(r, t);
+    for (i = 0; i < WIDE_LASSOS; i++)
+        plain_lasso(r, t->words, t->len);
+}
+
+static void build_in_some_room(struct random *r, const struct drawn_table *t)
+{
+    struct reference_complement *const complement = reference_explore(t->words, t->len);
+    compare_build(r, t->words, t->len, complement, random_below(r, 5000), random_below(r, 3000));
+    reference_forget(complement);
+}
+
+static void try_damaged(struct random *r, struct drawn_table *t)
+{
+    const int wide = random_chance(r, 20);
+    if (wide)
+        draw_wide(r, t);
+    draw_damage(r, t);
+    tally.damaged++;
+    /* A wide table that passes as a pattern may have far more candidates than the reference can try. */
+    if (compare_check(r, t->words, t->len) != 0 || !wide || t->words[0] <= 6)
+        build_in_some_room(r, t);
+    if (random_chance(r, 50))
+        plain_lasso(r, t->words, t->len);
+    else
+        odd_lasso(r, t->words, t->len);
+}
+
+static void run_trial(uint64_t seed)
+{
+    static struct drawn_table pattern, other;
+    struct random r = random_from(seed);
+    int i;
+    trial.seed = seed;
+    snprintf(trial.text, sizeof trial.text, "pattern (seed %" PRIu64 ")", seed);
+    draw_pattern(&r, &pattern);
+    try_pattern(&r, &pattern);
+    snprintf(trial.text, sizeof trial.text, "wide table (seed %" PRIu64 ")", seed);
+    try_wide(&r, &other);
+    snprintf(trial.text, sizeof trial.text, "damaged table (seed %" PRIu64 ")", seed);
+    for (i = 0; i < DAMAGES; i++) {
+        other = pattern;
+        try_damaged(&r, &other);
+    }
+}
+
+static void print_summary(uint64_t seed, uint64_t trials)
+{
+    int i;
+    printf("answers by refusal:");
+    for (i = 0; i <= 16; i++)
+        printf(" %d:%" PRIu64, i, tally.refused[i]);
+    printf("\ncompare: ok: seeds %" PRIu64 " to %" PRIu64 ": %" PRIu64 " patterns (%" PRIu64 " passed, %" PRIu64
+           " built: %" PRIu64 " states, %" PRIu64 " edges, largest %" PRIu64 "), %" PRIu64 " lassos (%" PRIu64
+           " decisions, %" PRIu64 " taken, the third demand on %" PRIu64 "), %" PRIu64
+           " damaged tables, 0 differences\n",
+           seed, seed + trials - 1, tally.patterns, tally.passed, tally.built, tally.states, tally.edges, tally.largest,
+           tally.lassos, tally.decisions, tally.taken, tally.runs_checked, tally.damaged);
+}
+
+static uint64_t number_argument(const char *text)
+{
+    char *end;
+    uint64_t number;
+    errno = 0;
+    number = strtoull(text, &end, 10);
+    if (text[0] < '0' || text[0] > '9' || *end != '\0' || errno != 0) {
+        fprintf(stderr, "compare: not a number: %s\n", text);
+        exit(2);
+    }
+    return number;
+}
+
+int main(int argc, char **argv)
+{
+    uint64_t seed = default_seed, trials = TRIALS, i;
+    int a;
+    for (a = 1; a + 1 < argc; a += 2) {
+        if (strcmp(argv[a], "--seed") == 0)
+            seed = number_argument(argv[a + 1]);
+        else if (strcmp(argv[a], "--trials") == 0)
+            trials = number_argument(argv[a + 1]);
+        else
+            break;
+    }
+    if (a < argc) {
+        fputs("usage: compare [--seed N] [--trials N]\n", stderr);
+        return 2;
+    }
+    make_rooms();
+    fence_watch(trial.text);
+    printf("compare: %" PRIu64 " trials from seed %" PRIu64 "\n", trials, seed);
+    for (i = 0; i < trials; i++)
+        run_trial(seed + i);
+    print_summary(seed, trials);
+    return 0;
+}
