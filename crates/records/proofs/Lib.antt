@@ -1,3 +1,4 @@
+pub mod First
 pub mod Laid
 pub mod Machine
 pub mod Words

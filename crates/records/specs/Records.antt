@@ -1,7 +1,8 @@
 -- A lent run of records, four sets each (document 01, "Numbering and result"). Assumes nothing: these are definitions.
+use mathlib.Core.Bool.{cond}
 use mathlib.Core.List.{List, [], _∷_}
 use Prim.Native.Nat.{ℕ, zero, suc}
-use Rattle.ncsb.specs.Successors.{quadruple}
+use Rattle.ncsb.specs.Successors.{quadruple, same}
 use Rattle.ncsb.specs.declared.Quadruple.{Quadruple}
 
 -- what stands where no record is: four empty sets
@@ -21,3 +22,8 @@ unfoldable pub fitted : (count : ℕ) → List Quadruple → List Quadruple
 fitted zero xs = []
 fitted (suc n) [] = blank ∷ fitted n []
 fitted (suc n) (x ∷ xs) = x ∷ fitted n xs
+
+-- the place of the first record that holds a quadruple, or their count
+unfoldable pub place-of : Quadruple → List Quadruple → ℕ
+place-of x [] = 0
+place-of x (y ∷ ys) = cond (same x y) 0 (suc (place-of x ys))

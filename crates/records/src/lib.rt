@@ -3,7 +3,8 @@ use ncsb::Quadruple;
 ghost use mathlib.Core.Path.{_≡_};
 ghost use Prim.Native.Nat.{_<_};
 ghost use lib.ListN.{length, getD, set};
-ghost use Rattle.records.specs.Records.{blank, records-of, fitted};
+ghost use Rattle.ncsb.specs.Successors.{same};
+ghost use Rattle.records.specs.Records.{blank, records-of, fitted, place-of};
 
 // How many records are lent.
 pub fn count(records: &[Quadruple]) -> usize
@@ -58,4 +59,25 @@ pub fn fill(records: &mut [Quadruple], sets: &[u32])
         records[number] = record_in(sets, number);
         number += 1;
     }
+}
+
+// Two quadruples are the same: all four sets are compared, with no branch.
+pub fn equal(x: Quadruple, y: Quadruple) -> bool
+    ensures { λ r. ⌜ r ≡ same x y ⌝ }
+{
+    ((x.N == y.N) & (x.C == y.C)) & ((x.S == y.S) & (x.B == y.B))
+}
+
+// The place of the first record that holds a quadruple, or their count.
+pub fn find(records: &[Quadruple], x: Quadruple) -> usize
+    ensures { λ r. ⌜ r ≡ place-of x (now (records .entry)) ⌝ }
+{
+    let mut number = 0;
+    while number < records.len() {
+        if equal(x, records[number]) {
+            return number;
+        }
+        number += 1;
+    }
+    number
 }

@@ -1,0 +1,48 @@
+-- A scan of records from the first on finds the place of a quadruple, which is its number among them. Assumes nothing.
+use mathlib.Core.Path.{_≡_, refl, sym, _∙_, ap}
+use mathlib.Core.Bool.{true, false, cond}
+use mathlib.Core.List.{List, [], _∷_}
+use Prim.Native.Nat.{ℕ, suc, _+_, _≤_, _<_}
+use native.Mathlib.Numerals.{add-one}
+use native.Mathlib.Omega.{arith}
+use lib.ListN.{length, getD, drop, drop-of-length-le}
+use lib.Seq.{drop-cons}
+use Rattle.automata.specs.System.{number-of}
+use Rattle.ncsb.specs.Moves.{Moves}
+use Rattle.ncsb.specs.Successors.{same, ncsb}
+use Rattle.ncsb.specs.declared.Quadruple.{Quadruple}
+use Rattle.records.specs.Records.{blank, place-of}
+
+-- the place of a quadruple is the number that exploring gives it (document 01, "Numbering and result")
+pub place-number : (d : Moves) (x : Quadruple) (ys : List Quadruple) → place-of x ys ≡ number-of (ncsb d) x ys
+unfolding place-of number-of ncsb
+place-number d x [] = refl
+place-number d x (y ∷ ys) = ap (λ (k : ℕ). cond (same x y) 0 (suc k)) (place-number d x ys)
+
+-- what is left to scan, past the first k records, decides the place
+pub record Scanned (x : Quadruple) (ys : List Quadruple) (k : ℕ) : Type 0 where
+  pub left : place-of x ys ≡ k + place-of x (drop k ys)
+
+module _ (x : Quadruple) (ys : List Quadruple) where
+  pub scanned-none : Scanned x ys 0
+  scanned-none = record { left = omega arith }
+
+  -- the record at k is x: its place is k
+  pub scanned-met : (k : ℕ) → k < length ys → Scanned x ys k → same x (getD ys k blank) ≡ true → k ≡ place-of x ys
+  unfolding place-of
+  scanned-met k l s e =
+      let h : place-of x (drop k ys) ≡ 0 = rw (drop-cons ys k blank l, e) refl in let f = s .left in omega arith
+
+  -- it is not: one more is scanned
+  pub scanned-more : (k : ℕ) → k < length ys → Scanned x ys k → same x (getD ys k blank) ≡ false → Scanned x ys (k + 1)
+  unfolding place-of
+  scanned-more k l s e =
+      let h : place-of x (drop k ys) ≡ suc (place-of x (drop (suc k) ys)) = rw (drop-cons ys k blank l, e) refl in
+      let f = s .left in record { left = rw (add-one k) (omega arith) }
+
+  -- all are scanned: the place is their count
+  pub scanned-all : (k : ℕ) → k ≡ length ys → Scanned x ys k → k ≡ place-of x ys
+  unfolding place-of
+  scanned-all k e s =
+      let m : length ys ≤ k = omega arith in
+      let h : place-of x (drop k ys) ≡ 0 = rw (drop-of-length-le ys m) refl in let f = s .left in omega arith
