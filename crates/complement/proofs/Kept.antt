@@ -19,7 +19,7 @@ use Rattle.tables.specs.Table.{wide-range}
 use Rattle.ncsb.specs.Moves.{Moves}
 use Rattle.ncsb.specs.Successors.{quadruple, ncsb}
 use Rattle.ncsb.specs.declared.Quadruple.{Quadruple}
-use Rattle.patterns.proofs.Walks.{tabulate-length}
+use Rattle.patterns.proofs.General.{tabulate-length}
 use Rattle.complement.specs.Complement.{quadruple-words, record-width}
 use Rattle.complement.specs.Records.{quadruple-at, records-of, with-quadruple, capacity, Looked-up}
 use Rattle.complement.specs.Found.{Begins, records, States-kept, triple, triples, edge-room, counted-to, Edges-kept, with-edge, one-more, Shows, Ends}

@@ -1,6 +1,8 @@
 pub mod Agreeing
 pub mod Arrays
 pub mod Choices
+pub mod Clears
+pub mod Flagged
 pub mod Kept
 pub mod Letters
 pub mod Lookup

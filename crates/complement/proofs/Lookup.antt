@@ -16,7 +16,7 @@ use Rattle.tables.specs.Table.{wide-range}
 use Rattle.ncsb.specs.Moves.{Moves}
 use Rattle.ncsb.specs.Successors.{same, ncsb}
 use Rattle.ncsb.specs.declared.Quadruple.{Quadruple}
-use Rattle.patterns.proofs.Walks.{tabulate-length}
+use Rattle.patterns.proofs.General.{tabulate-length}
 use Rattle.complement.specs.Complement.{record-width}
 use Rattle.complement.specs.Records.{quadruple-at, records-of, capacity, Looked-up}
 

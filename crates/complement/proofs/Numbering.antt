@@ -43,6 +43,12 @@ pub record Exploring (t w s : List ℕ) (p : Progress) (i : ℕ) : Type 0 where
   pub shows : Shows built w s p
   pub at : At-state (system-of t) (16 ^ n-of t) i built
 
+pub explore-limit : {t w s : List ℕ} {p : Progress} {i : ℕ} → Exploring t w s p i → p .states ≤ 65535
+explore-limit {s} h =
+    let e = h .shows .states .counted in
+    let l = h .shows .states .fits in
+    let m = capacity-limit s in omega arith
+
 module _ (t : List ℕ) (passed : check-refusal t ≡ 0) where
   -- AT MOST 16^n quadruples are reached
   pub most-reached : At-most (system-of t) (16 ^ n-of t)
@@ -169,17 +175,10 @@ module _ (t : List ℕ) (passed : check-refusal t ≡ 0) where
             let ends : Ends (expand (system-of t) i (h .built)) w′ s′ p′ = rw expands at (turn .from (h .built) (h .shows)) in
             rw add-one (record { built = expand (system-of t) i (h .built); shows = ends-within left ends; at = next })
 
-  module _ {w s : List ℕ} {p : Progress} {i : ℕ} (h : Exploring t w s p i) where
-    pub explore-limit : p .states ≤ 65535
-    explore-limit =
-        let e = h .shows .states .counted in
-        let l = h .shows .states .fits in
-        let m = capacity-limit s in omega arith
-
-    pub explore-end : p .states ≤ i → Ends (complement t) w s p
-    unfolding system-of complement
-    explore-end l =
-        let e = h .shows .states .counted in
-        let all : h .built ≡ explore (16 ^ n-of t) (system-of t) =
-        state-end (system-of t) system-decides (16 ^ n-of t) most-reached (omega arith) (h .at) in
-        within (rw all at (h .shows))
+  pub explore-end : {w s : List ℕ} {p : Progress} {i : ℕ} → Exploring t w s p i → p .states ≤ i → Ends (complement t) w s p
+  unfolding system-of complement
+  explore-end h l =
+      let e = h .shows .states .counted in
+      let all : h .built ≡ explore (16 ^ n-of t) (system-of t) =
+      state-end (system-of t) system-decides (16 ^ n-of t) most-reached (omega arith) (h .at) in
+      within (rw all at (h .shows))

@@ -34,19 +34,29 @@ module _ (shape : Shape) where
     pub some : count ≤ length (initials (start-moves shape))
     pub kept : States-kept (take count (initials (start-moves shape))) s count
 
-  module _ {free choices : ℕ} (freed : free ≡ without (bitAnd (shape .starts) (shape .inner)) (shape .marks)) (counted : choices ≡ 2 ^ size 32 free) where
-    pub start-count : length (initials (start-moves shape)) ≡ choices
-    unfolding start-moves
-    start-count =
-        initials-count (shape .starts) (shape .marks) (shape .inner)
-        ∙ ap (λ (f : ℕ). 2 ^ size 32 f) (start-free ∙ sym freed) ∙ sym counted
+  -- their number is that of the parts of what is free
+  pub start-counted :
+      {free choices : ℕ} → free ≡ without (bitAnd (shape .starts) (shape .inner)) (shape .marks) → choices ≡ 2 ^ size 32 free →
+      choices ≡ length (initials (start-moves shape))
+  unfolding start-moves
+  start-counted freed counted =
+      sym
+      (initials-count (shape .starts) (shape .marks) (shape .inner)
+      ∙ ap (λ (f : ℕ). 2 ^ size 32 f) (start-free ∙ sym freed) ∙ sym counted)
 
+  start-few : length (initials (start-moves shape)) ≤ 2 ^ 32
+  unfolding start-moves
+  start-few =
+      rw (initials-count (shape .starts) (shape .marks) (shape .inner))
+      (choices-fit (initial-free (from-array [] (shape .starts) (shape .marks) (shape .inner))))
+
+  module _ {choices : ℕ} (counted : choices ≡ length (initials (start-moves shape))) where
     pub start-fits : (j : ℕ) → j < choices → j < 2 ^ 32
-    start-fits j l = let h = choices-fit free in let e = counted in omega arith
+    start-fits j l = let h = start-few in let e = counted in omega arith
 
     -- they do not fit
     pub start-full : {s : List ℕ} {p : Progress} {room : ℕ} → room ≡ capacity s → room < choices → p .full ≡ true → Started shape s p
-    start-full e l full = let n = start-count in too-many full (omega arith)
+    start-full e l full = let n = counted in too-many full (omega arith)
 
     pub store-start : {s : List ℕ} → Begins [] s → Storing s s 0
     unfolding records
@@ -70,7 +80,7 @@ module _ (shape : Shape) where
       unfolding start-moves
       store-turn {x} {s′} e e′ kept =
           let xs = initials (start-moves shape) in
-          let count = start-count in
+          let count = counted in
           let parts = initials-count (shape .starts) (shape .marks) (shape .inner) in
           let at : x ≡ getD xs k (quadruple 0 0 0 0) =
           e ∙ choice-initial (shape .starts) (shape .marks) (shape .inner) k (omega arith) in
@@ -89,7 +99,7 @@ module _ (shape : Shape) where
         Started shape s p
     store-end {s₀} {s} {k} {p} h l g left none e =
         let xs = initials (start-moves shape) in
-        let count = start-count in
+        let count = counted in
         let whole : States-kept xs s k = rw (take-all k xs (omega arith)) at (h .kept) in
         let states : p .states ≡ k = omega arith in started left none (rw states whole)
 

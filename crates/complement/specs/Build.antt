@@ -50,6 +50,12 @@ pub record Build-says (t : List ℕ) (r : Counts) (o o-now s s-now : List ℕ) :
   pub words : o-now ≡ after-build (build-refusal t (room-of o s)) (complement-words t) o
   pub sets : s-now ≡ after-build (build-refusal t (room-of o s)) (sets-words t) s
 
+-- a refusal: its number and nothing else, and both buffers are zero
+pub record Refused-with (number : ℕ) (r : Counts) (o o-now s s-now : List ℕ) : Type 0 where
+  pub answer : r ≡ record { number = number; states = 0; edges = 0 }
+  pub words : o-now ≡ zeros o
+  pub sets : s-now ≡ zeros s
+
 -- THE COMPLEMENT: the used part of the table words, by the counts answered
 unfoldable pub used : Counts → List ℕ → List ℕ
 used r x = take (words-needed (r .states) (r .edges)) x

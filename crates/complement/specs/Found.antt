@@ -7,14 +7,17 @@ use lib.Dec.{ltb}
 use lib.ListN.{length, getD, take}
 use lib.Seq.{sets}
 use Rattle.automata.specs.System.{Edge, Built}
-use Rattle.tables.specs.Table.{Limits, wide-range}
+use Rattle.tables.specs.Table.{Limits, wide-range, meaning}
 use Rattle.ncsb.specs.Array.{from-array}
 use Rattle.ncsb.specs.Moves.{Moves}
 use Rattle.ncsb.specs.Successors.{initials}
 use Rattle.ncsb.specs.declared.Quadruple.{Quadruple}
 use Rattle.patterns.specs.Check.{check-refusal}
+use Rattle.patterns.specs.Masks.{masks-of}
+use Rattle.patterns.specs.Pattern.{moves}
+use Rattle.patterns.specs.Shape.{shape-of}
 use Rattle.patterns.specs.declared.Shape.{Shape}
-use Rattle.complement.specs.Complement.{quadruple-words}
+use Rattle.complement.specs.Complement.{quadruple-words, complement}
 use Rattle.complement.specs.Records.{capacity, with-quadruple, Looked-up}
 use Rattle.complement.specs.declared.explore.Progress.{Progress}
 
@@ -113,8 +116,19 @@ pub data Started (shape : Shape) (sets-words : List ℕ) (p : Progress) : Type 0
       p .full ≡ false → p .edges ≡ 0 → States-kept (initials (start-moves shape)) sets-words (p .states) → Started shape sets-words p
   too-many : p .full ≡ true → capacity sets-words < length (initials (start-moves shape)) → Started shape sets-words p
 
--- what exploring asks: the table passes the check, and both buffers are zero
-pub record Explore-asks (table words sets-words : List ℕ) : Type 0 where
+-- WHAT IS READ OFF a pattern that passes the check
+pub record Read-off (table : List ℕ) (masks : List (List ℕ)) (shape : Shape) : Type 0 where
   pub passed : check-refusal table ≡ 0
+  pub masked : masks ≡ masks-of (moves (meaning table))
+  pub shaped : shape ≡ shape-of (moves (meaning table))
+
+-- what exploring asks: masks and shape are read off a pattern, and both buffers are zero
+pub record Explore-asks (masks : List (List ℕ)) (shape : Shape) (words sets-words : List ℕ) : Type 0 where
+  pub table : List ℕ
+  pub read-off : Read-off table masks shape
   pub words-clear : Begins [] words
   pub sets-clear : Begins [] sets-words
+
+-- what exploring says: it ends with the complement of whatever pattern they are read off
+pub record Explored-to (masks : List (List ℕ)) (shape : Shape) (words sets-words : List ℕ) (p : Progress) : Type 0 where
+  pub ends : (t : List ℕ) → Read-off t masks shape → Ends (complement t) words sets-words p

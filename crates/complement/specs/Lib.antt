@@ -1,4 +1,5 @@
 pub mod Build
 pub mod Complement
+pub mod Flags
 pub mod Found
 pub mod Records

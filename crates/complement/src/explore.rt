@@ -2,17 +2,15 @@
 use crate::records;
 use ncsb::Quadruple;
 use patterns::Shape;
-use patterns::masks_of;
-use patterns::shape_of;
 ghost use mathlib.Core.Path.{_≡_};
 ghost use mathlib.Core.List.{[]};
 ghost use Prim.Native.Nat.{_≤_};
+ghost use lib.ListN.{length};
 ghost use Rattle.automata.specs.System.{an-edge, add-edge, add-all, by-letters};
 ghost use Rattle.ncsb.specs.Moves.{Moves};
-ghost use Rattle.ncsb.specs.Successors.{ncsb, successors};
-ghost use Rattle.complement.specs.Complement.{complement};
+ghost use Rattle.ncsb.specs.Successors.{ncsb, successors, initials};
 ghost use Rattle.complement.specs.Records.{capacity, quadruple-at};
-ghost use Rattle.complement.specs.Found.{with-edge, one-more, Placed, Turns, Step-asks, Expand-asks, array-moves, Begins, Started, Ends, Explore-asks};
+ghost use Rattle.complement.specs.Found.{with-edge, one-more, Placed, Turns, Step-asks, Expand-asks, array-moves, Begins, start-moves, Started, Explore-asks, Explored-to};
 
 // What has been found: how many states and edges, and whether there were more states than fit.
 pub(crate) struct Progress {
@@ -163,13 +161,19 @@ fn expand(
     now
 }
 
+// How many initial quadruples there are: the initial states of Q2 outside F are free to be safe or not.
+pub(crate) fn initial_count(shape: Shape) -> usize
+    ensures { λ r. ⌜ r ≡ length (initials (start-moves shape)) ⌝ }
+{
+    sets::choices(sets::without(shape.starts & shape.inner, shape.marks)) as usize
+}
+
 // Stores the initial quadruples, by rising choice. They all differ, so none has to be looked up.
 fn store_initials(shape: Shape, sets: &mut [u32]) -> Progress
     requires { ⌜ Begins [] (now sets) ⌝ }
     ensures { λ r. ⌜ Started shape (now (sets .exit)) r ⌝ }
 {
-    let free = sets::without(shape.starts & shape.inner, shape.marks);
-    let choices = sets::choices(free) as usize;
+    let choices = initial_count(shape);
     if records::room(sets) < choices {
         return Progress {
             states: 0,
@@ -191,12 +195,15 @@ fn store_initials(shape: Shape, sets: &mut [u32]) -> Progress
 }
 
 // Explores the complement of a pattern from the initial states on, in number order.
-pub(crate) fn explore(table: &[u16], words: &mut [u16], sets: &mut [u32]) -> Progress
-    requires { ⌜ Explore-asks (now table) (now words) (now sets) ⌝ }
-    ensures { λ r. ⌜ Ends (complement (now (table .entry))) (now (words .exit)) (now (sets .exit)) r ⌝ }
+pub(crate) fn explore(
+    masks: [[u32; 16]; 32],
+    shape: Shape,
+    words: &mut [u16],
+    sets: &mut [u32],
+) -> Progress
+    requires { ⌜ Explore-asks masks shape (now words) (now sets) ⌝ }
+    ensures { λ r. ⌜ Explored-to masks shape (now (words .exit)) (now (sets .exit)) r ⌝ }
 {
-    let masks = masks_of(table);
-    let shape = shape_of(table, masks);
     let mut found = store_initials(shape, sets);
     if found.full {
         return found;

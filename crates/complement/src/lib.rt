@@ -1,5 +1,17 @@
 // The complement build: the reachable NCSB complement of a pattern, in lent buffers.
+use layout::lay_out;
+use patterns::check_refusal;
+use patterns::masks_of;
+use patterns::shape_of;
+ghost use Prim.Native.Nat.{_≤_};
+ghost use mathlib.Core.Path.{_≡_};
+ghost use mathlib.Core.Bool.{_||_};
+ghost use lib.Dec.{ltb};
+ghost use Rattle.complement.specs.Build.{words-needed, Build-says, Refused-with};
+
+mod buffers;
 mod explore;
+mod flags;
 mod records;
 
 // What the build answers: the number of a refusal, or zero with both counts.
@@ -8,4 +20,58 @@ pub struct Counts {
     pub number: u32,
     pub states: u32,
     pub edges: u32,
+}
+
+// A refusal: its number, both counts zero, and both buffers clear.
+fn refuse(number: u32, words: &mut [u16], sets: &mut [u32]) -> Counts
+    ensures { λ r. ⌜ Refused-with number r (now (words .entry)) (now (words .exit)) (now (sets .entry)) (now (sets .exit)) ⌝ }
+{
+    buffers::clear_words(words);
+    buffers::clear_sets(sets);
+    Counts {
+        number,
+        states: 0,
+        edges: 0,
+    }
+}
+
+// More edges than a table can have, or more words than are lent.
+fn too_long(words: usize, states: usize, edges: usize) -> bool
+    requires { ⌜ states ≤ 65535 ⌝ }
+    ensures { λ r. ⌜ r ≡ (ltb 65535 edges || ltb words (words-needed states edges)) ⌝ }
+{
+    if edges > 65535 {
+        return true;
+    }
+    3 + 2 * states + 3 * edges > words
+}
+
+// Builds the reachable complement of a pattern: its table in the words, its quadruples in the sets.
+pub fn build_complement(table: &[u16], words: &mut [u16], sets: &mut [u32]) -> Counts
+    ensures { λ r. ⌜ Build-says (now (table .entry)) r (now (words .entry)) (now (words .exit)) (now (sets .entry)) (now (sets .exit)) ⌝ }
+{
+    let refusal = check_refusal(table);
+    if refusal != 0 {
+        return refuse(refusal, words, sets);
+    }
+    buffers::clear_words(words);
+    buffers::clear_sets(sets);
+    let masks = masks_of(table);
+    let shape = shape_of(table, masks);
+    let found = explore::explore(masks, shape, words, sets);
+    if found.full {
+        return refuse(11, words, sets);
+    }
+    let states = found.states;
+    let edges = found.edges;
+    if too_long(words.len(), states, edges) {
+        return refuse(12, words, sets);
+    }
+    lay_out(words, states, shape.letters, edges);
+    flags::set_flags(words, sets, explore::initial_count(shape), states);
+    Counts {
+        number: 0,
+        states: states as u32,
+        edges: edges as u32,
+    }
 }

@@ -7,23 +7,19 @@ use Rattle.complement.proofs.explore.store_initials.Statement.{statemen
 use Rattle.complement.proofs.explore.store_initials.Tie as tie
 use Rattle.complement.proofs.explore.store_initials.Reads as reads
 use Rattle.complement.proofs.explore.store_initials.Lts as lts
+use Rattle.complement.proofs.explore.initial_count.Reads as initial-count-reads
 use Rattle.complement.proofs.records.room.Reads as room-reads
 use Rattle.complement.proofs.records.store.Reads as store-reads
 use Rattle.ncsb.proofs.Quadruple.initial.Reads as initial-reads
-use Rattle.sets.proofs.choices.Reads as choices-reads
-use Rattle.sets.proofs.without.Reads as without-reads
 
 abbrev Inv-loop : tie.InvT-loop
-Inv-loop shape sets₀ free choices choice₀ sets choice = (choice ≤ choices) × Storing shape sets₀ sets choice
+Inv-loop shape sets₀ choices choice₀ sets choice = (choice ≤ choices) × Storing shape sets₀ sets choice
 
 abbrev μ-loop : tie.MeasureT-loop
-μ-loop shape sets₀ free choices choice₀ sets choice = choices - choice
+μ-loop shape sets₀ choices choice₀ sets choice = choices - choice
 
-without-requires : tie.Need-without-requires Inv-loop μ-loop
-without-requires c κs = tt
-
-choices-requires : tie.Need-choices-requires Inv-loop μ-loop
-choices-requires c κs = tt
+initial-count-requires : tie.Need-initial-count-requires Inv-loop μ-loop
+initial-count-requires c κs = tt
 
 room-requires : tie.Need-room-requires Inv-loop μ-loop
 room-requires c κs = tt
@@ -32,20 +28,20 @@ same-length : tie.Need-same-length Inv-loop μ-loop
 same-length c = refl
 
 returns : tie.Need-returns Inv-loop μ-loop
-returns c = start-full (c .before .before .before .before .before .before .before .args .shape) (c .before .before .before .before .without .ensures) (c .before .before .before .choices .ensures .0) (c .before .room .ensures) (c .if1 .taken) refl
+returns c = start-full (c .before .before .before .before .before .args .shape) (c .before .before .before .initial-count .ensures) (c .before .room .ensures) (c .if1 .taken) refl
 
 loop-holds : tie.Need-loop-holds Inv-loop μ-loop
-loop-holds c = (omega arith, store-start (c .before .before .before .before .before .before .before .args .shape) (c .before .before .before .before .without .ensures) (c .before .before .before .choices .ensures .0) (c .before .before .before .before .before .before .before .pre))
+loop-holds c = (omega arith, store-start (c .before .before .before .before .before .args .shape) (c .before .before .before .initial-count .ensures) (c .before .before .before .before .before .pre))
 
 cast-initial : tie.Need-cast-initial Inv-loop μ-loop
-cast-initial c = record { fits = start-fits (c .before .before .before .before .before .before .before .before .before .args .shape) (c .before .before .before .before .before .before .without .ensures) (c .before .before .before .before .before .choices .ensures .0) (c .before .loop .choice) (c .loop-test .taken) }
+cast-initial c = record { fits = start-fits (c .before .before .before .before .before .before .before .args .shape) (c .before .before .before .before .before .initial-count .ensures) (c .before .loop .choice) (c .loop-test .taken) }
 
 initial-requires : tie.Need-initial-requires Inv-loop μ-loop
 initial-requires c κs = tt
 
 store-requires : tie.Need-store-requires Inv-loop μ-loop
 store-requires c κs =
-    store-asks (c .before .before .before .before .before .before .before .before .before .before .before .args .shape) (c .before .before .before .before .before .before .before .before .without .ensures) (c .before .before .before .before .before .before .before .choices .ensures .0) (c .before .before .before .loop .inv .1) (c .before .before .loop-test .taken) (c .before .before .before .before .before .room .ensures) (c .before .before .before .before .if1 .left)
+    store-asks (c .before .before .before .before .before .before .before .before .before .args .shape) (c .before .before .before .before .before .before .before .initial-count .ensures) (c .before .before .before .loop .inv .1) (c .before .before .loop-test .taken) (c .before .before .before .before .before .room .ensures) (c .before .before .before .before .if1 .left)
 
 add-choice : tie.Need-add-choice Inv-loop μ-loop
 add-choice c = omega arith
@@ -56,7 +52,7 @@ loop-less c = omega arith
 loop-again : tie.Need-loop-again Inv-loop μ-loop
 loop-again c = (
   omega arith,
-  store-turn (c .before .before .before .before .before .before .before .before .before .before .before .before .before .before .args .shape) (c .before .before .before .before .before .before .before .before .before .before .before .without .ensures) (c .before .before .before .before .before .before .before .before .before .before .choices .ensures .0) (c .before .before .before .before .before .before .loop .inv .1) (c .before .before .before .before .before .loop-test .taken) (c .before .before .before .before .before .before .before .before .room .ensures) (c .before .before .before .before .before .before .before .if1 .left) (c .before .before .before .before .initial .ensures)
+  store-turn (c .before .before .before .before .before .before .before .before .before .before .before .before .args .shape) (c .before .before .before .before .before .before .before .before .before .before .initial-count .ensures) (c .before .before .before .before .before .before .loop .inv .1) (c .before .before .before .before .before .loop-test .taken) (c .before .before .before .before .before .before .before .before .room .ensures) (c .before .before .before .before .before .before .before .if1 .left) (c .before .before .before .before .initial .ensures)
       (c .before .before .store .ensures) (c .before .before .store .kept .0),
 )
 
@@ -65,7 +61,7 @@ same-length-2 c = (c .before .loop .inv .1 .size)
 
 returns-2 : tie.Need-returns-2 Inv-loop μ-loop
 returns-2 c =
-    store-end (c .before .before .before .before .before .before .before .before .before .args .shape) (c .before .before .before .before .before .before .without .ensures) (c .before .before .before .before .before .choices .ensures .0) (c .before .loop .inv .1) (c .before .loop .inv .0) (c .loop-test .left) refl refl refl
+    store-end (c .before .before .before .before .before .before .before .args .shape) (c .before .before .before .before .before .initial-count .ensures) (c .before .loop .inv .1) (c .before .loop .inv .0) (c .loop-test .left) refl refl refl
 
 pub store-initials-spec : {M : Type 1} → statement M
 store-initials-spec =
@@ -73,8 +69,7 @@ store-initials-spec =
     (tie.spec
     Inv-loop
     μ-loop
-    without-requires
-    choices-requires
+    initial-count-requires
     room-requires
     same-length
     returns

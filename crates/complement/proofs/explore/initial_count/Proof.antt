@@ -1,0 +1,21 @@
+-- `initial_count` is the number of initial quadruples. Assumes nothing.
+use Rattle.complement.proofs.Starting.{start-counted}
+use borrow.Author.Needs.{needs}
+use Rattle.complement.proofs.explore.initial_count.Statement.{statement}
+use Rattle.complement.proofs.explore.initial_count.Tie as tie
+use Rattle.complement.proofs.explore.initial_count.Reads as reads
+use Rattle.complement.proofs.explore.initial_count.Lts as lts
+use Rattle.sets.proofs.choices.Reads as choices-reads
+use Rattle.sets.proofs.without.Reads as without-reads
+
+without-requires : tie.Need-without-requires
+without-requires c κs = search needs
+
+choices-requires : tie.Need-choices-requires
+choices-requires c κs = search needs
+
+returns : tie.Need-returns
+returns c = start-counted (c .before .before .before .args .shape) (c .before .without .ensures) (c .choices .ensures .0)
+
+pub initial-count-spec : {M : Type 1} → statement M
+initial-count-spec = tie.close (tie.spec without-requires choices-requires returns)

@@ -1,0 +1,23 @@
+-- Flags of the states, from their records (document 01, "The quadruple and its step": accepting where B is empty). Assumes nothing: these are
+-- definitions.
+use mathlib.Core.Bool.{cond}
+use mathlib.Core.List.{List}
+use Prim.Native.Nat.{ℕ, zero, suc, _+_, _*_, _≤_}
+use lib.Dec.{ltb}
+use lib.ListN.{length, set}
+use Rattle.ncsb.specs.Successors.{accepting}
+use Rattle.complement.specs.Records.{quadruple-at}
+
+-- 1 initial, 2 accepting, 3 both; so many states are initial, and come first
+unfoldable pub flags-of-record : (sets-words : List ℕ) → (initial state : ℕ) → ℕ
+flags-of-record s k i = cond (ltb i k) 1 0 + cond (accepting (quadruple-at s i)) 2 0
+
+-- the words once so many states have their flags
+unfoldable pub with-flags : (sets-words : List ℕ) → (initial states : ℕ) → (words : List ℕ) → List ℕ
+with-flags s k zero w = w
+with-flags s k (suc i) w = set (with-flags s k i w) (3 + 2 * i) (flags-of-record s k i)
+
+-- both buffers have room for so many states
+pub record Flags-ask (words sets-words : List ℕ) (states : ℕ) : Type 0 where
+  pub words-room : 3 + 2 * states ≤ length words
+  pub sets-room : 4 * states ≤ length sets-words

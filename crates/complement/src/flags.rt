@@ -1,0 +1,37 @@
+// The flags of the states: initial ones come first, and those whose B is empty accept.
+use crate::records;
+ghost use mathlib.Core.Path.{_≡_};
+ghost use Prim.Native.Nat.{_+_, _*_, _≤_};
+ghost use lib.ListN.{length};
+ghost use Rattle.complement.specs.Flags.{flags-of-record, with-flags, Flags-ask};
+
+// The flags of one state, given how many are initial.
+fn state_flags(sets: &[u32], initial: usize, state: usize) -> u16
+    requires { ⌜ 4 * state + 4 ≤ length (now sets) ⌝ }
+    ensures { λ r. ⌜ r ≡ flags-of-record (now (sets .entry)) initial state ⌝ }
+{
+    let x = records::load(sets, state);
+    if state < initial {
+        if x.accepting() {
+            return 3;
+        }
+        return 1;
+    }
+    if x.accepting() {
+        return 2;
+    }
+    0
+}
+
+// Sets the flags of so many states.
+pub(crate) fn set_flags(words: &mut [u16], sets: &[u32], initial: usize, states: usize)
+    requires { ⌜ Flags-ask (now words) (now sets) states ⌝ }
+    ensures { λ _. ⌜ now (words .exit) ≡ with-flags (now (sets .entry)) initial states (now (words .entry)) ⌝ }
+{
+    let mut state = 0;
+    while state < states {
+        let flags = state_flags(sets, initial, state);
+        words[3 + 2 * state] = flags;
+        state += 1;
+    }
+}
