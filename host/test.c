@@ -1,0 +1,253 @@
+#include "test.h"
+
+#include "draw.h"
+#include "fence.h"
+
+#include <stdarg.h>
+#include <stdio.h>
+#include <stdlib.h>
+#include <string.h>
+
+/* ---- Expectations. */
+
+static struct {
+    unsigned long held, failed, failed_before;
+} count;
+
+void expect(int holds, const char *what, ...)
+{
+    va_list words;
+    if (holds) {
+        count.held++;
+        return;
+    }
+    count.failed++;
+    fputs("FAILED: ", stdout);
+    va_start(words, what);
+    vprintf(what, words);
+    va_end(words);
+    putchar('\n');
+}
+
+void section(const char *name)
+{
+    if (count.failed == count.failed_before)
+        printf("ok: %s\n", name);
+    else
+        printf("FAILED: %s\n", name);
+    count.failed_before = count.failed;
+    fflush(stdout);
+}
+
+int summary(const char *program)
+{
+    printf("%s: %lu expectations held, %lu failed\n", program, count.held, count.failed);
+    return count.failed == 0 ? 0 : 1;
+}
+
+/* ---- Lent memory. */
+
+static struct random garbage = {1};
+
+static void *copied(const struct fence *fence, const void *bytes, size_t len, enum fence_side side)
+{
+    void *const copy = fence_place(fence, len, side);
+    if (len > 0)
+        memcpy(copy, bytes, len);
+    fence_only_read(fence);
+    return copy;
+}
+
+static void *spoilt(const struct fence *fence, size_t len, enum fence_side side)
+{
+    void *const place = fence_place(fence, len, side);
+    draw_garbage(&garbage, place, len);
+    return place;
+}
+
+static void *kept(const void *bytes, size_t len)
+{
+    void *const copy = malloc(len > 0 ? len : 1);
+    if (copy == NULL) {
+        fputs("test: out of memory\n", stderr);
+        exit(2);
+    }
+    memcpy(copy, bytes, len);
+    return copy;
+}
+
+static int all_zero(const void *bytes, size_t len)
+{
+    const unsigned char *const at = bytes;
+    size_t i;
+    for (i = 0; i < len; i++)
+        if (at[i] != 0)
+            return 0;
+    return 1;
+}
+
+/* ---- The calls. */
+
+static uint32_t check_once(const uint16_t *table, size_t len, enum fence_side side)
+{
+    const struct fence fence = fence_make(len * sizeof *table);
+    const uint32_t number = tubochre_check(copied(&fence, table, len * sizeof *table, side), len);
+    fence_free(fence);
+    return number;
+}
+
+uint32_t lent_check(const uint16_t *table, size_t len)
+{
+    uint32_t number;
+    fence_watch("a check");
+    number = check_once(table, len, FENCE_LOW);
+    expect(check_once(table, len, FENCE_HIGH) == number, "two checks of one table agree");
+    return number;
+}
+
+static struct built build_once(const uint16_t *table, size_t len, size_t words_len, size_t sets_len,
+                               enum fence_side side)
+{
+    const struct fence table_fence = fence_make(len * sizeof *table);
+    const struct fence words_fence = fence_make(words_len * sizeof(uint16_t));
+    const struct fence sets_fence = fence_make(sets_len * sizeof(uint32_t));
+    const uint16_t *const copy = copied(&table_fence, table, len * sizeof *table, side);
+    uint16_t *const words = spoilt(&words_fence, words_len * sizeof *words, side);
+    uint32_t *const sets = spoilt(&sets_fence, sets_len * sizeof *sets, side);
+    struct built b;
+    b.counts = tubochre_build(copy, len, words, words_len, sets, sets_len);
+    b.words_len = words_len;
+    b.sets_len = sets_len;
+    b.words = kept(words, words_len * sizeof *words);
+    b.sets = kept(sets, sets_len * sizeof *sets);
+    fence_free(table_fence);
+    fence_free(words_fence);
+    fence_free(sets_fence);
+    return b;
+}
+
+static int same_built(const struct built *a, const struct built *b)
+{
+    return a->counts.number == b->counts.number && a->counts.states == b->counts.states &&
+           a->counts.edges == b->counts.edges && memcmp(a->words, b->words, a->words_len * sizeof *a->words) == 0 &&
+           memcmp(a->sets, b->sets, a->sets_len * sizeof *a->sets) == 0;
+}
+
+struct built lent_build(const uint16_t *table, size_t len, size_t words_len, size_t sets_len)
+{
+    struct built b, again;
+    size_t used_words = 0, used_sets = 0;
+    fence_watch("a build");
+    b = build_once(table, len, words_len, sets_len, FENCE_LOW);
+    again = build_once(table, len, words_len, sets_len, FENCE_HIGH);
+    expect(same_built(&b, &again), "two builds in equal room agree in each word");
+    if (b.counts.number == TUBOCHRE_OK) {
+        used_words = tubochre_table_words(b.counts.states, b.counts.edges);
+        used_sets = tubochre_sets_words(b.counts.states);
+    } else {
+        expect(b.counts.states == 0 && b.counts.edges == 0, "both counts are zero after a refusal");
+    }
+    expect(used_words <= words_len && used_sets <= sets_len, "the counts are within the room");
+    expect(all_zero(b.words + used_words, (words_len - used_words) * sizeof *b.words), "unused words are zero");
+    expect(all_zero(b.sets + used_sets, (sets_len - used_sets) * sizeof *b.sets), "unused sets words are zero");
+    built_free(&again);
+    return b;
+}
+
+void built_free(struct built *b)
+{
+    free(b->words);
+    free(b->sets);
+}
+
+static struct tubochre_decision lasso_once(const uint16_t *table, size_t len, struct lasso l, size_t work_len,
+                                           enum fence_side side)
+{
+    const struct fence table_fence = fence_make(len * sizeof *table), work_fence = fence_make(work_len * 4);
+    const struct fence prefix_fence = fence_make(l.prefix_len), loop_fence = fence_make(l.loop_len);
+    uint32_t *const work = spoilt(&work_fence, work_len * sizeof *work, side);
+    const uint16_t *const copy = copied(&table_fence, table, len * sizeof *table, side);
+    const uint8_t *const prefix = copied(&prefix_fence, l.prefix, l.prefix_len, side);
+    const uint8_t *const loop = copied(&loop_fence, l.loop, l.loop_len, side);
+    const struct tubochre_decision d =
+        tubochre_lasso(copy, len, prefix, l.prefix_len, loop, l.loop_len, work, work_len);
+    expect(all_zero(work, work_len * sizeof *work), "all work words are zero after a decision");
+    fence_free(table_fence);
+    fence_free(work_fence);
+    fence_free(prefix_fence);
+    fence_free(loop_fence);
+    return d;
+}
+
+struct tubochre_decision lent_lasso(const uint16_t *table, size_t len, struct lasso l, size_t work_len)
+{
+    struct tubochre_decision d, again;
+    fence_watch("a lasso decision");
+    d = lasso_once(table, len, l, work_len, FENCE_LOW);
+    again = lasso_once(table, len, l, work_len, FENCE_HIGH);
+    expect(d.number == again.number && d.taken == again.taken, "two decisions of one lasso agree");
+    expect(d.number == TUBOCHRE_OK ? d.taken == TUBOCHRE_TAKEN || d.taken == TUBOCHRE_NOT_TAKEN : d.taken == 0,
+           "a decision says taken, not taken, or only its refusal");
+    return d;
+}
+
+uint32_t decide(const uint16_t *table, size_t len, struct lasso l)
+{
+    const size_t work_len = len < 3 ? 0 : tubochre_work_words(table[0], l.prefix_len, l.loop_len);
+    const struct tubochre_decision d = lent_lasso(table, len, l, work_len);
+    return d.number == TUBOCHRE_OK ? d.taken : d.number + 100;
+}
+
+/* ---- Patterns that can be made of any size. */
+
+/* State q gets an edge on each letter to one target: k records in a row, the first of them number q * k + 1. */
+static void move_on(uint16_t *words, uint32_t n, uint32_t k, uint32_t q, uint32_t target)
+{
+    uint16_t *record = words + 3 + 2 * n + 3 * (q * k);
+    uint32_t c;
+    words[4 + 2 * q] = (uint16_t)(q * k + 1);
+    for (c = 0; c < k; c++, record += 3) {
+        record[0] = (uint16_t)c;
+        record[1] = (uint16_t)target;
+        record[2] = c + 1 < k ? (uint16_t)(q * k + c + 2) : 0;
+    }
+}
+
+void ring_pattern(struct table *t, uint32_t p, uint32_t r, uint32_t k)
+{
+    const uint32_t n = p + r + 1;
+    uint32_t q;
+    memset(t->words, 0, sizeof t->words);
+    t->len = tubochre_table_words(n, n * k);
+    t->words[0] = (uint16_t)n;
+    t->words[1] = (uint16_t)k;
+    t->words[2] = (uint16_t)(n * k);
+    for (q = 0; q < p; q++) {
+        t->words[3 + 2 * q] = q == 0 ? 1 : 0;
+        move_on(t->words, n, k, q, q + 1 < p ? q + 1 : 0);
+    }
+    for (q = p; q < p + r; q++) {
+        t->words[3 + 2 * q] = 1;
+        move_on(t->words, n, k, q, q + 1 < p + r ? q + 1 : p);
+    }
+    t->words[3 + 2 * q] = 2;
+    move_on(t->words, n, k, q, r > 0 ? p : q);
+}
+
+void ring_table(uint16_t *words, uint32_t n, uint32_t k, uint32_t m)
+{
+    uint32_t q, r;
+    memset(words, 0, tubochre_table_words(n, m) * sizeof *words);
+    words[0] = (uint16_t)n;
+    words[1] = (uint16_t)k;
+    words[2] = (uint16_t)m;
+    words[3] = 1;
+    words[3 + 2 * (n - 1)] |= 2;
+    for (q = 0; q < n; q++)
+        words[4 + 2 * q] = (uint16_t)(q + 1);
+    for (r = 1; r <= m; r++) {
+        uint16_t *const record = words + 3 + 2 * (size_t)n + 3 * (size_t)(r - 1);
+        record[1] = (uint16_t)(r < n ? r : r == n ? 0 : n > 1 ? 1 : 0);
+        record[2] = (uint16_t)(r == 1 && m > n ? n + 1 : r > n && r < m ? r + 1 : 0);
+    }
+}

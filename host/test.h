@@ -1,0 +1,68 @@
+/* What the tests of the C calls share: expectations, and the three calls made on fenced memory. */
+#ifndef TEST_H
+#define TEST_H
+
+#include "tubochre.h"
+
+#include <stddef.h>
+#include <stdint.h>
+
+/* Notes whether something holds; where it does not, says so. `what` is a printf format. */
+void expect(int holds, const char *what, ...)
+#if defined(__GNUC__)
+    __attribute__((format(printf, 2, 3)))
+#endif
+    ;
+
+/* Prints an ok line for the expectations since the last one, if all of them held. */
+void section(const char *name);
+
+/* Prints the summary; the exit status. */
+int summary(const char *program);
+
+/* Each call is made twice, with its buffers right behind an unreadable page and right before one, and with other
+ * garbage in the buffers that it writes. The answers and all that was written must agree. Buffers that are only read
+ * are write-protected. */
+
+uint32_t lent_check(const uint16_t *table, size_t len);
+
+struct built {
+    struct tubochre_counts counts;
+    size_t words_len, sets_len;
+    uint16_t *words;
+    uint32_t *sets;
+};
+
+/* Also expects that all is zero after a refusal, and all beyond the used part otherwise. */
+struct built lent_build(const uint16_t *table, size_t len, size_t words_len, size_t sets_len);
+void built_free(struct built *b);
+
+struct lasso {
+    const uint8_t *prefix;
+    size_t prefix_len;
+    const uint8_t *loop;
+    size_t loop_len;
+};
+
+/* Also expects that all work words are zero, and that a refusal is not an answer. */
+struct tubochre_decision lent_lasso(const uint16_t *table, size_t len, struct lasso l, size_t work_len);
+
+/* With as many work words as it needs: 1 taken, 2 not taken, and the number plus 100 where it is refused. */
+uint32_t decide(const uint16_t *table, size_t len, struct lasso l);
+
+/* ---- Patterns that can be made of any size. */
+
+struct table {
+    size_t len;
+    uint16_t words[TUBOCHRE_PATTERN_WORDS_MOST + 16];
+};
+
+/* A ring of p outer states with one initial, a ring of r inner states, all initial, and an accepting state that leads
+ * into the inner ring; each letter moves on. Its complement has p * 2^r states and k times as many edges. */
+void ring_pattern(struct table *t, uint32_t p, uint32_t r, uint32_t k);
+
+/* n states, each with an edge on letter 0 to the next, and the last to the first; m - n more records repeat the edge of
+ * state 0. State 0 is initial, the last accepting. m is n at least. */
+void ring_table(uint16_t *words, uint32_t n, uint32_t k, uint32_t m);
+
+#endif

@@ -1,0 +1,53 @@
+/* The header by itself, in the part of C that is C++ too: it is compiled as both. */
+#include "tubochre.h"
+
+#include <stdio.h>
+#include <string.h>
+
+static int failed;
+
+static void expect(int holds, const char *what)
+{
+    if (!holds) {
+        printf("FAILED: %s\n", what);
+        failed = 1;
+    }
+}
+
+static void try_sentences(void)
+{
+    uint32_t i, j;
+    for (i = 0; i <= 17; i++) {
+        const char *const text = tubochre_refusal_text(i);
+        expect(text != NULL && strlen(text) > 10, "each refusal has a sentence");
+        for (j = 0; j < i; j++)
+            expect(strcmp(text, tubochre_refusal_text(j)) != 0, "and one of its own");
+    }
+    expect(strcmp(tubochre_refusal_text(17), tubochre_refusal_text(UINT32_MAX)) == 0, "above 16 there is no refusal");
+    expect(strcmp(tubochre_refusal_text(TUBOCHRE_LOOP_EMPTY), "the loop is empty") == 0, "13 is the empty loop");
+}
+
+static void try_sizes(void)
+{
+    expect(tubochre_table_words(32, 4096) == TUBOCHRE_PATTERN_WORDS_MOST, "the largest pattern");
+    expect(tubochre_table_words(65535, 65535) == TUBOCHRE_WIDE_WORDS_MOST, "the largest wide table");
+    expect(tubochre_table_words(2, 4) == 19, "pattern A");
+    expect(tubochre_sets_words(3) == 12, "three records");
+    expect(tubochre_work_words(65535, 4096, 4096) == (size_t)4 * 65535 * 8192, "the most work words");
+    expect(tubochre_bound(1, 1, 0) == 6, "the bound of pattern A");
+    expect(tubochre_bound(2, 3, 4) == 4 * 27 * 256, "2^2 3^3 4^4");
+    expect(tubochre_bound(0, 40, 0) == UINT64_C(12157665459056928801), "3^40 fits");
+    expect(tubochre_bound(0, 41, 0) == UINT64_MAX, "3^41 does not");
+    expect(tubochre_bound(63, 0, 0) == UINT64_C(1) << 63, "2^63 fits");
+    expect(tubochre_bound(0, 0, 32) == UINT64_MAX, "4^32 does not");
+    expect(tubochre_bound(UINT32_MAX, UINT32_MAX, UINT32_MAX) == UINT64_MAX, "nor does the largest");
+}
+
+int main(void)
+{
+    try_sentences();
+    try_sizes();
+    expect(sizeof(struct tubochre_counts) == 12 && sizeof(struct tubochre_decision) == 8, "answers have no gaps");
+    puts(failed ? "test_header: FAILED" : "ok: the header\ntest_header: all expectations held");
+    return failed;
+}

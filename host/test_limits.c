@@ -1,0 +1,217 @@
+/* The largest complements and tables, what the calls need of the stack, and calls from many threads at once. */
+#define _GNU_SOURCE
+#include "test.h"
+
+#include "fence.h"
+
+#include <pthread.h>
+#include <stdio.h>
+#include <stdlib.h>
+#include <string.h>
+
+enum { STACK_PROMISED = 128 * 1024, STACK_ROOM = 1024 * 1024, THREADS = 4, ROUNDS = 20 };
+
+static void *room_for(size_t bytes)
+{
+    void *const p = malloc(bytes);
+    if (p == NULL) {
+        fputs("test_limits: out of memory\n", stderr);
+        exit(2);
+    }
+    return p;
+}
+
+/* ---- Large complements. */
+
+/* A build with more room than the largest complement may have, so that only the limits can refuse. */
+static void try_large(uint32_t p, uint32_t r, uint32_t k, uint32_t number)
+{
+    static struct table t;
+    const size_t words_len = TUBOCHRE_WIDE_WORDS_MOST + 1000, sets_len = tubochre_sets_words(70000);
+    uint16_t *const words = room_for(words_len * sizeof *words);
+    uint32_t *const sets = room_for(sets_len * sizeof *sets);
+    const uint32_t states = number == 0 ? p << r : 0;
+    struct tubochre_counts counts;
+    size_t i, left = 0;
+    memset(words, 0xa5, words_len * sizeof *words);
+    memset(sets, 0xa5, sets_len * sizeof *sets);
+    ring_pattern(&t, p, r, k);
+    counts = tubochre_build(t.words, t.len, words, words_len, sets, sets_len);
+    expect(counts.number == number && counts.states == states && counts.edges == states * k,
+           "rings of %u and %u with %u letters: %u %u %u", p, r, k, (unsigned)counts.number, (unsigned)counts.states,
+           (unsigned)counts.edges);
+    for (i = number == 0 ? tubochre_table_words(states, states * k) : 0; i < words_len; i++)
+        left += words[i] != 0;
+    for (i = tubochre_sets_words(states); i < sets_len; i++)
+        left += sets[i] != 0;
+    expect(left == 0, "%zu words beyond the used part are not zero", left);
+    free(words);
+    free(sets);
+}
+
+/* ---- The largest wide table: 65,535 states in a ring, 65,535 records. */
+
+static void try_largest_table(void)
+{
+    static const uint8_t zeros[TUBOCHRE_LASSO_PART_MOST];
+    const uint32_t n = TUBOCHRE_WIDE_STATES_MOST;
+    const size_t len = tubochre_table_words(n, n);
+    const struct lasso one = {zeros, 0, zeros, 1}, three = {zeros, 5, zeros, 3};
+    uint16_t *const words = room_for(len * sizeof *words);
+    ring_table(words, n, 1, n);
+    expect(decide(words, len, one) == TUBOCHRE_TAKEN, "a ring of 65,535 with an accepting state");
+    expect(decide(words, len, three) == TUBOCHRE_TAKEN, "a ring of 65,535 with an accepting state, a longer lasso");
+    words[3 + 2 * (n - 1)] = 0;
+    expect(decide(words, len, one) == TUBOCHRE_NOT_TAKEN, "a ring of 65,535 without an accepting state");
+    expect(decide(words, len, three) == TUBOCHRE_NOT_TAKEN, "the same, a longer lasso");
+    words[3 + 2 * n + 3 * (n - 1) + 1] = (uint16_t)(n - 1); /* the last state leads to itself, */
+    words[3 + 2 * (n - 1)] = 2;                             /* and accepts */
+    expect(decide(words, len, one) == TUBOCHRE_TAKEN, "an accepting loop behind 65,534 states");
+    words[4 + 2 * (n - 1)] = 1; /* a second name for record 1, none for the last */
+    expect(decide(words, len, one) == 109, "a broken chain in the last state");
+    free(words);
+}
+
+static void try_most_records(void)
+{
+    static const uint8_t zeros[100];
+    const size_t len = tubochre_table_words(1, TUBOCHRE_WIDE_RECORDS_MOST);
+    const struct lasso l = {zeros, 50, zeros, 50};
+    uint16_t *const words = room_for(len * sizeof *words);
+    ring_table(words, 1, 1, TUBOCHRE_WIDE_RECORDS_MOST);
+    expect(decide(words, len, l) == TUBOCHRE_TAKEN, "one edge 65,535 times");
+    words[3] = 1;
+    expect(decide(words, len, l) == TUBOCHRE_NOT_TAKEN, "one edge 65,535 times, not accepting");
+    free(words);
+}
+
+/* ---- All three calls on one pattern, in memory of one's own. */
+
+struct job {
+    struct table pattern;
+    uint16_t words[20000];
+    uint32_t sets[8000], work[400000];
+    uint32_t check;
+    struct tubochre_counts counts;
+    struct tubochre_decision by_pattern, by_complement;
+};
+
+static const uint8_t job_prefix[] = {0, 1, 1}, job_loop[] = {1, 0, 0, 1, 0};
+
+static struct tubochre_decision decide_in(struct job *j, const uint16_t *table, size_t len)
+{
+    return tubochre_lasso(table, len, job_prefix, sizeof job_prefix, job_loop, sizeof job_loop, j->work,
+                          sizeof j->work / sizeof j->work[0]);
+}
+
+static void *all_calls(void *data)
+{
+    struct job *const j = data;
+    j->check = tubochre_check(j->pattern.words, j->pattern.len);
+    j->counts = tubochre_build(j->pattern.words, j->pattern.len, j->words, sizeof j->words / sizeof j->words[0],
+                               j->sets, sizeof j->sets / sizeof j->sets[0]);
+    j->by_pattern = decide_in(j, j->pattern.words, j->pattern.len);
+    j->by_complement = decide_in(j, j->words, tubochre_table_words(j->counts.states, j->counts.edges));
+    return NULL;
+}
+
+static void *no_calls(void *data)
+{
+    return data;
+}
+
+static struct job *new_job(void)
+{
+    struct job *const j = room_for(sizeof *j);
+    memset(j, 0xa5, sizeof *j);
+    ring_pattern(&j->pattern, 7, 8, 2);
+    return j;
+}
+
+/* ---- The stack: a thread runs on a painted one; what is still paint in the end was not used. */
+
+static size_t stack_used(void *(*run)(void *), void *data)
+{
+    const struct fence stack = fence_make(STACK_ROOM);
+    const unsigned char paint = 0x5c;
+    pthread_attr_t attributes;
+    pthread_t thread;
+    size_t unused = 0;
+    int trouble;
+    memset(stack.first, paint, stack.room);
+    trouble = pthread_attr_init(&attributes) || pthread_attr_setstack(&attributes, stack.first, stack.room) ||
+              pthread_create(&thread, &attributes, run, data) || pthread_join(thread, NULL);
+    expect(!trouble, "a thread on a stack of its own");
+    pthread_attr_destroy(&attributes);
+    while (unused < stack.room && stack.first[unused] == paint)
+        unused++;
+    fence_free(stack);
+    return STACK_ROOM - unused;
+}
+
+static void try_stack(void)
+{
+    struct job *const j = new_job();
+    const size_t bare = stack_used(no_calls, NULL), used = stack_used(all_calls, j);
+    expect(j->check == 0 && j->counts.number == 0 && j->by_pattern.number == 0, "the calls on the painted stack");
+    expect(used < bare + STACK_PROMISED, "the calls use %zu bytes of stack", used - bare);
+    printf("    the calls used %zu bytes of stack\n", used > bare ? used - bare : 0);
+    free(j);
+}
+
+/* ---- Threads. */
+
+static void *many_calls(void *data)
+{
+    int i;
+    for (i = 0; i < ROUNDS; i++)
+        all_calls(data);
+    return NULL;
+}
+
+static int same_results(const struct job *a, const struct job *b)
+{
+    return a->check == b->check && memcmp(&a->counts, &b->counts, sizeof a->counts) == 0 &&
+           memcmp(&a->by_pattern, &b->by_pattern, sizeof a->by_pattern) == 0 &&
+           memcmp(&a->by_complement, &b->by_complement, sizeof a->by_complement) == 0 &&
+           memcmp(a->words, b->words, sizeof a->words) == 0 && memcmp(a->sets, b->sets, sizeof a->sets) == 0 &&
+           memcmp(a->work, b->work, sizeof a->work) == 0;
+}
+
+static void try_threads(void)
+{
+    struct job *const alone = new_job(), *each[THREADS];
+    pthread_t thread[THREADS];
+    int i;
+    all_calls(alone);
+    for (i = 0; i < THREADS; i++) {
+        each[i] = new_job();
+        expect(pthread_create(&thread[i], NULL, many_calls, each[i]) == 0, "a thread begins");
+    }
+    for (i = 0; i < THREADS; i++) {
+        expect(pthread_join(thread[i], NULL) == 0, "a thread ends");
+        expect(same_results(alone, each[i]), "thread %d has every word of the call made alone", i);
+        free(each[i]);
+    }
+    expect(alone->by_pattern.taken != alone->by_complement.taken, "exactly one takes the lasso");
+    free(alone);
+}
+
+int main(void)
+{
+    try_large(7, 13, 1, 0);
+    section("a complement of 57,344 states and as many edges");
+    try_large(1, 12, 15, 0);
+    try_large(1, 12, 16, TUBOCHRE_MANY_EDGES);
+    section("61,440 edges are built, 65,536 are refused in any room");
+    try_large(1, 16, 1, TUBOCHRE_MANY_STATES);
+    section("65,536 states are refused in any room");
+    try_largest_table();
+    try_most_records();
+    section("lassos on the largest wide tables");
+    try_stack();
+    section("less than 128 KiB of stack");
+    try_threads();
+    section("calls from several threads at once");
+    return summary("test_limits");
+}
