@@ -50,19 +50,4 @@ struct tubochre_decision lent_lasso(const uint16_t *table, size_t len, struct la
 /* With as many work words as it needs: 1 taken, 2 not taken, and the number plus 100 where it is refused. */
 uint32_t decide(const uint16_t *table, size_t len, struct lasso l);
 
-/* ---- Patterns that can be made of any size. */
-
-struct table {
-    size_t len;
-    uint16_t words[TUBOCHRE_PATTERN_WORDS_MOST + 16];
-};
-
-/* A ring of p outer states with one initial, a ring of r inner states, all initial, and an accepting state that leads
- * into the inner ring; each letter moves on. Its complement has p * 2^r states and k times as many edges. */
-void ring_pattern(struct table *t, uint32_t p, uint32_t r, uint32_t k);
-
-/* n states, each with an edge on letter 0 to the next, and the last to the first; m - n more records repeat the edge of
- * state 0. State 0 is initial, the last accepting. m is n at least. */
-void ring_table(uint16_t *words, uint32_t n, uint32_t k, uint32_t m);
-
 #endif

@@ -1,4 +1,5 @@
 /* The three calls on the tables that the rules work out by hand, and every refusal from 2 to 16. */
+#include "rings.h"
 #include "test.h"
 
 #include <stdio.h>
@@ -147,22 +148,22 @@ static void try_table(const char *name, const uint16_t *words, size_t len, uint3
 
 static void try_ranges(void)
 {
-    static struct table t;
-    ring_table(t.words, 32, 1, 32);
-    try_table("n is 32", t.words, tubochre_table_words(32, 32), 0, 0);
-    ring_table(t.words, 33, 1, 33);
-    try_table("n is 33", t.words, tubochre_table_words(33, 33), 3, 0);
-    ring_table(t.words, 1, 16, 1);
-    try_table("k is 16, with an edge", t.words, tubochre_table_words(1, 1), 0, 0);
-    ring_table(t.words, 1, 17, 1);
-    try_table("k is 17, with an edge", t.words, tubochre_table_words(1, 1), 4, 4);
-    ring_table(t.words, 2, 1, 4096);
-    try_table("m is 4,096", t.words, tubochre_table_words(2, 4096), 0, 0);
-    ring_table(t.words, 2, 1, 4097);
-    try_table("m is 4,097", t.words, tubochre_table_words(2, 4097), 5, 0);
-    try_table("m is 4,097 before the length", t.words, tubochre_table_words(2, 4097) - 1, 5, 6);
-    ring_table(t.words, 32, 1, 4096);
-    try_table("the largest pattern", t.words, TUBOCHRE_PATTERN_WORDS_MOST, 0, 0);
+    static uint16_t t[TUBOCHRE_PATTERN_WORDS_MOST + 16];
+    ring_table(t, 32, 1, 32);
+    try_table("n is 32", t, tubochre_table_words(32, 32), 0, 0);
+    ring_table(t, 33, 1, 33);
+    try_table("n is 33", t, tubochre_table_words(33, 33), 3, 0);
+    ring_table(t, 1, 16, 1);
+    try_table("k is 16, with an edge", t, tubochre_table_words(1, 1), 0, 0);
+    ring_table(t, 1, 17, 1);
+    try_table("k is 17, with an edge", t, tubochre_table_words(1, 1), 4, 4);
+    ring_table(t, 2, 1, 4096);
+    try_table("m is 4,096", t, tubochre_table_words(2, 4096), 0, 0);
+    ring_table(t, 2, 1, 4097);
+    try_table("m is 4,097", t, tubochre_table_words(2, 4097), 5, 0);
+    try_table("m is 4,097 before the length", t, tubochre_table_words(2, 4097) - 1, 5, 6);
+    ring_table(t, 32, 1, 4096);
+    try_table("the largest pattern", t, TUBOCHRE_PATTERN_WORDS_MOST, 0, 0);
 }
 
 /* ---- Refusals of a lasso, in their order. */

@@ -1,15 +1,15 @@
 /* The largest complements and tables, what the calls need of the stack, and calls from many threads at once. */
 #define _GNU_SOURCE
+#include "rings.h"
+#include "stack.h"
 #include "test.h"
-
-#include "fence.h"
 
 #include <pthread.h>
 #include <stdio.h>
 #include <stdlib.h>
 #include <string.h>
 
-enum { STACK_PROMISED = 128 * 1024, STACK_ROOM = 1024 * 1024, THREADS = 4, ROUNDS = 20 };
+enum { STACK_PROMISED = 128 * 1024, THREADS = 4, ROUNDS = 20 };
 
 static void *room_for(size_t bytes)
 {
@@ -26,7 +26,8 @@ static void *room_for(size_t bytes)
 /* A build with more room than the largest complement may have, so that only the limits can refuse. */
 static void try_large(uint32_t p, uint32_t r, uint32_t k, uint32_t number)
 {
-    static struct table t;
+    static uint16_t table[2000];
+    const size_t len = tubochre_table_words(p + r + 1, (p + r + 1) * k);
     const size_t words_len = TUBOCHRE_WIDE_WORDS_MOST + 1000, sets_len = tubochre_sets_words(70000);
     uint16_t *const words = room_for(words_len * sizeof *words);
     uint32_t *const sets = room_for(sets_len * sizeof *sets);
@@ -35,8 +36,8 @@ static void try_large(uint32_t p, uint32_t r, uint32_t k, uint32_t number)
     size_t i, left = 0;
     memset(words, 0xa5, words_len * sizeof *words);
     memset(sets, 0xa5, sets_len * sizeof *sets);
-    ring_pattern(&t, p, r, k);
-    counts = tubochre_build(t.words, t.len, words, words_len, sets, sets_len);
+    ring_pattern(table, p, r, k);
+    counts = tubochre_build(table, len, words, words_len, sets, sets_len);
     expect(counts.number == number && counts.states == states && counts.edges == states * k,
            "rings of %u and %u with %u letters: %u %u %u", p, r, k, (unsigned)counts.number, (unsigned)counts.states,
            (unsigned)counts.edges);
@@ -87,8 +88,10 @@ static void try_most_records(void)
 
 /* ---- All three calls on one pattern, in memory of one's own. */
 
+enum { P = 7, R = 8, K = 2, PATTERN_LEN = 3 + (2 + 3 * K) * (P + R + 1) };
+
 struct job {
-    struct table pattern;
+    uint16_t pattern[PATTERN_LEN];
     uint16_t words[20000];
     uint32_t sets[8000], work[400000];
     uint32_t check;
@@ -107,55 +110,31 @@ static struct tubochre_decision decide_in(struct job *j, const uint16_t *table, 
 static void *all_calls(void *data)
 {
     struct job *const j = data;
-    j->check = tubochre_check(j->pattern.words, j->pattern.len);
-    j->counts = tubochre_build(j->pattern.words, j->pattern.len, j->words, sizeof j->words / sizeof j->words[0],
+    j->check = tubochre_check(j->pattern, PATTERN_LEN);
+    j->counts = tubochre_build(j->pattern, PATTERN_LEN, j->words, sizeof j->words / sizeof j->words[0],
                                j->sets, sizeof j->sets / sizeof j->sets[0]);
-    j->by_pattern = decide_in(j, j->pattern.words, j->pattern.len);
+    j->by_pattern = decide_in(j, j->pattern, PATTERN_LEN);
     j->by_complement = decide_in(j, j->words, tubochre_table_words(j->counts.states, j->counts.edges));
     return NULL;
-}
-
-static void *no_calls(void *data)
-{
-    return data;
 }
 
 static struct job *new_job(void)
 {
     struct job *const j = room_for(sizeof *j);
     memset(j, 0xa5, sizeof *j);
-    ring_pattern(&j->pattern, 7, 8, 2);
+    ring_pattern(j->pattern, P, R, K);
     return j;
 }
 
-/* ---- The stack: a thread runs on a painted one; what is still paint in the end was not used. */
-
-static size_t stack_used(void *(*run)(void *), void *data)
-{
-    const struct fence stack = fence_make(STACK_ROOM);
-    const unsigned char paint = 0x5c;
-    pthread_attr_t attributes;
-    pthread_t thread;
-    size_t unused = 0;
-    int trouble;
-    memset(stack.first, paint, stack.room);
-    trouble = pthread_attr_init(&attributes) || pthread_attr_setstack(&attributes, stack.first, stack.room) ||
-              pthread_create(&thread, &attributes, run, data) || pthread_join(thread, NULL);
-    expect(!trouble, "a thread on a stack of its own");
-    pthread_attr_destroy(&attributes);
-    while (unused < stack.room && stack.first[unused] == paint)
-        unused++;
-    fence_free(stack);
-    return STACK_ROOM - unused;
-}
+/* ---- The stack. */
 
 static void try_stack(void)
 {
     struct job *const j = new_job();
-    const size_t bare = stack_used(no_calls, NULL), used = stack_used(all_calls, j);
-    expect(j->check == 0 && j->counts.number == 0 && j->by_pattern.number == 0, "the calls on the painted stack");
-    expect(used < bare + STACK_PROMISED, "the calls use %zu bytes of stack", used - bare);
-    printf("    the calls used %zu bytes of stack\n", used > bare ? used - bare : 0);
+    const size_t used = stack_used(all_calls, j);
+    expect(j->check == 0 && j->counts.number == 0 && j->by_pattern.number == 0, "the calls on a stack of their own");
+    expect(used < STACK_PROMISED, "the calls use %zu bytes of stack", used);
+    printf("    the calls used %zu bytes of stack\n", used);
     free(j);
 }
 

@@ -1,17 +1,18 @@
 /* What the calls do in rooms of every size: exact, one short, larger, none. Each buffer lies between unreadable pages,
  * holds garbage before the call, and is compared whole after it. */
+#include "rings.h"
 #include "test.h"
 
 #include <stdio.h>
 #include <string.h>
 
 /* A build in other room gives the same complement, or refuses by 11 where records lack, and by 12 where words do. */
-static void try_room(const struct table *t, const struct built *whole, size_t words_len, size_t sets_len)
+static void try_room(const uint16_t *table, size_t len, const struct built *whole, size_t words_len, size_t sets_len)
 {
     const size_t words = tubochre_table_words(whole->counts.states, whole->counts.edges);
     const size_t sets = tubochre_sets_words(whole->counts.states);
     const uint32_t number = sets_len < sets ? 11 : words_len < words ? 12 : 0;
-    struct built b = lent_build(t->words, t->len, words_len, sets_len);
+    struct built b = lent_build(table, len, words_len, sets_len);
     expect(b.counts.number == number, "%zu words and %zu sets words: %u instead of %u", words_len, sets_len,
            (unsigned)b.counts.number, (unsigned)number);
     if (number == 0) {
@@ -27,25 +28,26 @@ static void try_rooms(uint32_t p, uint32_t r, uint32_t k)
     const uint32_t states = p << r;
     const size_t words = tubochre_table_words(states, states * k), sets = tubochre_sets_words(states);
     static const size_t less[] = {1, 2, 3, 4, 5, 100};
-    static struct table t;
+    static uint16_t table[500];
+    const size_t len = tubochre_table_words(p + r + 1, (p + r + 1) * k);
     struct built whole;
     size_t i, j;
-    ring_pattern(&t, p, r, k);
-    whole = lent_build(t.words, t.len, words, sets);
+    ring_pattern(table, p, r, k);
+    whole = lent_build(table, len, words, sets);
     expect(whole.counts.number == 0 && whole.counts.states == states && whole.counts.edges == states * k,
            "rings of %u and %u with %u letters: %u states", p, r, k, (unsigned)whole.counts.states);
     expect(states <= tubochre_bound(p, 1, r), "the bound");
     for (i = 0; i < sizeof less / sizeof less[0]; i++) {
         const size_t fewer_words = words > less[i] ? words - less[i] : 0;
         const size_t fewer_sets = sets > less[i] ? sets - less[i] : 0;
-        try_room(&t, &whole, fewer_words, sets);
-        try_room(&t, &whole, words, fewer_sets);
-        try_room(&t, &whole, fewer_words, fewer_sets);
-        try_room(&t, &whole, words + less[i], sets + less[i]);
+        try_room(table, len, &whole, fewer_words, sets);
+        try_room(table, len, &whole, words, fewer_sets);
+        try_room(table, len, &whole, fewer_words, fewer_sets);
+        try_room(table, len, &whole, words + less[i], sets + less[i]);
     }
     for (i = 0; i <= 4; i++)
         for (j = 0; j <= 9; j++)
-            try_room(&t, &whole, i, j);
+            try_room(table, len, &whole, i, j);
     built_free(&whole);
 }
 

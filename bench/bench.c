@@ -1,0 +1,541 @@
+/* The library's calls beside an unverified reference written for speed, in one process, on the same inputs.
+ *
+ *     bench [--quick]
+ *
+ * For each row both are run once to warm up, and what they answer and leave is compared. Then they take turns, and the
+ * medians of the processor's time are printed. What is timed is whole calls: the library reads its table, works, and
+ * clears what its contract says it clears (unused words of a build, all work words of a decision); the reference
+ * allocates and frees its own tables, clears the unused words of a build, and clears one of its five work blocks before
+ * a decision and none after it. */
+#define _GNU_SOURCE
+#include "draw.h"
+#include "fast.h"
+#include "rings.h"
+#include "stack.h"
+#include "tubochre.h"
+
+#include <inttypes.h>
+#include <stdio.h>
+#include <stdlib.h>
+#include <string.h>
+#include <time.h>
+
+enum { ROUNDS_MOST = 201, ROUNDS_FEWEST = 5 };
+
+static const size_t most_lent = (size_t)1400 * 1000 * 1000; /* larger rows are left out, and said to be */
+
+static int quick;
+
+/* ---- Small things. */
+
+static void *memory(size_t bytes)
+{
+    void *const p = malloc(bytes > 0 ? bytes : 1);
+    if (p == NULL) {
+        fputs("bench: out of memory\n", stderr);
+        exit(2);
+    }
+    return p;
+}
+
+static void must(int holds, const char *what)
+{
+    if (!holds) {
+        fprintf(stderr, "bench: library and reference differ: %s\n", what);
+        exit(1);
+    }
+}
+
+/* The processor's time for this thread: other programs on the machine do not count. */
+static double now(void)
+{
+    struct timespec t;
+    clock_gettime(CLOCK_THREAD_CPUTIME_ID, &t);
+    return (double)t.tv_sec + (double)t.tv_nsec * 1e-9;
+}
+
+static int by_time(const void *a, const void *b)
+{
+    const double x = *(const double *)a, y = *(const double *)b;
+    return x < y ? -1 : x > y;
+}
+
+static double median(double *times, int count)
+{
+    qsort(times, (size_t)count, sizeof *times, by_time);
+    return times[count / 2];
+}
+
+/* ---- A row: two calls that take turns. */
+
+struct input {
+    const uint16_t *table;
+    size_t len;
+    uint16_t *words; /* a build's room */
+    size_t words_len;
+    uint32_t *sets;
+    size_t sets_len;
+    const uint8_t *prefix, *loop; /* a decision's lasso */
+    size_t prefix_len, loop_len;
+    uint32_t *work; /* a decision's room, for the reference too */
+    size_t work_len;
+    enum fast_lookup lookup;
+    volatile uint32_t answer; /* so that no call is left out */
+};
+
+typedef void call(struct input *);
+
+struct times {
+    double library, reference;
+    int rounds;
+};
+
+/* The time of one call, over so many in a row. */
+static double timed(call *run, struct input *in, int calls)
+{
+    const double start = now();
+    int i;
+    for (i = 0; i < calls; i++)
+        run(in);
+    return (now() - start) / calls;
+}
+
+/* So many calls in a row that reading the clock does not matter beside them. */
+static int calls_for(double seconds)
+{
+    return seconds > 1e-4 ? 1 : (int)(1e-4 / (seconds + 1e-7));
+}
+
+/* So many rounds that a row takes about a second or two, an odd number of them. */
+static int rounds_for(double seconds)
+{
+    const double budget = quick ? 0.1 : 1.5;
+    double rounds = budget / (seconds + 1e-7);
+    if (rounds > ROUNDS_MOST)
+        rounds = ROUNDS_MOST;
+    if (rounds < ROUNDS_FEWEST)
+        rounds = ROUNDS_FEWEST;
+    return (int)rounds | 1;
+}
+
+static struct times take_turns(call *library, call *reference, struct input *in)
+{
+    static double by_library[ROUNDS_MOST + 1], by_reference[ROUNDS_MOST + 1];
+    const double once = timed(library, in, 1) + timed(reference, in, 1);
+    const int calls = calls_for(once);
+    struct times t;
+    int i;
+    t.rounds = rounds_for(once * calls);
+    for (i = 0; i < t.rounds; i++) {
+        by_library[i] = timed(library, in, calls);
+        by_reference[i] = timed(reference, in, calls);
+    }
+    t.library = median(by_library, t.rounds);
+    t.reference = median(by_reference, t.rounds);
+    return t;
+}
+
+static void print_heading(const char *title, const char *last)
+{
+    printf("\n%-44s %12s %12s %7s %6s  %s\n", title, "library", "reference", "ratio", "rounds", last);
+}
+
+static void print_times(const char *name, struct times t)
+{
+    printf("%-44s %9.1f us %9.1f us %7.2f %6d  ", name, t.library * 1e6, t.reference * 1e6, t.library / t.reference,
+           t.rounds);
+}
+
+/* ---- The calls, as rows run them. */
+
+static void check_by_library(struct input *in)
+{
+    in->answer = tubochre_check(in->table, in->len);
+}
+
+static void check_by_reference(struct input *in)
+{
+    in->answer = fast_check(in->table, in->len);
+}
+
+static void build_by_library(struct input *in)
+{
+    in->answer = tubochre_build(in->table, in->len, in->words, in->words_len, in->sets, in->sets_len).states;
+}
+
+static void build_by_reference(struct input *in)
+{
+    in->answer =
+        fast_build(in->table, in->len, in->words, in->words_len, in->sets, in->sets_len, in->lookup).states;
+}
+
+static void lasso_by_library(struct input *in)
+{
+    in->answer = tubochre_lasso(in->table, in->len, in->prefix, in->prefix_len, in->loop, in->loop_len, in->work,
+                                tubochre_work_words(in->table[0], in->prefix_len, in->loop_len))
+                     .taken;
+}
+
+static void lasso_by_reference(struct input *in)
+{
+    in->answer =
+        fast_lasso(in->table, in->len, in->prefix, in->prefix_len, in->loop, in->loop_len, in->work).taken;
+}
+
+/* ---- Checks. */
+
+/* 32 states, each with m / 32 records over 16 letters, one target for a letter: all is read, and it passes. */
+static void full_pattern(struct drawn_table *t, uint32_t records)
+{
+    static struct drawn_edge edge[TUBOCHRE_PATTERN_RECORDS_MOST];
+    uint8_t flags[32];
+    uint32_t i;
+    for (i = 0; i < 32; i++)
+        flags[i] = (uint8_t)(i % 4);
+    for (i = 0; i < records; i++) {
+        edge[i].source = (uint16_t)(i % 32);
+        edge[i].letter = (uint16_t)(i / 32 % 16);
+        edge[i].target = (uint16_t)((i % 32 * 7 + i / 32 % 16) % 32);
+    }
+    draw_from_edges(t, 32, 16, flags, edge, records);
+}
+
+static void check_row(uint32_t records)
+{
+    static struct drawn_table t;
+    struct input in;
+    struct times times;
+    char name[80];
+    memset(&in, 0, sizeof in);
+    full_pattern(&t, records);
+    in.table = t.words;
+    in.len = t.len;
+    must(tubochre_check(t.words, t.len) == 0 && fast_check(t.words, t.len) == 0, "a check");
+    times = take_turns(check_by_library, check_by_reference, &in);
+    snprintf(name, sizeof name, "32 states, 16 letters, %" PRIu32 " records", records);
+    print_times(name, times);
+    printf("%.2f ns a record, 0 bytes lent to write\n", times.library * 1e9 / records);
+}
+
+static void check_rows(void)
+{
+    uint32_t records;
+    print_heading("check", "");
+    for (records = 256; records <= 4096; records *= 2)
+        check_row(records);
+}
+
+/* ---- Builds. */
+
+/* Outer states that fork into the inner part on both letters; inner ones of which about a third accept. */
+static void forking_pattern(struct drawn_table *t, uint32_t seed, uint32_t outer, uint32_t states)
+{
+    struct random r = random_from(seed);
+    struct drawn_edge edge[128];
+    uint8_t flags[32] = {0};
+    uint32_t count = 0, q, c;
+    for (q = 0; q < states; q++)
+        for (c = 0; c < 2; c++) {
+            edge[count].source = (uint16_t)q;
+            edge[count].letter = (uint16_t)c;
+            if (q >= outer) {
+                edge[count++].target = (uint16_t)random_between(&r, outer, states - 1);
+                continue;
+            }
+            edge[count++].target = (uint16_t)random_below(&r, outer);
+            edge[count].source = (uint16_t)q;
+            edge[count].letter = (uint16_t)c;
+            edge[count++].target = (uint16_t)random_between(&r, outer, states - 1);
+        }
+    for (q = outer; q < states; q++)
+        flags[q] = random_chance(&r, 30) ? 2 : 0;
+    flags[0] |= 1;
+    flags[states - 1] |= 2;
+    draw_from_edges(t, states, 2, flags, edge, count);
+}
+
+static void ring_of(struct drawn_table *t, uint32_t p, uint32_t r)
+{
+    ring_pattern(t->words, p, r, 1);
+    t->len = tubochre_table_words(p + r + 1, p + r + 1);
+}
+
+struct complement {
+    struct tubochre_counts counts;
+    uint16_t *words;
+    size_t len;
+};
+
+/* Builds by both in room for exactly the complement, compares every word, and keeps the table. */
+static struct complement compare_builds(struct input *in)
+{
+    const size_t words_most = TUBOCHRE_WIDE_WORDS_MOST, sets_most = tubochre_sets_words(TUBOCHRE_WIDE_STATES_MOST);
+    uint16_t *const words = memory(words_most * sizeof *words);
+    uint32_t *const sets = memory(sets_most * sizeof *sets);
+    const struct fast_counts sizes = fast_build(in->table, in->len, words, words_most, sets, sets_most, FAST_HASH);
+    struct complement c;
+    must(sizes.number == 0, "the reference refuses a pattern of a row");
+    c.len = in->words_len = tubochre_table_words(sizes.states, sizes.edges);
+    in->sets_len = tubochre_sets_words(sizes.states);
+    in->words = memory(in->words_len * sizeof *in->words);
+    in->sets = memory(in->sets_len * sizeof *in->sets);
+    c.counts = tubochre_build(in->table, in->len, in->words, in->words_len, in->sets, in->sets_len);
+    must(c.counts.number == 0 && c.counts.states == sizes.states && c.counts.edges == sizes.edges, "counts of a build");
+    must(memcmp(in->words, words, in->words_len * sizeof *words) == 0, "words of a build");
+    must(memcmp(in->sets, sets, in->sets_len * sizeof *sets) == 0, "sets of a build");
+    c.words = words;
+    free(sets);
+    return c;
+}
+
+/* Against the reference with a hash table, and with the same scan of all states that the library makes. */
+static struct complement build_row(const char *pattern, const struct drawn_table *t)
+{
+    struct input in;
+    struct complement c;
+    struct times times;
+    char name[80];
+    int scan;
+    memset(&in, 0, sizeof in);
+    in.table = t->words;
+    in.len = t->len;
+    c = compare_builds(&in);
+    for (scan = 0; scan < 2; scan++) {
+        in.lookup = scan ? FAST_SCAN : FAST_HASH;
+        times = take_turns(build_by_library, build_by_reference, &in);
+        snprintf(name, sizeof name, "%s: %" PRIu32 " states, %" PRIu32 " edges%s", pattern, c.counts.states,
+                 c.counts.edges, scan ? ", scan" : "");
+        print_times(name, times);
+        printf("%.1f ns an edge, %zu bytes lent\n", times.library * 1e9 / c.counts.edges,
+               in.words_len * sizeof *in.words + in.sets_len * sizeof *in.sets);
+    }
+    free(in.words);
+    free(in.sets);
+    return c;
+}
+
+/* ---- Decisions. */
+
+static void fill_loop(uint8_t *loop, size_t len, uint32_t letters)
+{
+    struct random r = random_from(len);
+    size_t i;
+    for (i = 0; i < len; i++)
+        loop[i] = (uint8_t)random_below(&r, letters);
+}
+
+/* What a decision of the library took, and how much there was to do. */
+struct cost {
+    double seconds, units; /* units: records times positions; 0 where the row was left out */
+};
+
+static struct cost lasso_row(const char *table_name, const uint16_t *table, size_t len, size_t loop_len)
+{
+    static uint8_t loop[TUBOCHRE_LASSO_PART_MOST];
+    const size_t lent = tubochre_work_words(table[0], 0, loop_len) * sizeof(uint32_t);
+    struct input in;
+    struct times times;
+    char name[80];
+    uint32_t by_library;
+    struct cost cost = {0, 0};
+    snprintf(name, sizeof name, "%s, loop of %zu", table_name, loop_len);
+    if (lent > most_lent || (quick && lent > most_lent / 100)) {
+        printf("%-44s left out: it would be lent %zu bytes\n", name, lent);
+        return cost;
+    }
+    memset(&in, 0, sizeof in);
+    fill_loop(loop, loop_len, table[1]);
+    in.table = table;
+    in.len = len;
+    in.prefix = in.loop = loop;
+    in.loop_len = loop_len;
+    in.work = memory(fast_work_words(table[0], 0, loop_len) * sizeof *in.work);
+    lasso_by_library(&in);
+    by_library = in.answer;
+    lasso_by_reference(&in);
+    must(by_library != 0 && in.answer == by_library, "a decision");
+    times = take_turns(lasso_by_library, lasso_by_reference, &in);
+    cost.seconds = times.library;
+    cost.units = (double)table[2] * (double)loop_len;
+    print_times(name, times);
+    printf("%.2f ns a record and position, %s, %zu bytes lent\n", cost.seconds * 1e9 / cost.units,
+           by_library == TUBOCHRE_TAKEN ? "taken" : "not taken", lent);
+    free(in.work);
+    return cost;
+}
+
+static void lasso_rows(const char *name, struct complement *c)
+{
+    static const size_t loops[] = {1, 16, 256, 4096};
+    size_t i;
+    for (i = 0; i < sizeof loops / sizeof loops[0]; i++)
+        lasso_row(name, c->words, c->len, loops[i]);
+    free(c->words);
+}
+
+/* ---- Growth: the work is doubled again and again, and the cost of a unit should stay. */
+
+struct spread {
+    double least, most;
+};
+
+static void widen(struct spread *s, double unit)
+{
+    if (s->least == 0 || unit < s->least)
+        s->least = unit;
+    if (unit > s->most)
+        s->most = unit;
+}
+
+static void print_spread(const char *what, struct spread s)
+{
+    printf("    %s: %.2f to %.2f ns a unit, %s 30 percent\n", what, s.least * 1e9, s.most * 1e9,
+           s.most <= 1.3 * s.least ? "within" : "NOT within");
+}
+
+/* Each call also reads its whole table once, however long the lasso is. So units are shown over whole calls, and over
+ * what each row has more than the row before it. */
+static void print_growth(const char *what, const struct cost *cost, int count)
+{
+    struct spread whole = {0, 0}, added = {0, 0};
+    int i;
+    for (i = 0; i < count && cost[i].units > 0; i++) {
+        widen(&whole, cost[i].seconds / cost[i].units);
+        if (i > 0)
+            widen(&added, (cost[i].seconds - cost[i - 1].seconds) / (cost[i].units - cost[i - 1].units));
+    }
+    printf("%s, %d times doubled:\n", what, i - 1);
+    print_spread("whole calls", whole);
+    print_spread("added work", added);
+}
+
+/* `reach`: how far a state's edges lead. All over the table they miss the processor's caches where it is large. */
+static void growth_by_loop(const char *edges, uint32_t reach)
+{
+    const uint32_t states = 10000;
+    const size_t len = tubochre_table_words(states, 3 * states);
+    uint16_t *const table = memory(len * sizeof *table);
+    struct cost cost[9];
+    char name[80];
+    int i;
+    barren_table(table, states, reach);
+    snprintf(name, sizeof name, "10,000 states, 30,000 %s edges", edges);
+    for (i = 0; i < 9; i++) /* 1, 2, 4, … 256; the rows of 1, 16 and 256 are among them */
+        cost[i] = lasso_row(name, table, len, (size_t)1 << i);
+    snprintf(name, sizeof name, "loops of 1 to 256 letters, %s edges", edges);
+    print_growth(name, cost, 9);
+    free(table);
+}
+
+static void growth_by_table(void)
+{
+    struct cost cost[6];
+    char name[60];
+    int i;
+    for (i = 0; i < 6; i++) {
+        const uint32_t states = 625U << i;
+        const size_t len = tubochre_table_words(states, 3 * states);
+        uint16_t *const table = memory(len * sizeof *table);
+        barren_table(table, states, 50);
+        snprintf(name, sizeof name, "%" PRIu32 " states, %" PRIu32 " near edges", states, 3 * states);
+        cost[i] = lasso_row(name, table, len, 16);
+        free(table);
+    }
+    print_growth("tables of 625 to 20,000 states", cost, 6);
+}
+
+/* ---- Stack. */
+
+static void *check_on_stack(void *data)
+{
+    check_by_library(data);
+    return NULL;
+}
+
+static void *build_on_stack(void *data)
+{
+    build_by_library(data);
+    return NULL;
+}
+
+static void *lasso_on_stack(void *data)
+{
+    lasso_by_library(data);
+    return NULL;
+}
+
+static void stack_rows(void)
+{
+    static struct drawn_table t;
+    static uint16_t words[20000];
+    static uint32_t sets[10000], work[1000];
+    static const uint8_t loop[] = {0, 1, 0};
+    struct input in;
+    memset(&in, 0, sizeof in);
+    full_pattern(&t, 4096);
+    in.table = t.words;
+    in.len = t.len;
+    in.words = words;
+    in.words_len = sizeof words / sizeof words[0];
+    in.sets = sets;
+    in.sets_len = sizeof sets / sizeof sets[0];
+    in.prefix = in.loop = loop;
+    in.loop_len = sizeof loop;
+    in.work = work;
+    printf("\nstack used by the library: check %zu bytes", stack_used(check_on_stack, &in));
+    printf(", build %zu bytes", stack_used(build_on_stack, &in));
+    printf(", lasso %zu bytes\n", stack_used(lasso_on_stack, &in));
+}
+
+/* ---- The whole. */
+
+static void build_and_lasso_rows(void)
+{
+    static struct drawn_table t;
+    struct complement kept[6];
+    print_heading("build (reference with a hash table, or a scan)", "");
+    ring_of(&t, 1, 10);
+    kept[0] = build_row("rings", &t);
+    forking_pattern(&t, 0, 3, 14);
+    kept[1] = build_row("forks", &t);
+    ring_of(&t, 5, 11);
+    kept[2] = build_row("rings", &t);
+    forking_pattern(&t, 17, 3, 14);
+    kept[3] = build_row("forks", &t);
+    if (quick) {
+        puts("--quick leaves out the builds of 28,906 and of 57,344 states");
+    } else {
+        forking_pattern(&t, 17, 3, 13);
+        kept[4] = build_row("forks", &t);
+        ring_of(&t, 7, 13);
+        kept[5] = build_row("rings", &t);
+    }
+    print_heading("lasso on these complements", "");
+    lasso_rows("rings, 1,024 states", &kept[0]);
+    lasso_rows("forks, 1,044 states", &kept[1]);
+    lasso_rows("rings, 10,240 states", &kept[2]);
+    lasso_rows("forks, 9,757 states", &kept[3]);
+    if (!quick) {
+        lasso_rows("forks, 28,906 states", &kept[4]);
+        lasso_rows("rings, 57,344 states", &kept[5]);
+    }
+}
+
+int main(int argc, char **argv)
+{
+    quick = argc == 2 && strcmp(argv[1], "--quick") == 0;
+    if (argc > 2 || (argc == 2 && !quick)) {
+        fputs("usage: bench [--quick]\n", stderr);
+        return 2;
+    }
+    printf("Medians of whole calls, by turns in one process, after a warm-up. Reference: compiler %s.\n", __VERSION__);
+    puts("Timed with the library: clearing unused words after a build, and all work words after a decision.");
+    check_rows();
+    build_and_lasso_rows();
+    print_heading("lasso, no accepting cycle: growth", "");
+    growth_by_loop("near", 50);
+    growth_by_loop("scattered", 10000);
+    growth_by_table();
+    stack_rows();
+    return 0;
+}
