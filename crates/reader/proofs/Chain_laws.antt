@@ -1,51 +1,67 @@
 -- What stands at a record number and what follows it, by the tests that the code makes on words of the table. Assumes nothing.
-use mathlib.Core.Path.{_≡_, refl, sym, subst}
+use mathlib.Core.Path.{_≡_, refl, sym, _∙_}
 use mathlib.Core.Bool.{true, false}
 use mathlib.Core.List.{List}
 use Prim.Native.Nat.{ℕ, _≤_, _<_}
 use lib.Dec.{leb}
-use Rattle.basics.proofs.Booleans.{and-make, and-false-l, and-false-r, le-leb, gt-leb, lt-ltb, ge-ltb}
+use Rattle.basics.proofs.Booleans.{and-make, and-l, and-r, and-false-l, and-false-r, leb-le, le-leb, gt-leb, lt-ltb, ge-ltb}
 use Rattle.tables.specs.Access.{Word}
 use Rattle.tables.specs.Table.{n-of, m-of, head-of, letter-of, target-of, next-of}
 use Rattle.reader.specs.declared.Reading.the-variants.{Edge, End}
 use Rattle.reader.specs.Chain.{is-record, either-reading, reading-at, record-after, first-record}
 
--- WHICH NUMBERS ARE RECORDS; m is the word that says how many there are
-pub record-yes : (t : List ℕ) (r : ℕ) {m : ℕ} → Word m (m-of t) → 1 ≤ r → r ≤ m → is-record t r ≡ true
+-- WHICH NUMBERS ARE RECORDS
+pub record-yes : (t : List ℕ) (r : ℕ) → 1 ≤ r → r ≤ m-of t → is-record t r ≡ true
 unfolding is-record
-record-yes t r w low high = and-make (le-leb low) (le-leb (rw (w .is) at high))
+record-yes t r low high = and-make (le-leb low) (le-leb high)
+
+pub record-from : (t : List ℕ) (r : ℕ) → is-record t r ≡ true → 1 ≤ r
+unfolding is-record
+record-from t r e = leb-le 1 r (and-l (leb r (m-of t)) e)
+
+pub record-to : (t : List ℕ) (r : ℕ) → is-record t r ≡ true → r ≤ m-of t
+unfolding is-record
+record-to t r e = leb-le r (m-of t) (and-r (leb 1 r) e)
 
 pub record-low : (t : List ℕ) (r : ℕ) → r < 1 → is-record t r ≡ false
 unfolding is-record
 record-low t r low = and-false-l (leb r (m-of t)) (gt-leb low)
 
-pub record-high : (t : List ℕ) (r : ℕ) {m : ℕ} → Word m (m-of t) → m < r → is-record t r ≡ false
-unfolding is-record
-record-high t r w high = and-false-r (leb 1 r) (gt-leb (rw (w .is) at high))
-
--- WHAT STANDS THERE
-pub reading-edge : (t : List ℕ) (r : ℕ) {c q : ℕ} → is-record t r ≡ true → Word c (letter-of t r) → Word q (target-of t r) → Edge c q ≡ reading-at t r
-unfolding reading-at either-reading
-reading-edge t r e c q = rw (e, c .is, q .is) refl
-
-pub reading-end : (t : List ℕ) (r : ℕ) → is-record t r ≡ false → End ≡ reading-at t r
-unfolding reading-at either-reading
-reading-end t r e = rw e refl
-
--- WHAT FOLLOWS
-pub after-next : (t : List ℕ) (r : ℕ) {x : ℕ} → is-record t r ≡ true → Word x (next-of t r) → x ≡ record-after t r
+-- WHAT FOLLOWS, AND WHERE A CHAIN BEGINS
+pub after-record : (t : List ℕ) (r : ℕ) → is-record t r ≡ true → record-after t r ≡ next-of t r
 unfolding record-after
-after-next t r e w = rw e (w .is)
+after-record t r e = rw e refl
 
 pub after-end : (t : List ℕ) (r : ℕ) → is-record t r ≡ false → 0 ≡ record-after t r
 unfolding record-after
 after-end t r e = rw e refl
 
--- WHERE A CHAIN BEGINS; n is the word that says how many states there are
-pub first-head : (t : List ℕ) (q : ℕ) {n x : ℕ} → Word n (n-of t) → q < n → Word x (head-of t q) → x ≡ first-record t q
+pub first-head : (t : List ℕ) (q : ℕ) → q < n-of t → first-record t q ≡ head-of t q
 unfolding first-record
-first-head t q w l x = rw (lt-ltb (rw (w .is) at l)) (x .is)
+first-head t q l = rw (lt-ltb l) refl
 
-pub first-none : (t : List ℕ) (q : ℕ) {n : ℕ} → Word n (n-of t) → n ≤ q → 0 ≡ first-record t q
+-- AS THE CODE READS THEM: n and m are the words that say how many states and records there are, c, q and x words of a record or of a state
+pub read-record : (t : List ℕ) (r : ℕ) {m : ℕ} → Word m (m-of t) → 1 ≤ r → r ≤ m → is-record t r ≡ true
+read-record t r w low high = record-yes t r low (rw (w .is) at high)
+
+pub read-high : (t : List ℕ) (r : ℕ) {m : ℕ} → Word m (m-of t) → m < r → is-record t r ≡ false
+unfolding is-record
+read-high t r w high = and-false-r (leb 1 r) (gt-leb (rw (w .is) at high))
+
+pub read-edge : (t : List ℕ) (r : ℕ) {c q : ℕ} → is-record t r ≡ true → Word c (letter-of t r) → Word q (target-of t r) → Edge c q ≡ reading-at t r
+unfolding reading-at either-reading
+read-edge t r e c q = rw (e, c .is, q .is) refl
+
+pub read-end : (t : List ℕ) (r : ℕ) → is-record t r ≡ false → End ≡ reading-at t r
+unfolding reading-at either-reading
+read-end t r e = rw e refl
+
+pub read-next : (t : List ℕ) (r : ℕ) {x : ℕ} → is-record t r ≡ true → Word x (next-of t r) → x ≡ record-after t r
+read-next t r e x = x .is ∙ sym (after-record t r e)
+
+pub read-head : (t : List ℕ) (q : ℕ) {n x : ℕ} → Word n (n-of t) → q < n → Word x (head-of t q) → x ≡ first-record t q
+read-head t q w l x = x .is ∙ sym (first-head t q (rw (w .is) at l))
+
+pub read-none : (t : List ℕ) (q : ℕ) {n : ℕ} → Word n (n-of t) → n ≤ q → 0 ≡ first-record t q
 unfolding first-record
-first-none t q w l = rw (ge-ltb (rw (w .is) at l)) refl
+read-none t q w l = rw (ge-ltb (rw (w .is) at l)) refl

@@ -3,7 +3,7 @@ use native.Mathlib.Nat.{zero-add}
 use native.Mathlib.Numerals.{unary-clauses}
 use native.Mathlib.Omega.{arith}
 use mathlib.Core.Path.{_≡_, refl, sym, _∙_}
-use mathlib.Core.Bool.{Bool, true, false, _&&_, cond}
+use mathlib.Core.Bool.{Bool, true, false, _&&_}
 use mathlib.Core.List.{List}
 use mathlib.Core.Logic.{_⊎_, inl, inr}
 use Prim.Native.Nat.{ℕ, zero, suc, _+_, _-_, _≤_, _<_}
@@ -29,11 +29,11 @@ unfolding reading-at
 goes-where t r i m = picked (is-record t r) (letter-of t r) (target-of t r) i m
 
 -- one more record, or none
-length-more : (f : ℕ) (t : List ℕ) (r : ℕ) → is-record t r ≡ true → chain-length (suc f) t r ≡ suc (chain-length f t (record-after t r))
+pub length-more : (f : ℕ) (t : List ℕ) (r : ℕ) → is-record t r ≡ true → chain-length (suc f) t r ≡ suc (chain-length f t (record-after t r))
 unfolding chain-length
 length-more f t r e = rw e refl
 
-length-none : (f : ℕ) (t : List ℕ) (r : ℕ) → is-record t r ≡ false → chain-length f t r ≡ 0
+pub length-none : (f : ℕ) (t : List ℕ) (r : ℕ) → is-record t r ≡ false → chain-length f t r ≡ 0
 unfolding chain-length
 length-none zero t r e = refl
 length-none (suc f) t r e = rw e refl

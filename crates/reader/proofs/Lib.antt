@@ -1,2 +1,5 @@
+pub mod Apart
 pub mod Chain_laws
 pub mod Counting
+pub mod Edges
+pub mod Trials

@@ -2,7 +2,7 @@
 use mathlib.Core.Bool.{Bool, true, false, _&&_, cond}
 use mathlib.Core.List.{List}
 use Prim.Native.Nat.{ℕ, zero, suc}
-use lib.Dec.{ltb, leb}
+use lib.Dec.{ltb, leb, eqb}
 use Rattle.tables.specs.Table.{n-of, m-of, head-of, letter-of, target-of, next-of}
 use Rattle.reader.specs.declared.Reading.{Reading}
 use Rattle.reader.specs.declared.Reading.the-variants.{Edge, End}
@@ -41,3 +41,13 @@ chain-length (suc f) t r = cond (is-record t r) (suc (chain-length f t (record-a
 -- how many edges a state's chain has; no chain of a sound table has more than m
 unfoldable pub edges-of : List ℕ → (state : ℕ) → ℕ
 edges-of t q = chain-length (m-of t) t (first-record t q)
+
+-- the record at which a reader stands after so many steps from r
+unfoldable pub record-nth : (steps : ℕ) → List ℕ → (r : ℕ) → ℕ
+record-nth zero t r = r
+record-nth (suc i) t r = record-nth i t (record-after t r)
+
+-- what is read is an edge with this letter and target
+unfoldable pub reads : Reading → (letter target : ℕ) → Bool
+reads (Edge c q) x y = eqb c x && eqb q y
+reads End x y = false

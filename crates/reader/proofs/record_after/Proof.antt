@@ -1,7 +1,7 @@
 -- `reader::record_after` meets its contract: a record that is there has its next. Assumes nothing.
 use borrow.Author.Needs.{needs}
 use native.Mathlib.Omega.{arith}
-use Rattle.reader.proofs.Chain_laws.{record-yes, record-low, record-high, after-next, after-end}
+use Rattle.reader.proofs.Chain_laws.{record-low, after-end, read-record, read-high, read-next}
 use Rattle.reader.proofs.record_after.Statement.{statement}
 use Rattle.reader.proofs.record_after.Tie as tie
 
@@ -12,7 +12,7 @@ records-of-requires : tie.Need-records-of-requires
 records-of-requires c κs = search needs
 
 returns-2 : tie.Need-returns-2
-returns-2 c = after-end _ _ (record-high _ _ (c .before .records-of .ensures) (c .if2 .taken))
+returns-2 c = after-end _ _ (read-high _ _ (c .before .records-of .ensures) (c .if2 .taken))
 
 states-of-requires : tie.Need-states-of-requires
 states-of-requires c κs = search needs
@@ -24,8 +24,8 @@ next-of-requires c κs =
 
 returns-3 : tie.Need-returns-3
 returns-3 c =
-    after-next _ _
-    (record-yes _ _ (c .before .before .before .records-of .ensures) (c .before .before .before .before .if1 .left) (c .before .before .if2 .left))
+    read-next _ _
+    (read-record _ _ (c .before .before .before .records-of .ensures) (c .before .before .before .before .if1 .left) (c .before .before .if2 .left))
     (c .next-of .ensures)
 
 pub record-after-spec : {M : Type 1} → statement M
