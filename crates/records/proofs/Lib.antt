@@ -1,4 +1,5 @@
 pub mod First
 pub mod Laid
+pub mod Local
 pub mod Machine
 pub mod Words

@@ -81,3 +81,17 @@ pub fn find(records: &[Quadruple], x: Quadruple) -> usize
     }
     number
 }
+
+// Looks a quadruple up among the first four records of words: its place, or four. A run of four is filled from the words, and searched.
+pub fn find_in_words(sets: &[u32], x: Quadruple) -> usize
+    ensures { λ r. ⌜ r ≡ place-of x (fitted 4 (records-of (now (sets .entry)))) ⌝ }
+{
+    let mut records = [Quadruple {
+        N: 0,
+        C: 0,
+        S: 0,
+        B: 0,
+    }; 4];
+    fill(&mut records, sets);
+    find(&records, x)
+}
