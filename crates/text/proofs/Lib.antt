@@ -1,4 +1,5 @@
 pub mod Digits
 pub mod Placing
 pub mod Scanning
+pub mod Sources
 pub mod Trials

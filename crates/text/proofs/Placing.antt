@@ -8,6 +8,13 @@ use native.Mathlib.Numerals.{add-one}
 use native.Mathlib.Nat.{add-zero, add-suc}
 use lib.ListN.{length, getD, take, drop, set, length-append, length-set, drop-of-length-le}
 use lib.Seq.{sets, length-sets, set-comm, drop-cons, take-suc, take-all, length-take-le}
+use Rattle.automata.specs.System.{an-edge}
+use Rattle.tables.specs.Table.{flags-of, letter-of, target-of}
+use Rattle.ncsb.specs.Successors.{quadruple}
+use Rattle.complement.specs.Complement.{quadruple-words, record-width}
+use Rattle.complement.specs.Records.{quadruple-at}
+use Rattle.text.specs.Built.{built-state, built-edge}
+use Rattle.text.specs.Listing.{state-line, edge-line}
 use Rattle.text.specs.Lines.{Put, Places, line, decimal, ascii, refused-line, counts-line}
 use Rattle.text.proofs.Digits.{last-digits, length-last, decimal-last}
 
@@ -230,3 +237,18 @@ pub counts-put :
 unfolding counts-line line ascii
 counts-put n m p q r s =
     rw (append-assoc (decimal n) (32 ∷ []) (ascii "edges " ++ (decimal m ++ (10 ∷ [])))) at (wider 80 (omega arith) (then-put p (then-put q (then-put r s))))
+
+-- a state and an edge of a build
+pub state-put :
+    (w s : List ℕ) (i : ℕ) {f end : ℕ} {o o′ : List ℕ} → f ≡ flags-of w i →
+    Put o 0 66
+    (line (i ∷ getD s (4 * i) 0 ∷ getD s (4 * i + 1) 0 ∷ getD s (4 * i + 2) 0 ∷ getD s (4 * i + 3) 0 ∷ f ∷ [])) o′ end →
+    Put o 0 80 (built-state w s i) o′ end
+unfolding built-state state-line quadruple-at quadruple quadruple-words record-width
+state-put w s i e p = rw (← e) (wider 80 (omega arith) p)
+
+pub edge-put :
+    (w : List ℕ) (i r : ℕ) {l t end : ℕ} {o o′ : List ℕ} → l ≡ letter-of w r → t ≡ target-of w r →
+    Put o 0 33 (line (i ∷ l ∷ t ∷ [])) o′ end → Put o 0 80 (built-edge w i r) o′ end
+unfolding built-edge edge-line an-edge
+edge-put w i r e f p = rw (← e, ← f) (wider 80 (omega arith) p)

@@ -1,3 +1,4 @@
+pub mod Built
 pub mod Lines
 pub mod Listing
 pub mod Reading

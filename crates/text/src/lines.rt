@@ -58,7 +58,7 @@ fn put_field(n: u32, behind: u8, line: &mut [u8], at: usize) -> usize
 }
 
 // A line of at least one field.
-fn put_line(fields: &[u32], line: &mut [u8], at: usize) -> usize
+pub(crate) fn put_line(fields: &[u32], line: &mut [u8], at: usize) -> usize
     requires { ⌜ 1 ≤ length (now fields) ⌝ }
     requires { ⌜ at + 11 * length (now fields) ≤ length (now line) ⌝ }
     ensures { λ r. ⌜ Put (now (line .entry)) at (11 * length (now (fields .entry))) (Lines·line (now (fields .entry))) (now (line .exit)) r ⌝ }

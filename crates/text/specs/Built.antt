@@ -1,0 +1,53 @@
+-- The lines of an accepted build, from the words and the sets that it left. Assumes nothing: these are definitions.
+use mathlib.Core.Path.{_≡_}
+use mathlib.Core.Bool.{true, false, cond}
+use mathlib.Core.List.{List, _++_}
+use Prim.Native.Nat.{ℕ, zero, suc, _+_, _*_, _-_, _≤_, _<_}
+use lib.Dec.{eqb}
+use lib.ListN.{length}
+use Rattle.basics.specs.Rows.{rows}
+use Rattle.automata.specs.System.{an-edge}
+use Rattle.tables.specs.Table.{n-of, flags-of, head-of, letter-of, target-of, next-of}
+use Rattle.complement.specs.Records.{quadruple-at}
+use Rattle.text.specs.Lines.{counts-line}
+use Rattle.text.specs.Listing.{state-line, edge-line}
+
+-- SOURCES. A build's chains run through consecutive records, so the sources of its records rise.
+-- the first state from i on that has a chain, among so many; the state behind them where none has
+unfoldable pub with-chain : (words : List ℕ) → (left from : ℕ) → ℕ
+with-chain w zero i = i
+with-chain w (suc k) i = elim (eqb (head-of w i) 0) [ true ↦ with-chain w k (suc i) | false ↦ i ]
+
+unfoldable pub first-source : (words : List ℕ) → (from : ℕ) → ℕ
+first-source w i = with-chain w (n-of w - i) i
+
+-- the source of the record behind record r, whose own source is i
+unfoldable pub source-behind : (words : List ℕ) → (source number : ℕ) → ℕ
+source-behind w i r = cond (eqb (next-of w r) 0) (first-source w (suc i)) i
+
+-- the source of record r + 1
+unfoldable pub source-of : (words : List ℕ) → (r : ℕ) → ℕ
+source-of w zero = first-source w 0
+source-of w (suc r) = source-behind w (source-of w r) (suc r)
+
+-- LINES
+unfoldable pub built-state : (words sets : List ℕ) → (state : ℕ) → List ℕ
+built-state w s i = state-line i (quadruple-at s i) (flags-of w i)
+
+unfoldable pub built-edge : (words : List ℕ) → (source number : ℕ) → List ℕ
+built-edge w i r = edge-line (an-edge i (letter-of w r) (target-of w r))
+
+-- all of them
+unfoldable pub built-text : (states edges : ℕ) → (words sets : List ℕ) → List ℕ
+built-text n m w s = counts-line n m ++ (rows n (built-state w s) ++ rows m (λ r. built-edge w (source-of w r) (suc r)))
+
+-- WHAT THE FUNCTIONS ASK: a state whose sets are there
+pub record State-asks (sets : List ℕ) (state : ℕ) (line : List ℕ) : Type 0 where
+  pub small : state < 65536
+  pub sets-there : 4 * state + 4 ≤ length sets
+  pub room : 80 ≤ length line
+
+-- the table's state count
+pub record States-ask (words : List ℕ) (states : ℕ) : Type 0 where
+  pub counted : states ≡ n-of words
+  pub few : states < 65536
