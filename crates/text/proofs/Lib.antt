@@ -3,3 +3,4 @@ pub mod Placing
 pub mod Scanning
 pub mod Sources
 pub mod Trials
+pub mod Whole

@@ -167,19 +167,43 @@ stored-over :
 unfolding stored
 stored-over s s′ w l m = rw (drop-over (s .numbers) w (length (s′ .numbers)) m l)
 
+-- what a reading holds after a step from it
+holds : {s : Scan} {w : List ℕ} {r : Reading} {w′ : List ℕ} → Became s w r w′ → scan-of r w′ ≡ s
+holds {s} {w} p = rw (p .reading, p .words) (held s w)
+
+then-step :
+    {s s′ : Scan} {w : List ℕ} {r r′ : Reading} {w′ w″ : List ℕ} → most-numbers ≤ length w →
+    length (s .numbers) ≤ length (s′ .numbers) → Became s w r w′ → Became s′ w′ r′ w″ → Became s′ w r′ w″
+unfolding reading-of
+then-step {s} {s′} {w} {r} l m p q =
+    let n : r .count ≡ length (s .numbers) = ap (λ (x : Reading). x .count) (p .reading) in
+    let c = p .ready .counted in
+    record {
+      reading = q .reading;
+      words = q .words ∙ (rw (p .words) (stored-over s s′ w (omega arith) m));
+      ready = q .ready;
+    }
+
 pub then-byte :
     {s : Scan} {w : List ℕ} {r r′ : Reading} {w′ w″ : List ℕ} (b : ℕ) → most-numbers ≤ length w → Became s w r w′ →
     Became (with-byte (scan-of r w′) b) w′ r′ w″ → Became (with-byte s b) w r′ w″
-unfolding reading-of
-then-byte {s} {w} {r} {r′} {w′} {w″} b l p q =
-    let n : r .count ≡ length (s .numbers) = ap (λ (x : Reading). x .count) (p .reading) in
-    let c = p .ready .counted in
-    let h : scan-of r w′ ≡ s = rw (p .reading, p .words) (held s w) in
-    record {
-      reading = rw h at (q .reading);
-      words = (rw h at (q .words)) ∙ (rw (p .words) (stored-over s (with-byte s b) w (omega arith) (more-numbers s b)));
-      ready = q .ready;
-    }
+then-byte {s} b l p q = then-step l (more-numbers s b) p (rw (holds p) at q)
+
+-- a chunk behind another, and the end of the input
+more-scanned : (s : Scan) (bs : List ℕ) → length (s .numbers) ≤ length (scan s bs .numbers)
+unfolding scan
+more-scanned s [] = omega arith
+more-scanned s (b ∷ bs) = let h = more-numbers s b in let i = more-scanned (with-byte s b) bs in omega arith
+
+pub then-chunk :
+    {s : Scan} {w : List ℕ} {r r′ : Reading} {w′ w″ : List ℕ} (bs : List ℕ) → most-numbers ≤ length w → Became s w r w′ →
+    Became (scan (scan-of r w′) bs) w′ r′ w″ → Became (scan s bs) w r′ w″
+then-chunk {s} bs l p q = then-step l (more-scanned s bs) p (rw (holds p) at q)
+
+pub then-end :
+    {s : Scan} {w : List ℕ} {r r′ : Reading} {w′ w″ : List ℕ} → most-numbers ≤ length w → Became s w r w′ →
+    Became (ended (scan-of r w′)) w′ r′ w″ → Became (ended s) w r′ w″
+then-end {s} l p q = then-step l (ended-more s) p (rw (holds p) at q)
 
 -- the words stay as many
 pub same-room :

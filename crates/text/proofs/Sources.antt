@@ -12,12 +12,12 @@ use Rattle.tables.specs.Table.{n-of, head-of, next-of}
 use Rattle.text.specs.Built.{with-chain, first-source, source-behind, States-ask}
 
 -- by the head of the first of them
-chain-here : (w : List ℕ) (k i : ℕ) → (head-of w i ≡ 0 → ⊥) → with-chain w (suc k) i ≡ i
+pub chain-here : (w : List ℕ) (k i : ℕ) → (head-of w i ≡ 0 → ⊥) → with-chain w (suc k) i ≡ i
 unfolding with-chain
 chain-here w k i h =
     ap (λ (b : Bool). elim b [ true ↦ with-chain w k (suc i) | false ↦ i ]) (ne-eqb (head-of w i) 0 h)
 
-chain-later : (w : List ℕ) (k i : ℕ) → head-of w i ≡ 0 → with-chain w (suc k) i ≡ with-chain w k (suc i)
+pub chain-later : (w : List ℕ) (k i : ℕ) → head-of w i ≡ 0 → with-chain w (suc k) i ≡ with-chain w k (suc i)
 unfolding with-chain
 chain-later w k i h = ap (λ (b : Bool). elim b [ true ↦ with-chain w k (suc i) | false ↦ i ]) (eq-eqb h)
 

@@ -9,7 +9,8 @@ use Rattle.basics.specs.Rows.{rows}
 use Rattle.automata.specs.System.{an-edge}
 use Rattle.tables.specs.Table.{n-of, flags-of, head-of, letter-of, target-of, next-of}
 use Rattle.complement.specs.Records.{quadruple-at}
-use Rattle.text.specs.Lines.{counts-line}
+use Rattle.complement.specs.declared.Counts.{Counts}
+use Rattle.text.specs.Lines.{counts-line, refused-line}
 use Rattle.text.specs.Listing.{state-line, edge-line}
 
 -- SOURCES. A build's chains run through consecutive records, so the sources of its records rise.
@@ -41,6 +42,11 @@ built-edge w i r = edge-line (an-edge i (letter-of w r) (target-of w r))
 unfoldable pub built-text : (states edges : ℕ) → (words sets : List ℕ) → List ℕ
 built-text n m w s = counts-line n m ++ (rows n (built-state w s) ++ rows m (λ r. built-edge w (source-of w r) (suc r)))
 
+-- what is printed of a build's answer and of what it left
+unfoldable pub printed : Counts → (words sets : List ℕ) → List ℕ
+printed r w s =
+    cond (eqb (r .number) 0) (built-text (r .states) (r .edges) w s) (refused-line (r .number))
+
 -- WHAT THE FUNCTIONS ASK: a state whose sets are there
 pub record State-asks (sets : List ℕ) (state : ℕ) (line : List ℕ) : Type 0 where
   pub small : state < 65536
@@ -51,3 +57,9 @@ pub record State-asks (sets : List ℕ) (state : ℕ) (line : List ℕ) : Type 0
 pub record States-ask (words : List ℕ) (states : ℕ) : Type 0 where
   pub counted : states ≡ n-of words
   pub few : states < 65536
+
+-- so many records, each with a source
+pub record Sourced (words : List ℕ) (states edges : ℕ) : Type 0 where
+  pub asks : States-ask words states
+  pub few : edges < 65536
+  pub source : (r : ℕ) → r < edges → source-of words r < states
