@@ -32,7 +32,7 @@ unfolding records quadruple-words
 records-length [] = refl
 records-length (x ∷ xs) = let h = records-length xs in omega arith
 
-records-snoc : (xs : List Quadruple) (x : Quadruple) → records (xs ++ (x ∷ [])) ≡ records xs ++ quadruple-words x
+pub records-snoc : (xs : List Quadruple) (x : Quadruple) → records (xs ++ (x ∷ [])) ≡ records xs ++ quadruple-words x
 unfolding records quadruple-words
 records-snoc [] x = refl
 records-snoc (y ∷ xs) x = ap (λ (l : List ℕ). y .N ∷ y .C ∷ y .S ∷ y .B ∷ l) (records-snoc xs x)
@@ -94,7 +94,7 @@ kept-more {xs} {s} {n} x h l =
     }
 
 -- EDGES
-triples-length : (es : List Edge) → length (triples es) ≡ 3 * length es
+pub triples-length : (es : List Edge) → length (triples es) ≡ 3 * length es
 unfolding triples triple
 triples-length [] = refl
 triples-length (e ∷ es) = let h = triples-length es in omega arith

@@ -1,7 +1,9 @@
 pub mod Agreeing
+pub mod Answers
 pub mod Arrays
 pub mod Choices
 pub mod Clears
+pub mod Finishing
 pub mod Flagged
 pub mod Kept
 pub mod Letters

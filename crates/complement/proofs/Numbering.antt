@@ -89,20 +89,23 @@ module _ (t : List ℕ) (passed : check-refusal t ≡ 0) where
           inner = ap (λ (z : Shape). z .inner) shaped;
         }
 
-    letters-all : shape .letters ≡ system-of t .letters
+    pub letters-all : shape .letters ≡ system-of t .letters
     unfolding shape-of system-of ncsb
     letters-all = ap (λ (z : Shape). z .letters) shaped
 
-    letters-few : shape .letters ≤ 16
+    pub letters-few : shape .letters ≤ 16
     unfolding system-of ncsb moves
     letters-few = let e = letters-all in let l = pattern-fits t (checked-table t passed) .letters in omega arith
+
+    pub starts-same : initials (start-moves shape) ≡ system-of t .starts
+    unfolding system-of ncsb
+    starts-same = initials-same (checked-split t passed .0) starts-widen
 
     -- the initial states are the beginning
     begins-with : built (initials (start-moves shape)) [] ≡ begin (system-of t)
     unfolding system-of ncsb
     begins-with =
-        ap (λ (xs : List Quadruple). built xs []) (initials-same (checked-split t passed .0) starts-widen)
-        ∙ sym (begin-is (system-of t) system-decides starts-apart)
+        ap (λ (xs : List Quadruple). built xs []) starts-same ∙ sym (begin-is (system-of t) system-decides starts-apart)
 
     pub begin-full :
         {w s : List ℕ} {p : Progress} → Begins [] w → Started shape s p → p .full ≡ true → Ends (complement t) w s p

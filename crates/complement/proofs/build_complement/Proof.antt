@@ -1,4 +1,18 @@
+-- `build_complement` answers and leaves what the definitions say: a refusal of the check, 11 where exploring found more states than fit, 12 where
+-- the table is too long, or the complement's table and sets. Assumes nothing.
+use mathlib.Core.Path.{_≡_, refl, sym, _∙_}
+use mathlib.Core.List.{List}
+use Prim.Native.Nat.{ℕ}
+use native.Mathlib.Omega.{arith}
 use borrow.Author.Needs.{needs}
+use lib.ListN.{length}
+use Rattle.patterns.proofs.Passed.{checked-table}
+use Rattle.complement.specs.Complement.{complement}
+use Rattle.complement.specs.Found.{Shows, Ends, Read-off}
+use Rattle.complement.proofs.Answers.{refused-check, refused-states, refused-edges}
+use Rattle.complement.proofs.Finishing.{states-limit, built-asks, built-counts, built-flags, built-says}
+use Rattle.complement.proofs.Reaching.{ends-within}
+use Rattle.complement.proofs.Stored.{begins-zeros}
 use Rattle.complement.proofs.build_complement.Statement.{statement}
 use Rattle.complement.proofs.build_complement.Tie as tie
 use Rattle.complement.proofs.build_complement.Reads as reads
@@ -15,113 +29,144 @@ use Rattle.patterns.proofs.check_refusal.Reads as check-refusal-reads
 use Rattle.patterns.proofs.masks_of.Reads as masks-of-reads
 use Rattle.patterns.proofs.shape_of.Reads as shape-of-reads
 
--- src/lib.rt:50:9
+-- what is known once exploring has ended
+module _ (c : tie.After-explore) where
+  abbrev begun : tie.Start
+  begun = c .before .before .before .before .before .before .before .before .before .before .before .before .before .before .before .before .before .before
+
+  abbrev table : List ℕ
+  table = begun .args .table .now
+
+  read : Read-off table (c .before .before .before .before .masks-of .result) (c .before .before .before .shape-of .result)
+  read =
+      record {
+        passed = sym (c .before .before .before .before .before .before .before .before .before .before .before .before .before .before .check-refusal .ensures) ∙ c .before .before .before .before .before .before .before .before .before .before .before .before .before .if1 .left;
+        masked = c .before .before .before .before .masks-of .ensures;
+        shaped = c .before .before .before .shape-of .ensures;
+      }
+
+  ends : Ends (complement table) (c .explore .last .1 .1 .0) (c .explore .last .1 .1 .1 .0) (c .explore .result)
+  ends = c .explore .ensures .ends table read
+
+  words-size : length (c .explore .last .1 .1 .0) ≡ length (begun .args .words .now)
+  words-size = c .explore .kept .1 .1 .0 ∙ c .before .before .before .before .before .before .before .before .before .before .before .clear-words .kept .0
+
+  sets-size : length (c .explore .last .1 .1 .1 .0) ≡ length (begun .args .sets .now)
+  sets-size = c .explore .kept .1 .1 .1 .0 ∙ c .before .before .before .before .before .before .before .clear-sets .kept .0
+
 check-refusal-requires : tie.Need-check-refusal-requires
 check-refusal-requires c κs = search needs
 
--- src/lib.rt:52:9
 refuse-requires : tie.Need-refuse-requires
 refuse-requires c κs = search needs
 
--- src/lib.rt:52:9
 same-length : tie.Need-same-length
 same-length c = search needs
 
--- src/lib.rt:52:9
 same-length-2 : tie.Need-same-length-2
 same-length-2 c = search needs
 
--- src/lib.rt:52:9
 returns : tie.Need-returns
-returns c = ?
+returns c =
+    refused-check (c .before .before .before .before .before .before .before .before .before .before .before .before .args .table .now) (c .before .before .before .before .before .before .before .before .before .before .before .before .args .words .now) (c .before .before .before .before .before .before .before .before .before .before .before .before .args .sets .now) (c .before .before .before .before .before .before .before .before .check-refusal .ensures) (c .before .before .before .before .before .before .before .if1 .taken) (c .before .before .before .before .refuse .ensures)
 
--- src/lib.rt:54:5
 clear-words-requires : tie.Need-clear-words-requires
 clear-words-requires c κs = search needs
 
--- src/lib.rt:55:5
 clear-sets-requires : tie.Need-clear-sets-requires
 clear-sets-requires c κs = search needs
 
--- src/lib.rt:56:9
 masks-of-requires : tie.Need-masks-of-requires
-masks-of-requires c κs = ?
+masks-of-requires c κs = checked-table (c .before .before .before .before .before .before .before .before .before .before .before .before .before .args .table .now) (sym (c .before .before .before .before .before .before .before .before .before .check-refusal .ensures) ∙ (c .before .before .before .before .before .before .before .before .if1 .left))
 
--- src/lib.rt:57:9
 shape-of-requires : tie.Need-shape-of-requires
-shape-of-requires c κs = ?
+shape-of-requires c κs =
+    record {
+      pattern = checked-table (c .before .before .before .before .before .before .before .before .before .before .before .before .before .before .args .table .now) (sym (c .before .before .before .before .before .before .before .before .before .before .check-refusal .ensures) ∙ (c .before .before .before .before .before .before .before .before .before .if1 .left));
+      spread = (c .masks-of .ensures);
+    }
 
--- src/lib.rt:58:9
 explore-requires : tie.Need-explore-requires
-explore-requires c κs = ?
+explore-requires c κs =
+    record {
+      table = (c .before .before .before .before .before .before .before .before .before .before .before .before .before .before .before .before .before .args .table .now);
+      read-off =
+          record {
+            passed = sym (c .before .before .before .before .before .before .before .before .before .before .before .before .before .check-refusal .ensures) ∙ (c .before .before .before .before .before .before .before .before .before .before .before .before .if1 .left);
+            masked = (c .before .before .before .masks-of .ensures);
+            shaped = (c .before .before .shape-of .ensures);
+          };
+      words-clear = rw (c .before .before .before .before .before .before .before .before .before .before .clear-words .ensures) (begins-zeros (c .before .before .before .before .before .before .before .before .before .before .before .before .before .before .before .before .before .args .words .now));
+      sets-clear = rw (c .before .before .before .before .before .before .clear-sets .ensures) (begins-zeros (c .before .before .before .before .before .before .before .before .before .before .before .before .before .before .before .before .before .args .sets .now));
+    }
 
--- src/lib.rt:60:9
 refuse-requires-2 : tie.Need-refuse-requires-2
 refuse-requires-2 c κs = search needs
 
--- src/lib.rt:60:9
 same-length-3 : tie.Need-same-length-3
 same-length-3 c = search needs
 
--- src/lib.rt:60:9
 same-length-4 : tie.Need-same-length-4
 same-length-4 c = search needs
 
--- src/lib.rt:60:9
 returns-2 : tie.Need-returns-2
-returns-2 c = ?
+returns-2 c =
+    let at = c .before .before .before .before .before .before .before .before .before .before .before .before in
+    refused-states (table at) (begun at .args .words .now) (begun at .args .sets .now) (read at .passed) (words-size at) (sets-size at)
+    (ends at) (c .before .before .before .before .before .before .before .if2 .taken) (c .before .before .before .before .refuse2 .ensures)
 
--- src/lib.rt:64:8
 too-long-requires : tie.Need-too-long-requires
-too-long-requires c κs = ?
+too-long-requires c κs =
+    let at = c .before .before .before .before .before in states-limit (read at) (ends-within (c .if2 .left) (ends at))
 
--- src/lib.rt:65:9
 refuse-requires-3 : tie.Need-refuse-requires-3
 refuse-requires-3 c κs = search needs
 
--- src/lib.rt:65:9
 same-length-5 : tie.Need-same-length-5
-same-length-5 c = ?
+same-length-5 c = c .before .before .before .before .refuse3 .kept .1 .0 ∙ words-size (c .before .before .before .before .before .before .before .before .before .before .before .before .before .before)
 
--- src/lib.rt:65:9
 same-length-6 : tie.Need-same-length-6
 same-length-6 c = search needs
 
--- src/lib.rt:65:9
 returns-3 : tie.Need-returns-3
-returns-3 c = ?
+returns-3 c =
+    let at = c .before .before .before .before .before .before .before .before .before .before .before .before .before .before in
+    refused-edges (table at) (begun at .args .words .now) (begun at .args .sets .now) (read at .passed) (words-size at) (sets-size at)
+    (ends at) (c .before .before .before .before .before .before .before .before .before .if2 .left) (c .before .before .before .before .before .before .before .before .too-long .ensures) (c .before .before .before .before .before .before .before .if3 .taken) (c .before .before .before .before .refuse3 .ensures)
 
--- src/lib.rt:67:5
 lay-out-requires : tie.Need-lay-out-requires
-lay-out-requires c κs = ?
+lay-out-requires c κs =
+    let at = c .before .before .before .before .before .before .before .before in built-asks (read at) (ends-within (c .before .before .before .if2 .left) (ends at)) (c .before .before .too-long .ensures) (c .before .if3 .left)
 
--- src/lib.rt:68:35
 initial-count-requires : tie.Need-initial-count-requires
 initial-count-requires c κs = search needs
 
--- src/lib.rt:68:5
 set-flags-requires : tie.Need-set-flags-requires
-set-flags-requires c κs = ?
+set-flags-requires c κs =
+    let at = c .before .before .before .before .before .before .before .before .before .before .before .before .before .before in
+    built-flags (read at) (ends-within (c .before .before .before .before .before .before .before .before .before .if2 .left) (ends at)) (c .before .before .before .before .before .before .before .before .too-long .ensures) (c .before .before .before .before .before .before .before .if3 .left) (c .before .before .before .before .before .lay-out .ensures) (c .before .before .before .before .before .lay-out .kept .0)
 
--- src/lib.rt:71:17
 cast-t40 : tie.Need-cast-t40
-cast-t40 c = ?
+cast-t40 c =
+    let at = c .before .before .before .before .before .before .before .before .before .before .before .before .before .before .before .before .before in
+    let few = built-counts (read at) (ends-within (c .before .before .before .before .before .before .before .before .before .before .before .before .if2 .left) (ends at)) (c .before .before .before .before .before .before .before .before .before .before .before .too-long .ensures) (c .before .before .before .before .before .before .before .before .before .before .if3 .left) .0 in omega arith
 
--- src/lib.rt:72:16
 cast-t41 : tie.Need-cast-t41
-cast-t41 c = ?
+cast-t41 c =
+    let at = c .before .before .before .before .before .before .before .before .before .before .before .before .before .before .before .before .before in
+    let few = built-counts (read at) (ends-within (c .before .before .before .before .before .before .before .before .before .before .before .before .if2 .left) (ends at)) (c .before .before .before .before .before .before .before .before .before .before .before .too-long .ensures) (c .before .before .before .before .before .before .before .before .before .before .if3 .left) .1 in omega arith
 
--- src/lib.rt:47:1
 same-length-7 : tie.Need-same-length-7
-same-length-7 c = ?
+same-length-7 c = c .before .before .set-flags .kept .0 ∙ (c .before .before .before .before .before .before .before .before .lay-out .kept .0) ∙ words-size (c .before .before .before .before .before .before .before .before .before .before .before .before .before .before .before .before .before)
 
--- src/lib.rt:47:1
 same-length-8 : tie.Need-same-length-8
 same-length-8 c = search needs
 
--- src/lib.rt:47:1
 returns-4 : tie.Need-returns-4
-returns-4 c = ?
+returns-4 c =
+    let at = c .before .before .before .before .before .before .before .before .before .before .before .before .before .before .before .before .before in
+    built-says (read at) (ends-within (c .before .before .before .before .before .before .before .before .before .before .before .before .if2 .left) (ends at)) (c .before .before .before .before .before .before .before .before .before .before .before .too-long .ensures) (c .before .before .before .before .before .before .before .before .before .before .if3 .left) (c .before .before .before .before .before .before .before .before .lay-out .ensures) (c .before .before .before .before .before .before .before .before .lay-out .kept .0)
+    (begun at .args .words .now) (begun at .args .sets .now) (words-size at) (sets-size at) (c .before .before .before .initial-count .ensures) (c .before .before .set-flags .ensures)
 
 pub build-complement-spec : {M : Type 1} → statement M
 build-complement-spec =

@@ -1,0 +1,225 @@
+-- From what was found to the complement's words: what laying out asks holds, and with the flags set the words are the complement's table; the
+-- records are its sets. Assumes nothing.
+use mathlib.Core.Path.{_≡_, refl, sym, _∙_, ap}
+use mathlib.Core.Bool.{Bool, true, false, _&&_, _||_, cond}
+use mathlib.Core.List.{List, [], _∷_, _++_}
+use Prim.Native.Nat.{ℕ, zero, suc, _+_, _*_, _-_, _/_, _^_, _≤_, _<_, min}
+use native.Mathlib.Omega.{arith}
+use lib.Dec.{ltb}
+use lib.ListN.{length, getD, take, List·getD-eq-default}
+use lib.Seq.{take-suc, take-all, take-length}
+use Rattle.basics.specs.Buffers.{filled}
+use Rattle.basics.specs.Rows.{rows}
+use Rattle.basics.proofs.Booleans.{lt-ltb}
+use Rattle.automata.specs.Automaton.{Automaton}
+use Rattle.automata.specs.System.{Edge, an-edge, edge-at, state-at, numbered}
+use Rattle.tables.specs.Table.{meaning, wide-range}
+use Rattle.ncsb.specs.Successors.{quadruple, accepting, initials, ncsb}
+use Rattle.ncsb.specs.declared.Quadruple.{Quadruple}
+use Rattle.patterns.specs.Pattern.{moves}
+use Rattle.patterns.specs.declared.Shape.{Shape}
+use Rattle.layout.specs.Chained.{flags-word, chained-words}
+use Rattle.layout.specs.Steps.{Lay-out-asks}
+use Rattle.layout.specs.Triples.{triples-of, plain}
+use Rattle.layout.proofs.Indexed.{flagging-end}
+use Rattle.layout.proofs.Triples.{triples-are}
+use Rattle.complement.specs.Build.{words-needed, Build-says}
+use Rattle.complement.specs.Complement.{system-of, complement, complement-automaton, complement-words, sets-words, quadruple-words}
+use Rattle.complement.specs.Flags.{flags-of-record, with-flags, Flags-ask}
+use Rattle.complement.specs.Found.{Begins, records, triple, triples, edge-room, counted-to, Shows, start-moves, Read-off}
+use Rattle.complement.specs.Records.{quadruple-at}
+use Rattle.complement.specs.declared.explore.Progress.{Progress}
+use Rattle.complement.proofs.Answers.{none-refuses, says-built, short-enough}
+use Rattle.complement.proofs.Flagged.{flags-flagging, flags-length}
+use Rattle.complement.proofs.Kept.{records-length, records-snoc, kept-at, triples-length}
+use Rattle.complement.proofs.Meeting.{capacity-words, capacity-limit}
+use Rattle.complement.proofs.Numbering.{letters-all, letters-few, starts-same}
+use Rattle.complement.proofs.Second.{complement-orderly}
+use Rattle.complement.proofs.Stored.{begins-filled}
+
+-- SETS: records one after the other are rows of quadruples
+records-rows :
+    (xs : List Quadruple) (k : ℕ) → k ≤ length xs →
+    rows k (λ i. quadruple-words (getD xs i (quadruple 0 0 0 0))) ≡ records (take k xs)
+unfolding rows records
+records-rows xs zero l = refl
+records-rows xs (suc k) l =
+    rw (take-suc xs k (quadruple 0 0 0 0) l, records-snoc (take k xs) (getD xs k (quadruple 0 0 0 0)))
+    (ap (λ (l : List ℕ). l ++ quadruple-words (getD xs k (quadruple 0 0 0 0))) (records-rows xs k (omega arith)))
+
+records-sets : (t : List ℕ) → records (complement t .states) ≡ sets-words t
+unfolding sets-words state-at system-of ncsb
+records-sets t =
+    let xs = complement t .states in
+    ap records (sym (take-length xs)) ∙ sym (records-rows xs (length xs) (omega arith))
+
+-- EDGES by word
+triples-letter : (es : List Edge) (e : ℕ) → e < length es → getD (triples es) (3 * e) 0 ≡ edge-at es e .letter
+unfolding triples triple edge-at
+triples-letter [] e l = absurd (omega arith)
+triples-letter (f ∷ es) zero l = refl
+triples-letter (f ∷ es) (suc e) l =
+    let q : 3 * suc e ≡ suc (suc (suc (3 * e))) = omega arith in rw q (triples-letter es e (omega arith))
+
+triples-target : (es : List Edge) (e : ℕ) → e < length es → getD (triples es) (3 * e + 1) 0 ≡ edge-at es e .target
+unfolding triples triple edge-at
+triples-target [] e l = absurd (omega arith)
+triples-target (f ∷ es) zero l = refl
+triples-target (f ∷ es) (suc e) l =
+    let q : 3 * suc e + 1 ≡ suc (suc (suc (3 * e + 1))) = omega arith in rw q (triples-target es e (omega arith))
+
+triples-source : (es : List Edge) (e : ℕ) → e < length es → getD (triples es) (3 * e + 2) 0 ≡ edge-at es e .source
+unfolding triples triple edge-at
+triples-source [] e l = absurd (omega arith)
+triples-source (f ∷ es) zero l = refl
+triples-source (f ∷ es) (suc e) l =
+    let q : 3 * suc e + 2 ≡ suc (suc (suc (3 * e + 2))) = omega arith in rw q (triples-source es e (omega arith))
+
+module _
+    {t : List ℕ} {masks : List (List ℕ)} {shape : Shape} (read : Read-off t masks shape) {w s : List ℕ} {p : Progress}
+    (h : Shows (complement t) w s p) where
+  pub states-limit : p .states ≤ 65535
+  states-limit =
+      let e = h .states .counted in
+      let l = h .states .fits in
+      let m = capacity-limit s in omega arith
+
+  sets-room : 4 * p .states ≤ length s
+  sets-room = let e = h .states .counted in let l = h .states .fits in capacity-words s (p .states) (omega arith)
+
+  -- the sets are all there
+  pub sets-built : (o : List ℕ) → length s ≡ length o → s ≡ filled (sets-words t) o
+  unfolding filled
+  sets-built o e =
+      let room = sets-room in
+      let count = h .states .counted in
+      let long = records-length (complement t .states) in
+      let whole : s ≡ filled (records (complement t .states)) s = begins-filled (omega arith) (h .states .begins) in
+      whole ∙ rw (records-sets t, e) refl
+
+  module _ (short : (p .edges ≤ 65535) × (words-needed (p .states) (p .edges) ≤ length w)) where
+    all-edges : p .edges ≡ length (complement t .edges)
+    unfolding counted-to wide-range
+    all-edges = let e = h .edges .counted in let l = short .0 in omega arith
+
+    -- every edge is in the words
+    edges-room : length (complement t .edges) ≤ edge-room w
+    unfolding edge-room words-needed wide-range
+    edges-room = let e = all-edges in let l = short .0 in let m = short .1 in omega arith
+
+    edges-kept : Begins (0 ∷ 0 ∷ 0 ∷ triples (complement t .edges)) w
+    edges-kept = rw (take-all (edge-room w) (complement t .edges) edges-room) at (h .edges .begins)
+
+    word-letter : (e : ℕ) → e < length (complement t .edges) → getD w (3 + 3 * e) 0 ≡ edge-at (complement t .edges) e .letter
+    word-letter e l =
+        let q : 3 + 3 * e ≡ suc (suc (suc (3 * e))) = omega arith in
+        edges-kept .at (3 + 3 * e) ∙ rw q (triples-letter (complement t .edges) e l)
+
+    word-target : (e : ℕ) → e < length (complement t .edges) → getD w (4 + 3 * e) 0 ≡ edge-at (complement t .edges) e .target
+    word-target e l =
+        let q : 4 + 3 * e ≡ suc (suc (suc (3 * e + 1))) = omega arith in
+        edges-kept .at (4 + 3 * e) ∙ rw q (triples-target (complement t .edges) e l)
+
+    word-source : (e : ℕ) → e < length (complement t .edges) → getD w (5 + 3 * e) 0 ≡ edge-at (complement t .edges) e .source
+    word-source e l =
+        let q : 5 + 3 * e ≡ suc (suc (suc (3 * e + 2))) = omega arith in
+        edges-kept .at (5 + 3 * e) ∙ rw q (triples-source (complement t .edges) e l)
+
+    edges-are : triples-of w (p .edges) ≡ complement t .edges
+    edges-are = rw all-edges (triples-are w (complement t .edges) word-letter word-target word-source)
+
+    pub lay-out-asks : Lay-out-asks w (p .states) (shape .letters) (p .edges)
+    unfolding words-needed complement-automaton numbered
+    lay-out-asks =
+        let all = all-edges in
+        let count = h .states .counted in
+        let few = letters-few t (read .passed) (read .masked) (read .shaped) in
+        record {
+          room = record { room = short .1; states-fit = states-limit; edges-fit = short .0 };
+          letters-fit = omega arith;
+          source = λ e l.
+              let same = word-source e (omega arith) in
+              let inside = complement-orderly t (read .passed) .source e (omega arith) in omega arith;
+          beyond = λ i l.
+              let long = triples-length (complement t .edges) in
+              let past : length (0 ∷ 0 ∷ 0 ∷ triples (complement t .edges)) ≤ i = omega arith in
+              edges-kept .at i ∙ List·getD-eq-default (0 ∷ 0 ∷ 0 ∷ triples (complement t .edges)) 0 past;
+        }
+
+    module _
+        {w1 : List ℕ} (laid : w1 ≡ filled (chained-words (plain (p .states) (shape .letters)) (triples-of w (p .edges))) w)
+        (size : length w1 ≡ length w) where
+      pub flags-ask : Flags-ask w1 s (p .states)
+      unfolding words-needed
+      flags-ask = record { words-room = (let m = short .1 in let e = size in omega arith); sets-room = sets-room }
+
+      -- a state's record says its flags
+      same-flags :
+          {k : ℕ} → k ≡ length (initials (start-moves shape)) → (i : ℕ) → i < complement-automaton t .states →
+          flags-of-record s k i ≡ flags-word (complement-automaton t) i
+      unfolding flags-of-record flags-word complement-automaton numbered system-of ncsb state-at
+      same-flags {k} e i l =
+          let count = h .states .counted in
+          let first : k ≡ length (system-of t .starts) = e ∙ ap length (starts-same t (read .passed) (read .masked) (read .shaped)) in
+          rw (first, kept-at (h .states) i (omega arith), lt-ltb l) refl
+
+      automaton-states : p .states ≡ complement-automaton t .states
+      unfolding complement-automaton numbered
+      automaton-states = h .states .counted
+
+      automaton-letters : shape .letters ≡ complement-automaton t .letters
+      unfolding complement-automaton numbered
+      automaton-letters = letters-all t (read .passed) (read .masked) (read .shaped)
+
+      laid-plain :
+          (o : List ℕ) → length w ≡ length o →
+          w1
+          ≡ filled (chained-words (plain (complement-automaton t .states) (complement-automaton t .letters)) (complement t .edges)) o
+      unfolding filled
+      laid-plain o g = laid ∙ rw (automaton-states, automaton-letters, edges-are, g) refl
+
+      pub words-built :
+          {k : ℕ} {v : List ℕ} (o : List ℕ) → k ≡ length (initials (start-moves shape)) → v ≡ with-flags s k (p .states) w1 →
+          length w ≡ length o → v ≡ filled (complement-words t) o
+      unfolding words-needed complement-words
+      words-built {k} {v} o e f g =
+          let a = complement-automaton t in
+          let es = complement t .edges in
+          let all = all-edges in
+          let states = automaton-states in
+          let enough = short .1 in
+          let room : 3 + 2 * a .states ≤ length w1 = omega arith in
+          let whole : 3 + 2 * a .states + 3 * length es ≤ length o = omega arith in
+          let flags = flags-flagging a s k w1 room (same-flags e) (a .states) (omega arith) in
+          let set-flags : v ≡ with-flags s k (a .states) w1 = f ∙ ap (λ (n : ℕ). with-flags s k n w1) states in
+          flagging-end a es o w1 v whole (laid-plain o g) (rw set-flags flags)
+
+-- THE ACCEPTED BUILD
+module _
+    {t : List ℕ} {masks : List (List ℕ)} {shape : Shape} (read : Read-off t masks shape) {w s : List ℕ} {p : Progress}
+    (h : Shows (complement t) w s p) {b : Bool}
+    (tested : b ≡ (ltb 65535 (p .edges) || ltb (length w) (words-needed (p .states) (p .edges)))) (short : b ≡ false) where
+  enough : (p .edges ≤ 65535) × (words-needed (p .states) (p .edges) ≤ length w)
+  enough = short-enough (length w) (p .states) (p .edges) tested short
+
+  pub built-asks : Lay-out-asks w (p .states) (shape .letters) (p .edges)
+  built-asks = lay-out-asks read h enough
+
+  pub built-counts : (p .states ≤ 65535) × (p .edges ≤ 65535)
+  built-counts = (states-limit read h, enough .0)
+
+  module _
+      {w1 : List ℕ} (laid : w1 ≡ filled (chained-words (plain (p .states) (shape .letters)) (triples-of w (p .edges))) w)
+      (size : length w1 ≡ length w) where
+    pub built-flags : Flags-ask w1 s (p .states)
+    built-flags = flags-ask read h enough laid size
+
+    pub built-says :
+        {k : ℕ} {v : List ℕ} (o s₀ : List ℕ) → length w ≡ length o → length s ≡ length s₀ →
+        k ≡ length (initials (start-moves shape)) → v ≡ with-flags s k (p .states) w1 →
+        Build-says t (record { number = 0; states = p .states; edges = p .edges }) o v s₀ s
+    built-says o s₀ words sets e f =
+        let states = h .states .counted in
+        let edges = all-edges read h enough in
+        says-built (none-refuses t o s₀ (read .passed) h words sets tested short) (rw (states, edges) refl)
+        (words-built read h enough laid size o e f words) (sets-built read h s₀ sets)
