@@ -292,13 +292,13 @@ static int answer_all(const struct table *pattern, const struct lasso *lassos, i
     struct complement c;
     if (number != TUBOCHRE_OK)
         return refused("pattern", number);
-    printf("pattern: passes the check, with %u states, %u letters and %u records\n", (unsigned)pattern->words[0],
+    printf("pattern: passes the check (states %u, letters %u, records %u)\n", (unsigned)pattern->words[0],
            (unsigned)pattern->words[1], (unsigned)pattern->words[2]);
     c = build(pattern);
     if (c.counts.number != TUBOCHRE_OK) {
         status = refused("complement", c.counts.number);
     } else {
-        printf("complement: %u states, %u edges\n", (unsigned)c.counts.states, (unsigned)c.counts.edges);
+        printf("complement: states %u, edges %u\n", (unsigned)c.counts.states, (unsigned)c.counts.edges);
         for (i = 0; i < count; i++)
             if (answer_lasso(pattern, &c, &lassos[i]) != FINE)
                 status = REFUSED;

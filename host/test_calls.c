@@ -13,6 +13,15 @@ static const uint16_t no_initial[] = {1, 1, 0, 0, 0};
 static const uint16_t forking[] = {2, 1, 2, 1, 0, 2, 1, 0, 0, 2, 0, 1, 0};
 static const uint16_t edge_twice[] = {1, 1, 2, 3, 1, 0, 0, 2, 0, 0, 0};
 
+/* 0 waits for letter 1, which leads to 1 for ever. */
+static const uint16_t waiting[] = {2, 2, 4, 1, 1, 2, 3, 0, 0, 2, 1, 1, 0, 0, 1, 4, 1, 1, 0};
+/* 0 accepts and leads to 1, a dead end: a 1 in C blocks the step, a 0 in C does not. */
+static const uint16_t dead_end[] = {2, 1, 1, 3, 1, 0, 0, 0, 1, 0};
+/* Both states lead to 1: from an accepting one it may be guessed, from the other it must stay in C. */
+static const uint16_t joining[] = {2, 1, 2, 3, 1, 1, 2, 0, 1, 0, 0, 1, 0};
+/* 0 waits and enters 1, which accepts and leads to 2 for ever: B must not be refilled before it is empty. */
+static const uint16_t entering[] = {3, 1, 4, 1, 1, 2, 3, 0, 4, 0, 0, 2, 0, 1, 0, 0, 2, 0, 0, 2, 0};
+
 /* ---- Complements worked out by hand. */
 
 struct piece {
@@ -25,23 +34,40 @@ struct piece {
     size_t sets_len;
 };
 
-static const uint16_t a_words[] = {2, 2, 4, 3, 1, 0, 3, 0, 1, 2, 1, 0, 0, 0, 1, 4, 1, 0, 0};
-static const uint32_t a_sets[] = {1, 0, 0, 0, 1, 2, 0, 2};
-static const uint16_t b_words[] = {3, 2, 6, 1, 1, 3, 3, 0, 4, 0, 0, 2, 1, 2, 0, 0, 1, 0, 0, 0, 5, 0, 1, 6, 1, 2, 0};
-static const uint32_t b_sets[] = {0, 1, 0, 1, 0, 0, 1, 0, 0, 2, 0, 2};
+static const uint16_t pattern_a_words[] = {2, 2, 4, 3, 1, 0, 3, 0, 1, 2, 1, 0, 0, 0, 1, 4, 1, 0, 0};
+static const uint32_t pattern_a_sets[] = {1, 0, 0, 0, 1, 2, 0, 2};
+static const uint16_t pattern_b_words[] = {3, 2, 6, 1, 1, 3, 3, 0, 4, 0, 0, 2, 1, 2,
+                                           0, 0, 1, 0, 0, 0, 5, 0, 1, 6, 1, 2, 0};
+static const uint32_t pattern_b_sets[] = {0, 1, 0, 1, 0, 0, 1, 0, 0, 2, 0, 2};
 static const uint16_t no_initial_words[] = {1, 1, 1, 3, 1, 0, 0, 0};
 static const uint32_t no_initial_sets[] = {0, 0, 0, 0};
 static const uint16_t edge_twice_words[] = {1, 1, 1, 1, 1, 0, 0, 0};
 static const uint32_t edge_twice_sets[] = {0, 1, 0, 1};
+static const uint16_t waiting_words[] = {2, 2, 4, 3, 1, 0, 3, 0, 0, 2, 1, 1, 0, 0, 1, 4, 1, 1, 0};
+static const uint32_t waiting_sets[] = {1, 0, 0, 0, 0, 2, 0, 2};
+static const uint16_t dead_end_words[] = {4, 1, 4, 1, 1, 0, 0, 2, 3, 2, 4, 0, 1, 2, 0, 2, 0, 0, 3, 0, 0, 3, 0};
+static const uint32_t dead_end_sets[] = {0, 1, 0, 1, 0, 2, 0, 2, 0, 0, 2, 0, 0, 0, 0, 0};
+static const uint16_t joining_words[] = {4, 1, 4, 1, 1, 1, 2, 0, 3, 2, 4, 0, 2, 0, 0, 3, 0, 0, 2, 0, 0, 3, 0};
+static const uint32_t joining_sets[] = {0, 3, 0, 3, 0, 1, 2, 1, 0, 2, 0, 2, 0, 0, 2, 0};
+static const uint16_t entering_words[] = {5, 1, 6, 3, 1, 0, 2, 0, 4, 2, 5, 0, 6, 0, 1, 0,
+                                          0, 2, 3, 0, 3, 0, 0, 2, 0, 0, 4, 0, 0, 3, 0};
+static const uint32_t entering_sets[] = {1, 0, 0, 0, 1, 2, 0, 2, 1, 6, 0, 4, 1, 2, 4, 0, 1, 2, 4, 2};
+
+#define PIECE(name, table) \
+    {name, table, LENGTH(table), table##_words, LENGTH(table##_words), table##_sets, LENGTH(table##_sets)}
 
 static const struct piece pieces[] = {
-    {"A", pattern_a, LENGTH(pattern_a), a_words, LENGTH(a_words), a_sets, LENGTH(a_sets)},
-    {"B", pattern_b, LENGTH(pattern_b), b_words, LENGTH(b_words), b_sets, LENGTH(b_sets)},
-    {"no initial state", no_initial, LENGTH(no_initial), no_initial_words, LENGTH(no_initial_words), no_initial_sets,
-     LENGTH(no_initial_sets)},
-    {"one edge twice", edge_twice, LENGTH(edge_twice), edge_twice_words, LENGTH(edge_twice_words), edge_twice_sets,
-     LENGTH(edge_twice_sets)},
+    PIECE("A", pattern_a),
+    PIECE("B", pattern_b),
+    PIECE("no initial state", no_initial),
+    PIECE("one edge twice", edge_twice),
+    PIECE("waiting", waiting),
+    PIECE("a dead end", dead_end),
+    PIECE("a target that must stay in C", joining),
+    PIECE("B not refilled before it is empty", entering),
 };
+
+enum { A, B, NO_INITIAL, EDGE_TWICE, WAITING, DEAD_END, JOINING, ENTERING };
 
 static void try_piece(const struct piece *p)
 {
@@ -65,15 +91,21 @@ struct trial {
 };
 
 static const struct trial trials[] = {
-    {"A, loop 0", &pieces[0], {0}, {0}, 0, 1, 1},
-    {"A, loop 1", &pieces[0], {0}, {1}, 0, 1, 0},
-    {"A, prefix 1, loop 0", &pieces[0], {1}, {0}, 1, 1, 1},
-    {"A, prefix 0 0, loop 0 1", &pieces[0], {0, 0}, {0, 1}, 2, 2, 0},
-    {"B, loop 0", &pieces[1], {0}, {0}, 0, 1, 0},
-    {"B, loop 0 1", &pieces[1], {0}, {0, 1}, 0, 2, 1},
-    {"B, prefix 1, loop 0: an accepting state on the prefix only", &pieces[1], {1}, {0}, 1, 1, 0},
-    {"no initial state, loop 0", &pieces[2], {0}, {0}, 0, 1, 0},
-    {"one edge twice, loop 0", &pieces[3], {0}, {0}, 0, 1, 1},
+    {"A, loop 0", &pieces[A], {0}, {0}, 0, 1, 1},
+    {"A, loop 1", &pieces[A], {0}, {1}, 0, 1, 0},
+    {"A, prefix 1, loop 0", &pieces[A], {1}, {0}, 1, 1, 1},
+    {"A, prefix 0 0, loop 0 1", &pieces[A], {0, 0}, {0, 1}, 2, 2, 0},
+    {"B, loop 0", &pieces[B], {0}, {0}, 0, 1, 0},
+    {"B, loop 0 1", &pieces[B], {0}, {0, 1}, 0, 2, 1},
+    {"B, prefix 1, loop 0: an accepting state on the prefix only", &pieces[B], {1}, {0}, 1, 1, 0},
+    {"no initial state, loop 0", &pieces[NO_INITIAL], {0}, {0}, 0, 1, 0},
+    {"one edge twice, loop 0", &pieces[EDGE_TWICE], {0}, {0}, 0, 1, 1},
+    {"waiting, loop 0", &pieces[WAITING], {0}, {0}, 0, 1, 0},
+    {"waiting, prefix 0 1, loop 0", &pieces[WAITING], {0, 1}, {0}, 2, 1, 1},
+    {"waiting, prefix 0 0, loop 0 0 1", &pieces[WAITING], {0, 0}, {0, 0, 1}, 2, 3, 1},
+    {"a dead end, loop 0: a finite run", &pieces[DEAD_END], {0}, {0}, 0, 1, 0},
+    {"a target that must stay, loop 0 0", &pieces[JOINING], {0}, {0, 0}, 0, 2, 0},
+    {"entering, prefix 0, loop 0", &pieces[ENTERING], {0}, {0}, 1, 1, 0},
 };
 
 static void try_lasso(const struct trial *t)
@@ -126,6 +158,7 @@ static const struct damaged damaged_tables[] = {
     {"a head above m", 9, 9, 8, {1, 1, 1, 0, 2, 0, 0, 0}},
     {"a next above m", 9, 9, 8, {1, 1, 1, 0, 1, 0, 0, 2}},
     {"a next that is its own record", 9, 9, 8, {1, 1, 1, 0, 1, 0, 0, 1}},
+    {"a next that is its own record, named by nothing else", 9, 9, 8, {1, 1, 1, 0, 0, 0, 0, 1}},
     {"a next that goes back", 9, 9, 11, {1, 1, 2, 0, 2, 0, 0, 0, 0, 0, 1}},
     {"a record that nothing names", 9, 9, 8, {1, 1, 1, 0, 0, 0, 0, 0}},
     {"a record named by a head and a next", 9, 9, 13, {2, 1, 2, 0, 1, 0, 2, 0, 0, 2, 0, 0, 0}},
@@ -201,7 +234,7 @@ static void try_lasso_refusals(void)
 /* The build's own refusals: a fork by 10 leaves zeros too; 11 comes before 12. */
 static void try_build_refusals(void)
 {
-    const size_t len = LENGTH(pattern_b), words = LENGTH(b_words), sets = LENGTH(b_sets);
+    const size_t len = LENGTH(pattern_b), words = LENGTH(pattern_b_words), sets = LENGTH(pattern_b_sets);
     struct {
         size_t words, sets;
         uint32_t number;

@@ -352,12 +352,14 @@ void draw_odd_lasso(struct random *r, struct drawn_lasso *l, uint32_t letters)
     case 2:
         l->prefix_len = random_between(r, 4096, 4098);
         draw_letters(r, l->prefix, l->prefix_len, letters);
+        if (random_chance(r, 20)) /* two faults at once: the first test that fails decides */
+            l->loop_len = 0;
         break;
     case 3: l->loop[random_below(r, (uint32_t)l->loop_len)] = (uint8_t)random_between(r, letters, letters + 1); break;
     default:
         if (l->prefix_len > 0)
             l->prefix[random_below(r, (uint32_t)l->prefix_len)] = (uint8_t)random_between(r, letters, 255);
-        if (random_chance(r, 20)) /* two faults at once: the first test that fails decides */
+        if (random_chance(r, 20))
             l->loop_len = 0;
         break;
     }
