@@ -1,6 +1,6 @@
 -- `records::count` meets its contract: a walk of its MIR, by hand. The count is the second part of the slice's machine value.
 -- Assumes nothing.
-use mathlib.Core.Path.{_≡_, refl}
+use mathlib.Core.Path.{refl}
 use Prim.Native.Nat.{ℕ, _<_, _^_}
 use mathlib.Core.List.{List, [], _∷_}
 use lib.ListN.{length}
@@ -15,7 +15,7 @@ use prog.Wp.{Heap, Calls, Loops, WpFn, Tables}
 use ghost.Atoms.{Atoms}
 use contract.Monad.{Fun}
 use contract.Running.{givenOf, tables, tablesOf}
-use types.Kit.{Given, ‵, _⊛_, ⋆, _$_, _∵_, !, qed, by, move, keep, drop, split, join, fsplit, fjoin, feqI, fltI, suffices, frame, done}
+use types.Kit.{Given, ‵, _⊛_, ⋆, _$_, _∵_, !, qed, by, move, keep, split, join, fsplit, fjoin, feqI, fltI, suffices, frame, done}
 use types.Part.{whole, sub, look-in}
 use types.Run.{look, init, forget, stop, fld, from, load, of-opd, assigns, returns, enter, alloc1, alloc0, params1, pass1, pass0, free1, free0}
 use sound.WpLaws.{WpFn-mono}

@@ -1,7 +1,7 @@
 -- `records::load` meets its contract: a walk of its MIR, by hand. The place of `records[number]` is 16 bytes on for each record before it; the slice is looked into, the record is taken out of the row, read, and put back.
 -- The code has no check of the bound: it is the contract's to ask.
 -- Assumes nothing.
-use mathlib.Core.Path.{_≡_, refl, sym}
+use mathlib.Core.Path.{refl, sym}
 use Prim.Native.Nat.{ℕ, _<_, _^_}
 use mathlib.Core.List.{List, [], _∷_}
 use lib.ListN.{length, getD}

@@ -3,8 +3,6 @@ use borrow.Author.Needs.{needs}
 use Rattle.records.proofs.Words.{record-read, record-blank}
 use Rattle.records.proofs.record_in.Statement.{statement}
 use Rattle.records.proofs.record_in.Tie as tie
-use Rattle.records.proofs.record_in.Reads as reads
-use Rattle.records.proofs.record_in.Lts as lts
 
 mul-at : tie.Need-mul-at
 mul-at c = search needs

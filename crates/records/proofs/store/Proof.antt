@@ -1,7 +1,7 @@
 -- `records::store` meets its contract: a walk of its MIR, by hand. The place of `records[number]` is computed, the borrow is opened, the record is taken out of the row and stored to, the quadruple is put in its place, and the borrow is closed at the list with the quadruple there.
 -- The code has no check of the bound: it is the contract's to ask.
 -- Assumes nothing.
-use mathlib.Core.Path.{_≡_, refl, sym, ap, subst}
+use mathlib.Core.Path.{refl, sym, ap, subst}
 use Prim.Native.Nat.{ℕ, _<_, _^_}
 use mathlib.Core.List.{List, [], _∷_}
 use lib.ListN.{length, set, length-set}
