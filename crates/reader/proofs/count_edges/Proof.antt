@@ -1,4 +1,9 @@
--- `reader::count_edges` meets its contract: a walk of its MIR, by hand, with a loop. A `Reader` stands in a local, and each turn asks what stands at it and steps to the next. All that the proof knows of the functions called is that each meets its contract.
+-- `reader::count_edges` meets its contract: a walk of its MIR, by hand, with a loop. A `Reader` stands in a local; each turn asks what stands at it, and steps on. All that the proof knows of the five functions called is that each meets its contract.
+--     goes-…, …-said   of each function called: what it asks, from what is owned, and what is known of its result
+--     Turn, At         the loop's invariant: the reader is over the table passed, and what is counted and what is left make up the whole (`Counted`). Its variant: m less the count (`Nearer`)
+--     turns            a turn from the invariant, up to the test; then `more`, a step and the count, or `ends`, which leaves the loop and runs the rest of the body
+--     walk             the MIR up to the loop, in three parts, since one part would be too long for the checker: `walk` calls `records_of`, `makes` calls `new`, `counts` begins the loop
+-- The reader is Copy: what it owns is had twice in each turn, once for `edge` and once for `next`.
 -- Assumes nothing.
 use mathlib.Core.Path.{_≡_, refl, sym, ap, _∙_, subst}
 use Prim.Native.Nat.{ℕ, _+_, _-_, _<_, _^_}
@@ -347,6 +352,7 @@ module _ {M : Type 1} (𝓤 : URA M) (H : Heap 𝓤) (A : Atoms 𝓤) (W : Given
         (λ on. skips ! $ exec ! C Λ En step (anyQ (Turned w)) $ more w u₇ b (sym (met w m-is e-is b-is) ∙ holds b on))
         (λ off. jumps ! $ exec ! C Λ En body.t-5 (atRet En Post) $ ends w u₇ b (sym (met w m-is e-is b-is) ∙ fails b off))))))))))
 
+    -- UP TO THE LOOP
     -- the count is set to zero, and the loop runs
     counts : (w : Turn κ s n) → w .i ≡ 0 → Sq W (‵ (OwnR (w .d) (w .u)) ∷ Token ∷ ‵ Own ∷ Spare (‵ (froom word l₅ 0) ∷ ‵ (fdies word l₅) ∷ ‵ (fat fullShare reader l₄ 0 (w .u)) ∷ ‵ (fdies reader l₄) ∷ Fixed)) (runs C Λ En body.t-3 (atRet En Post))
     counts w none =
