@@ -1,1 +1,66 @@
-// Tubochre as a whole: the second and the third demand, over what the check, the build and the lasso decision answer.
+// The calls for C, and one call that tries a lasso on a pattern and on its complement.
+use complement::Counts;
+use lassos::Decision;
+use patterns::Checked;
+ghost use mathlib.Core.Path.{_≡_};
+ghost use Rattle.patterns.specs.Check.{check-refusal};
+ghost use Rattle.complement.specs.Build.{Build-says};
+ghost use Rattle.tubochre.specs.Calls.{as-answer, Lasso-answers, Used-inside, Decided-built, Trial-says};
+
+// A lasso decision in numbers: 0 and 1 taken, 0 and 2 not taken, or the refusal's number and 0.
+#[repr(C)]
+pub struct Answer {
+    pub number: u32,
+    pub taken: u32,
+}
+
+// What a trial answers: each call's own answer.
+pub struct Trial {
+    pub checked: Checked,
+    pub counts: Counts,
+    pub pattern: Decision,
+    pub complement: Decision,
+}
+
+// THE CALLS FOR C
+
+// The pattern passes (0), or which of 2 to 10 refuses it.
+#[no_mangle]
+pub extern "C" fn tubochre_check(table: &[u16]) -> u32
+    ensures { λ r. ⌜ r ≡ check-refusal (now (table .entry)) ⌝ }
+{
+    patterns::check_refusal(table)
+}
+
+// Whether a table takes the word of a prefix and a loop.
+#[no_mangle]
+pub extern "C" fn tubochre_lasso(table: &[u16], prefix: &[u8], cycle: &[u8], work: &mut [u32]) -> Answer
+    ensures { λ r. ⌜ Lasso-answers (now (table .entry)) (now (prefix .entry)) (now (cycle .entry)) r (now (work .entry)) (now (work .exit)) ⌝ }
+{
+    in_numbers(lassos::decide_lasso(table, prefix, cycle, work))
+}
+
+fn in_numbers(decision: Decision) -> Answer
+    ensures { λ r. ⌜ r ≡ as-answer decision ⌝ }
+{
+    match decision {
+        Decision::Taken => Answer { number: 0, taken: 1 },
+        Decision::NotTaken => Answer { number: 0, taken: 2 },
+        Decision::Refused(number) => Answer { number, taken: 0 },
+    }
+}
+
+// A TRIAL
+
+// Decides on the used part of the words of a build; where it was refused there is no complement, and its number is handed on.
+fn decide_built(words: &[u16], counts: Counts, prefix: &[u8], cycle: &[u8], work: &mut [u32]) -> Decision
+    requires { ⌜ Used-inside counts (now words) ⌝ }
+    ensures { λ r. ⌜ Decided-built counts (now (words .entry)) (now (prefix .entry)) (now (cycle .entry)) r (now (work .entry)) (now (work .exit)) ⌝ }
+{
+    let number = counts.number;
+    if number != 0 {
+        return Decision::Refused(number);
+    }
+    let end = 3 + 2 * (counts.states as usize) + 3 * (counts.edges as usize);
+    lassos::decide_lasso(&words[..end], prefix, cycle, work)
+}

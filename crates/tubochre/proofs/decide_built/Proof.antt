@@ -1,0 +1,75 @@
+-- `decide_built` meets its contract. Assumes nothing.
+use mathlib.Core.Path.{_≡_, refl, sym}
+use lib.Seq.{length-take-le}
+use Rattle.complement.specs.Build.{used, words-needed}
+use borrow.Author.Needs.{needs}
+use Rattle.tubochre.proofs.decide_built.Statement.{statement}
+use Rattle.tubochre.proofs.decide_built.Tie as tie
+
+returns : tie.Need-returns
+returns c =
+    let number = c .if1 .taken in
+    record {
+      built = λ z. absurd (number z);
+      unbuilt = λ n. refl;
+      work = λ z. absurd (number z);
+      kept = λ n. refl;
+    }
+
+cast-end : tie.Need-cast-end
+cast-end c = search needs
+
+mul-end : tie.Need-mul-end
+mul-end c = search needs
+
+add-end : tie.Need-add-end
+add-end c = search needs
+
+cast-end-2 : tie.Need-cast-end-2
+cast-end-2 c = search needs
+
+mul-end-2 : tie.Need-mul-end-2
+mul-end-2 c = search needs
+
+add-end-2 : tie.Need-add-end-2
+add-end-2 c = search needs
+
+slice-aggregate-decide-lasso : tie.Need-slice-aggregate-decide-lasso
+unfolding words-needed
+slice-aggregate-decide-lasso c =
+    let start = c .before .before .before .before .before .before .before .before in
+    sym (length-take-le _ (start .args .words .now) (start .pre .inside (c .before .before .before .if1 .left)))
+
+decide-lasso-requires : tie.Need-decide-lasso-requires
+decide-lasso-requires c κs = search needs
+
+same-length : tie.Need-same-length
+same-length c = search needs
+
+returns-2 : tie.Need-returns-2
+unfolding used words-needed
+returns-2 c =
+    let says = c .before .before .decide-lasso .ensures in
+    let number = c .before .before .before .before .before .before .before .if1 .left in
+    record {
+      built = λ z. says .answer;
+      unbuilt = λ n. absurd (n number);
+      work = λ z. says .work;
+      kept = λ n. absurd (n number);
+    }
+
+pub decide-built-spec : {M : Type 1} → statement M
+decide-built-spec =
+    tie.close
+    (tie.spec
+    returns
+    cast-end
+    mul-end
+    add-end
+    cast-end-2
+    mul-end-2
+    add-end-2
+    slice-aggregate-decide-lasso
+    decide-lasso-requires
+    same-length
+    returns-2)
