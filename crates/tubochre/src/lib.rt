@@ -32,9 +32,22 @@ pub extern "C" fn tubochre_check(table: &[u16]) -> u32
     patterns::check_refusal(table)
 }
 
+// The complement of a pattern, in the lent words and sets.
+#[no_mangle]
+pub extern "C" fn tubochre_build(table: &[u16], words: &mut [u16], sets: &mut [u32]) -> Counts
+    ensures { λ r. ⌜ Build-says (now (table .entry)) r (now (words .entry)) (now (words .exit)) (now (sets .entry)) (now (sets .exit)) ⌝ }
+{
+    complement::build_complement(table, words, sets)
+}
+
 // Whether a table takes the word of a prefix and a loop.
 #[no_mangle]
-pub extern "C" fn tubochre_lasso(table: &[u16], prefix: &[u8], cycle: &[u8], work: &mut [u32]) -> Answer
+pub extern "C" fn tubochre_lasso(
+    table: &[u16],
+    prefix: &[u8],
+    cycle: &[u8],
+    work: &mut [u32],
+) -> Answer
     ensures { λ r. ⌜ Lasso-answers (now (table .entry)) (now (prefix .entry)) (now (cycle .entry)) r (now (work .entry)) (now (work .exit)) ⌝ }
 {
     in_numbers(lassos::decide_lasso(table, prefix, cycle, work))
@@ -44,16 +57,51 @@ fn in_numbers(decision: Decision) -> Answer
     ensures { λ r. ⌜ r ≡ as-answer decision ⌝ }
 {
     match decision {
-        Decision::Taken => Answer { number: 0, taken: 1 },
-        Decision::NotTaken => Answer { number: 0, taken: 2 },
+        Decision::Taken => Answer {
+            number: 0,
+            taken: 1,
+        },
+        Decision::NotTaken => Answer {
+            number: 0,
+            taken: 2,
+        },
         Decision::Refused(number) => Answer { number, taken: 0 },
     }
 }
 
 // A TRIAL
 
+// Checks a pattern, builds its complement, and asks both for one lasso: the third demand in one call.
+pub fn try_lasso(
+    table: &[u16],
+    words: &mut [u16],
+    sets: &mut [u32],
+    prefix: &[u8],
+    cycle: &[u8],
+    work: &mut [u32],
+) -> Trial
+    ensures { λ r. ⌜ Trial-says (now (table .entry)) (now (prefix .entry)) (now (cycle .entry)) r (now (words .entry)) (now (words .exit)) (now (sets .entry)) (now (sets .exit)) (now (work .entry)) (now (work .exit)) ⌝ }
+{
+    let checked = patterns::check_pattern(table);
+    let counts = complement::build_complement(table, words, sets);
+    let pattern = lassos::decide_lasso(table, prefix, cycle, work);
+    let complement = decide_built(words, counts, prefix, cycle, work);
+    Trial {
+        checked,
+        counts,
+        pattern,
+        complement,
+    }
+}
+
 // Decides on the used part of the words of a build; where it was refused there is no complement, and its number is handed on.
-fn decide_built(words: &[u16], counts: Counts, prefix: &[u8], cycle: &[u8], work: &mut [u32]) -> Decision
+fn decide_built(
+    words: &[u16],
+    counts: Counts,
+    prefix: &[u8],
+    cycle: &[u8],
+    work: &mut [u32],
+) -> Decision
     requires { ⌜ Used-inside counts (now words) ⌝ }
     ensures { λ r. ⌜ Decided-built counts (now (words .entry)) (now (prefix .entry)) (now (cycle .entry)) r (now (work .entry)) (now (work .exit)) ⌝ }
 {

@@ -1,0 +1,61 @@
+-- What the four calls of a trial say together. Assumes nothing.
+use mathlib.Core.Path.{_≡_, refl, sym, _∙_, ap}
+use mathlib.Core.Logic.{inl, inr}
+use mathlib.Core.List.{List}
+use Prim.Native.Nat.{ℕ}
+use lib.Dec.{eqb}
+use lib.ListN.{length, replicate, length-replicate}
+use Rattle.basics.specs.Buffers.{zeros}
+use Rattle.basics.proofs.Booleans.{either, eqb-eq, eqb-ne}
+use Rattle.patterns.specs.Check.{check-refusal, as-checked}
+use Rattle.patterns.specs.declared.Checked.the-variants.{Passed}
+use Rattle.complement.specs.Build.{Build-says, used}
+use Rattle.complement.proofs.Second.{build-passed}
+use Rattle.lassos.specs.Decision.{Lasso-says, decision}
+use Rattle.tubochre.specs.Calls.{Decided-built, Trial-says}
+use Rattle.tubochre.specs.Demand.{Third-demand}
+use Rattle.tubochre.specs.declared.Trial.{Trial}
+use Rattle.tubochre.proofs.Demand.{third-demand}
+
+zeros-length : (w : List ℕ) → length (zeros w) ≡ length w
+unfolding zeros
+zeros-length w = length-replicate (length w) 0
+
+zeros-again : (w : List ℕ) → zeros (zeros w) ≡ zeros w
+unfolding zeros
+zeros-again w = let e = zeros-length w in ap (λ (n : ℕ). replicate {A = ℕ} n 0) e
+
+module _
+    {t u v o o-now s s-now w between w-now : List ℕ}
+    {r : Trial}
+    (check : r .checked ≡ as-checked (check-refusal t))
+    (build : Build-says t (r .counts) o o-now s s-now)
+    (pattern : Lasso-says t u v (r .pattern) w between)
+    (built : Decided-built (r .counts) o-now u v (r .complement) between w-now)
+  where
+    same-work : length between ≡ length w
+    same-work = ap length (pattern .work) ∙ zeros-length w
+
+    cleared : w-now ≡ zeros w
+    cleared =
+        elim (either (eqb (r .counts .number) 0)) [
+          | inl e ↦ built .work (eqb-eq (r .counts .number) 0 e) ∙ ap zeros (pattern .work) ∙ zeros-again w
+          | inr e ↦ built .kept (eqb-ne (r .counts .number) 0 e) ∙ pattern .work
+        ]
+
+    passes : r .counts .number ≡ 0 → Passed ≡ as-checked (check-refusal t)
+    unfolding as-checked
+    passes z = rw (build-passed build z)
+
+    pub trial-says : Trial-says t u v r o o-now s s-now w w-now
+    unfolding Third-demand
+    trial-says =
+        record {
+          check = check;
+          build = build;
+          pattern = pattern .answer;
+          complement = λ z. rw same-work at (built .built z);
+          unbuilt = built .unbuilt;
+          work = cleared;
+          compared = λ z lasso. third-demand t Passed (r .counts) o o-now s s-now u v (passes z) refl build z lasso;
+        }
