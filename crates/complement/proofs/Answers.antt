@@ -3,17 +3,17 @@ use mathlib.Core.Path.{_≡_, refl, sym, _∙_, ap}
 use mathlib.Core.Bool.{Bool, true, false, _||_, cond}
 use mathlib.Core.List.{List}
 use mathlib.Core.Logic.{inl, inr}
-use Prim.Native.Nat.{ℕ, zero, suc, _+_, _*_, _-_, _/_, _≤_, _<_, min}
+use Prim.Native.Nat.{ℕ, zero, suc, _/_, _≤_, _<_, min}
 use native.Mathlib.Omega.{arith}
-use lib.Dec.{eqb, ltb}
+use lib.Dec.{ltb}
 use lib.ListN.{length}
-use Rattle.basics.specs.Buffers.{or-else, zeros, filled}
-use Rattle.basics.proofs.Booleans.{either, or-l, or-r, or-true, or-false, or-false-l, or-false-r, ltb-lt, ltb-ge, lt-ltb, ge-ltb, ne-eqb}
+use Rattle.basics.specs.Buffers.{or-else, filled}
+use Rattle.basics.proofs.Booleans.{either, or-false-l, or-false-r, ltb-lt, ltb-ge, lt-ltb, ge-ltb, ne-eqb}
 use Rattle.tables.specs.Table.{wide-range}
 use Rattle.patterns.specs.Check.{check-refusal}
-use Rattle.complement.specs.Build.{Room, room-of, words-needed, room-refusal, build-refusal, as-counts, after-build, Build-says, Refused-with}
+use Rattle.complement.specs.Build.{room-of, words-needed, room-refusal, build-refusal, as-counts, after-build, Build-says, Refused-with}
 use Rattle.complement.specs.Complement.{complement, complement-words, sets-words, record-width}
-use Rattle.complement.specs.Found.{counted-to, Edges-kept, Shows, Ends}
+use Rattle.complement.specs.Found.{counted-to, Shows, Ends}
 use Rattle.complement.specs.Records.{capacity}
 use Rattle.complement.specs.declared.Counts.{Counts}
 use Rattle.complement.specs.declared.explore.Progress.{Progress}

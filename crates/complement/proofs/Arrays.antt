@@ -1,25 +1,23 @@
 -- The table by state and by letter gives the same quadruples as the pattern: the step over 32 states and the step over the pattern's own agree on
 -- sets of its states. Assumes nothing.
-use mathlib.Core.Path.{_≡_, refl, sym, _∙_, ap, fun-ext}
-use mathlib.Core.Bool.{Bool, true, false, _&&_, _||_, not, cond}
-use mathlib.Core.List.{List, [], _∷_, _++_, map}
+use mathlib.Core.Path.{_≡_, refl, _∙_, ap, fun-ext}
+use mathlib.Core.Bool.{Bool, true, false, _&&_, _||_, cond}
+use mathlib.Core.List.{[], map}
 use mathlib.Core.Logic.{inl, inr}
-use Prim.Native.Nat.{ℕ, zero, suc, _+_, _^_, _≤_, _<_}
+use Prim.Native.Nat.{ℕ, zero, suc, _^_, _≤_, _<_}
 use native.Mathlib.Nat.{lt-of-le-of-lt}
 use native.Mathlib.Omega.{arith}
 use lib.Bits.{bitAnd, bitOr, or-lt, and-le-l}
 use lib.Dec.{eqb}
-use lib.ListN.{getD}
 use Rattle.basics.specs.Bounded.{any}
 use Rattle.basics.proofs.Booleans.{either, eqb-eq, eqb-ne, and-false-l}
 use Rattle.basics.proofs.Bounded.{any-same}
 use Rattle.automata.specs.Automaton.{Automaton}
 use Rattle.sets.specs.Sets.{has, without, union, subsets}
 use Rattle.sets.proofs.Members.{has-out, without-lt}
-use Rattle.ncsb.specs.Array.{from-array}
 use Rattle.ncsb.specs.Moves.{Moves, Spread}
 use Rattle.ncsb.specs.Step.{Small}
-use Rattle.ncsb.specs.Successors.{quadruple, targets, initial-for, initial-free, initials, next-N, entering, staying-safe, staying, leaving, tracked, dead-end, blocked, free, next-B, successor-for, successors}
+use Rattle.ncsb.specs.Successors.{targets, initial-for, initial-free, initials, next-N, entering, staying-safe, staying, leaving, tracked, dead-end, blocked, free, next-B, successor-for, successors}
 use Rattle.ncsb.specs.declared.Quadruple.{Quadruple}
 use Rattle.ncsb.proofs.Targets.{targets-small}
 

@@ -1,9 +1,9 @@
 -- The choices of a step, one by one: the successor for a choice is the successor with that number, and there are as many of them. The same of
 -- initial quadruples. All of it over the table by state and by letter that the code reads. Assumes nothing.
 use mathlib.Core.Path.{_≡_, refl, sym, _∙_, ap}
-use mathlib.Core.Bool.{Bool, true, false, cond}
+use mathlib.Core.Bool.{true, false}
 use mathlib.Core.List.{List, [], map}
-use Prim.Native.Nat.{ℕ, _%_, _^_, _≤_, _<_}
+use Prim.Native.Nat.{ℕ, _^_, _≤_, _<_}
 use native.Mathlib.Nat.{mod-eq-of-lt}
 use native.Mathlib.Omega.{arith}
 use lib.ListN.{length, getD, length-map}
@@ -11,7 +11,6 @@ use lib.Pow.{pow-mono}
 use Rattle.sets.specs.Sets.{size, subsets}
 use Rattle.sets.proofs.Size.{size-le}
 use Rattle.sets.proofs.Subsets.{subsets-length}
-use Rattle.ncsb.specs.Moves.{Moves}
 use Rattle.ncsb.specs.Array.{from-array, chosen, nth-initial, asks, blocked-by, nth-successor}
 use Rattle.ncsb.specs.Successors.{quadruple, initial-for, initial-free, initials, next-B, dead-end, blocked, free, successor-for, successors}
 use Rattle.ncsb.specs.declared.Asked.{Asked}

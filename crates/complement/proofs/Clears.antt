@@ -1,10 +1,10 @@
 -- Laws of clearing a buffer: word by word from the front, and that only its length matters. Assumes nothing.
-use mathlib.Core.Path.{_≡_, refl, sym, _∙_, ap}
+use mathlib.Core.Path.{_≡_, _∙_}
 use mathlib.Core.List.{List, _++_, append-nil}
-use Prim.Native.Nat.{ℕ, _+_, _-_, _≤_, _<_}
+use Prim.Native.Nat.{ℕ, _+_, _≤_, _<_}
 use native.Mathlib.Omega.{arith}
 use borrow.Author.Fill.{fill-none, fill-more}
-use lib.ListN.{length, getD, set, drop, replicate, length-append, length-replicate, length-drop, drop-of-length-le, getD-replicate}
+use lib.ListN.{length, set, drop, replicate, length-append, length-replicate, length-drop, drop-of-length-le}
 use Rattle.basics.specs.Buffers.{zeros}
 
 -- the first i words are zero, and the others as they were
@@ -35,7 +35,3 @@ module _ {w w1 : List ℕ} {i : ℕ} (h : Clearing w w1 i) where
 pub zeros-same : (w w1 : List ℕ) → length w1 ≡ length w → zeros w1 ≡ zeros w
 unfolding zeros
 zeros-same w w1 e = rw e
-
-pub zeros-length : (w : List ℕ) → length (zeros w) ≡ length w
-unfolding zeros
-zeros-length w = length-replicate (length w) 0

@@ -1,9 +1,9 @@
 -- From what was found to the complement's words: what laying out asks holds, and with the flags set the words are the complement's table; the
 -- records are its sets. Assumes nothing.
 use mathlib.Core.Path.{_≡_, refl, sym, _∙_, ap}
-use mathlib.Core.Bool.{Bool, true, false, _&&_, _||_, cond}
+use mathlib.Core.Bool.{Bool, false, _||_}
 use mathlib.Core.List.{List, [], _∷_, _++_}
-use Prim.Native.Nat.{ℕ, zero, suc, _+_, _*_, _-_, _/_, _^_, _≤_, _<_, min}
+use Prim.Native.Nat.{ℕ, zero, suc, _+_, _*_, _≤_, _<_}
 use native.Mathlib.Omega.{arith}
 use lib.Dec.{ltb}
 use lib.ListN.{length, getD, take, List·getD-eq-default}
@@ -11,12 +11,10 @@ use lib.Seq.{take-suc, take-all, take-length}
 use Rattle.basics.specs.Buffers.{filled}
 use Rattle.basics.specs.Rows.{rows}
 use Rattle.basics.proofs.Booleans.{lt-ltb}
-use Rattle.automata.specs.Automaton.{Automaton}
-use Rattle.automata.specs.System.{Edge, an-edge, edge-at, state-at, numbered}
-use Rattle.tables.specs.Table.{meaning, wide-range}
-use Rattle.ncsb.specs.Successors.{quadruple, accepting, initials, ncsb}
+use Rattle.automata.specs.System.{Edge, edge-at, state-at, numbered}
+use Rattle.tables.specs.Table.{wide-range}
+use Rattle.ncsb.specs.Successors.{quadruple, initials, ncsb}
 use Rattle.ncsb.specs.declared.Quadruple.{Quadruple}
-use Rattle.patterns.specs.Pattern.{moves}
 use Rattle.patterns.specs.declared.Shape.{Shape}
 use Rattle.layout.specs.Chained.{flags-word, chained-words}
 use Rattle.layout.specs.Steps.{Lay-out-asks}
@@ -27,10 +25,9 @@ use Rattle.complement.specs.Build.{words-needed, Build-says}
 use Rattle.complement.specs.Complement.{system-of, complement, complement-automaton, complement-words, sets-words, quadruple-words}
 use Rattle.complement.specs.Flags.{flags-of-record, with-flags, Flags-ask}
 use Rattle.complement.specs.Found.{Begins, records, triple, triples, edge-room, counted-to, Shows, start-moves, Read-off}
-use Rattle.complement.specs.Records.{quadruple-at}
 use Rattle.complement.specs.declared.explore.Progress.{Progress}
 use Rattle.complement.proofs.Answers.{none-refuses, says-built, short-enough}
-use Rattle.complement.proofs.Flagged.{flags-flagging, flags-length}
+use Rattle.complement.proofs.Flagged.{flags-flagging}
 use Rattle.complement.proofs.Kept.{records-length, records-snoc, kept-at, triples-length}
 use Rattle.complement.proofs.Meeting.{capacity-words, capacity-limit}
 use Rattle.complement.proofs.Numbering.{letters-all, letters-few, starts-same}

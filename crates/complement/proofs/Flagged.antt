@@ -1,11 +1,10 @@
 -- Setting flags from the records, state by state; and what words come of it. Assumes nothing.
 use mathlib.Core.Path.{_≡_, refl, sym, _∙_, ap}
-use mathlib.Core.Bool.{Bool, true, false, cond}
+use mathlib.Core.Bool.{Bool, true, false}
 use mathlib.Core.List.{List}
 use Prim.Native.Nat.{ℕ, zero, suc, _+_, _*_, _≤_, _<_}
 use native.Mathlib.Numerals.{add-one}
 use native.Mathlib.Omega.{arith}
-use lib.Dec.{ltb}
 use lib.ListN.{length, set, length-set}
 use Rattle.basics.proofs.Booleans.{lt-ltb, ge-ltb}
 use Rattle.automata.specs.Automaton.{Automaton}
@@ -13,7 +12,7 @@ use Rattle.layout.specs.Chained.{flags-word}
 use Rattle.layout.proofs.Indexed.{Flagging, flagging-start, flagging-turn}
 use Rattle.ncsb.specs.Successors.{accepting}
 use Rattle.ncsb.specs.declared.Quadruple.{Quadruple}
-use Rattle.complement.specs.Flags.{flags-of-record, with-flags, Flags-ask}
+use Rattle.complement.specs.Flags.{flags-of-record, with-flags}
 use Rattle.complement.specs.Records.{quadruple-at}
 
 -- the four cases of one state's flags

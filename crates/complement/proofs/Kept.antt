@@ -1,29 +1,23 @@
 -- States and edges that the buffers keep: what is read back, and one more of each. Assumes nothing.
-use mathlib.Core.Path.{_≡_, refl, sym, _∙_, ap}
-use mathlib.Core.Bool.{Bool, true, false, cond}
-use mathlib.Core.List.{List, [], _∷_, _++_, append-assoc}
+use mathlib.Core.Path.{_≡_, refl, _∙_, ap}
+use mathlib.Core.List.{List, [], _∷_, _++_}
 use mathlib.Core.Logic.{inl, inr}
-use Prim.Native.Nat.{ℕ, zero, suc, _+_, _*_, _-_, _/_, _≤_, _<_, min}
-use native.Mathlib.Nat.{add-zero}
-use native.Mathlib.Numerals.{add-one}
+use Prim.Native.Nat.{ℕ, zero, suc, _+_, _*_, _≤_, _<_, min}
 use native.Mathlib.Omega.{arith}
-use lib.Dec.{eqb, ltb}
-use lib.ListN.{length, getD, take, length-append, length-take}
+use lib.Dec.{ltb}
+use lib.ListN.{length, getD, length-append}
 use lib.Seq.{sets, length-sets, take-all, take-append-le, ext-getD}
 use Rattle.basics.proofs.Booleans.{either, ltb-lt, ltb-ge}
 use Rattle.automata.specs.Decision.{tabulate}
-use Rattle.automata.specs.System.{Edge, Built, number-of, an-edge, add-edge}
+use Rattle.automata.specs.System.{Edge}
 use Rattle.automata.proofs.Graphs.{tabulate-at}
-use Rattle.automata.proofs.Exploring.{add-edge-known, add-edge-new}
 use Rattle.tables.specs.Table.{wide-range}
-use Rattle.ncsb.specs.Moves.{Moves}
-use Rattle.ncsb.specs.Successors.{quadruple, ncsb}
+use Rattle.ncsb.specs.Successors.{quadruple}
 use Rattle.ncsb.specs.declared.Quadruple.{Quadruple}
 use Rattle.patterns.proofs.General.{tabulate-length}
 use Rattle.complement.specs.Complement.{quadruple-words, record-width}
-use Rattle.complement.specs.Records.{quadruple-at, records-of, with-quadruple, capacity, Looked-up}
-use Rattle.complement.specs.Found.{Begins, records, States-kept, triple, triples, edge-room, counted-to, Edges-kept, with-edge, one-more, Shows, Ends}
-use Rattle.complement.specs.declared.explore.Progress.{Progress}
+use Rattle.complement.specs.Records.{quadruple-at, records-of, with-quadruple, capacity}
+use Rattle.complement.specs.Found.{Begins, records, States-kept, triple, triples, edge-room, counted-to, Edges-kept, with-edge, one-more}
 use Rattle.complement.proofs.Stored.{begins-words}
 
 -- RECORDS

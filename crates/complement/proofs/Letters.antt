@@ -1,10 +1,9 @@
 -- The loops over the choices of one letter and over the letters of one state, within the room. Assumes nothing.
 use mathlib.Core.Path.{_≡_, refl, sym, _∙_, ap}
 use mathlib.Core.Bool.{Bool, true, false}
-use mathlib.Core.List.{List, []}
+use mathlib.Core.List.{List}
 use mathlib.Core.Logic.{inl, inr}
 use Prim.Native.Nat.{ℕ, zero, suc, _+_, _*_, _^_, _≤_, _<_}
-use native.Mathlib.Numerals.{add-one}
 use native.Mathlib.Omega.{arith}
 use lib.Dec.{eqb}
 use lib.ListN.{length, getD, take}
@@ -19,7 +18,7 @@ use Rattle.ncsb.specs.Successors.{quadruple, blocked, successors, ncsb}
 use Rattle.ncsb.specs.declared.Asked.{Asked}
 use Rattle.ncsb.specs.declared.Quadruple.{Quadruple}
 use Rattle.patterns.specs.declared.Shape.{Shape}
-use Rattle.complement.specs.Found.{Shows, Ends, within, Turns, Step-asks, Expand-asks, array-moves}
+use Rattle.complement.specs.Found.{within, Turns, Step-asks, Expand-asks, array-moves}
 use Rattle.complement.specs.declared.explore.Progress.{Progress}
 use Rattle.complement.proofs.Choices.{blocked-same, none-blocked, choices-count, choice-successor}
 use Rattle.complement.proofs.Meeting.{capacity-words}

@@ -1,19 +1,17 @@
 -- A scan of records finds the number of a quadruple; how two quadruples are told apart, field by field. Assumes nothing.
-use mathlib.Core.Path.{_≡_, refl, sym, _∙_, ap}
-use mathlib.Core.Bool.{Bool, true, false, _&&_, cond}
-use mathlib.Core.List.{List, [], _∷_}
+use mathlib.Core.Path.{_≡_, refl, sym, ap}
+use mathlib.Core.Bool.{Bool, true, false}
+use mathlib.Core.List.{List}
 use mathlib.Core.Logic.{inl, inr}
-use Prim.Native.Nat.{ℕ, zero, suc, _+_, _*_, _/_, _≤_, _<_, min}
-use native.Mathlib.Numerals.{add-one}
+use Prim.Native.Nat.{ℕ, zero, suc, _+_, _/_, _≤_, _<_}
 use native.Mathlib.Omega.{arith}
 use lib.Dec.{eqb}
 use lib.ListN.{length}
-use Rattle.basics.proofs.Booleans.{either, and-false-l, and-false-r, and-make, eq-eqb, ne-eqb, eqb-eq, eqb-ne}
+use Rattle.basics.proofs.Booleans.{either, eq-eqb, ne-eqb, eqb-eq, eqb-ne}
 use Rattle.automata.specs.Decision.{tabulate}
 use Rattle.automata.specs.System.{System, number-of}
 use Rattle.automata.proofs.Members.{number-le}
 use Rattle.tables.specs.Table.{wide-range}
-use Rattle.ncsb.specs.Moves.{Moves}
 use Rattle.ncsb.specs.Successors.{same, ncsb}
 use Rattle.ncsb.specs.declared.Quadruple.{Quadruple}
 use Rattle.patterns.proofs.General.{tabulate-length}

@@ -2,19 +2,19 @@
 use mathlib.Core.Path.{_≡_, refl, sym, _∙_, ap}
 use mathlib.Core.Bool.{true, false}
 use mathlib.Core.List.{List, [], _∷_, _++_}
-use Prim.Native.Nat.{ℕ, suc, _+_, _*_, _/_, _≤_, _<_, min}
+use Prim.Native.Nat.{ℕ, _+_, _*_, _≤_, _<_}
 use native.Mathlib.Omega.{arith}
 use lib.ListN.{length, length-append}
 use lib.Seq.{length-sets}
-use Rattle.automata.specs.System.{Edge, Built, built, number-of, an-edge, add-edge}
+use Rattle.automata.specs.System.{Built, built, number-of, an-edge, add-edge}
 use Rattle.automata.proofs.Exploring.{add-edge-known, add-edge-new}
 use Rattle.tables.specs.Table.{wide-range}
 use Rattle.ncsb.specs.Moves.{Moves}
 use Rattle.ncsb.specs.Successors.{ncsb}
 use Rattle.ncsb.specs.declared.Quadruple.{Quadruple}
 use Rattle.complement.specs.Complement.{quadruple-words, record-width}
-use Rattle.complement.specs.Records.{records-of, with-quadruple, capacity, Looked-up}
-use Rattle.complement.specs.Found.{States-kept, with-edge, one-more, Shows, Ends, within, beyond, Turns, Step-asks, Placed, known, fresh, left-out}
+use Rattle.complement.specs.Records.{with-quadruple, capacity, Looked-up}
+use Rattle.complement.specs.Found.{States-kept, with-edge, one-more, Shows, Ends, within, beyond, overfull, Turns, Placed, known, fresh, left-out}
 use Rattle.complement.specs.declared.explore.Progress.{Progress}
 use Rattle.complement.proofs.Kept.{kept-records, kept-more, edges-more}
 
@@ -85,12 +85,12 @@ module _ (d : Moves) (i c : ℕ) (x : Quadruple) where
     -- there is no room for it
     pub meet-full :
         Placed s (p .states) x s′ r → (room : ℕ) → room ≡ capacity s′ → room ≤ r →
-        Turns (add-edge (ncsb d) i c x) w s p w s′ (record { states = p .states; edges = 0; full = true })
+        Turns (add-edge (ncsb d) i c x) w s p w s′ overfull
     meet-full placed room e past = record { from = λ b h. go b h placed }
       where
         go :
             (b : Built Quadruple) → Shows b w s p → Placed s (p .states) x s′ r →
-            Ends (add-edge (ncsb d) i c x b) w s′ (record { states = p .states; edges = 0; full = true })
+            Ends (add-edge (ncsb d) i c x b) w s′ overfull
         go b h (known l look same) =
             let fits = h .states .fits in
             let count = h .states .counted in

@@ -1,24 +1,22 @@
 -- Exploring in number order within the room: the buffers keep what was found so far of the complement, until all of it is found or there are more
 -- states than fit. Assumes nothing.
 use mathlib.Core.Path.{_≡_, refl, sym, _∙_, ap}
-use mathlib.Core.Bool.{Bool, true, false}
+use mathlib.Core.Bool.{true, false}
 use mathlib.Core.List.{List, []}
 use Prim.Native.Nat.{ℕ, suc, _+_, _^_, _≤_, _<_}
 use native.Mathlib.Numerals.{add-one}
 use native.Mathlib.Omega.{arith}
-use lib.ListN.{length, getD}
-use Rattle.automata.specs.System.{System, Decides, Built, built, state-at, At-most, Distinct, by-letters, expand, begin, explore}
+use lib.ListN.{length}
+use Rattle.automata.specs.System.{Built, built, state-at, At-most, Distinct, by-letters, expand, begin, explore}
 use Rattle.automata.proofs.Explore.{begin-is}
-use Rattle.automata.proofs.Exploring.{Grows, grows-explore, At-state, at-most-le, state-begin, state-step, state-end, state-grows}
-use Rattle.tables.specs.Table.{n-of, k-of, meaning}
+use Rattle.automata.proofs.Exploring.{grows-explore, At-state, at-most-le, state-begin, state-step, state-end, state-grows}
+use Rattle.tables.specs.Table.{n-of, meaning}
 use Rattle.ncsb.specs.Array.{from-array}
-use Rattle.ncsb.specs.Bound.{bound}
-use Rattle.ncsb.specs.Moves.{Moves, Spread, Split}
 use Rattle.ncsb.specs.Step.{Small}
-use Rattle.ncsb.specs.Successors.{quadruple, initials, successors, ncsb}
+use Rattle.ncsb.specs.Successors.{initials, ncsb}
 use Rattle.ncsb.specs.declared.Quadruple.{Quadruple}
 use Rattle.ncsb.proofs.Bound.{bound-le, few-reached}
-use Rattle.ncsb.proofs.Reached.{decides, initials-apart, reached-fine}
+use Rattle.ncsb.proofs.Reached.{initials-apart, reached-fine}
 use Rattle.patterns.specs.Check.{check-refusal}
 use Rattle.patterns.specs.Masks.{masks-of}
 use Rattle.patterns.specs.Pattern.{moves}
@@ -27,14 +25,15 @@ use Rattle.patterns.specs.declared.Shape.{Shape}
 use Rattle.patterns.proofs.Masks.{pattern-fits, mask-move}
 use Rattle.patterns.proofs.Passed.{checked-table, checked-split}
 use Rattle.complement.specs.Complement.{system-of, complement}
-use Rattle.complement.specs.Records.{quadruple-at, capacity}
-use Rattle.complement.specs.Found.{Begins, States-kept, Shows, Ends, within, beyond, Turns, Expand-asks, array-moves, start-moves, Started}
+use Rattle.complement.specs.Records.{quadruple-at}
+use Rattle.complement.specs.Found.{Begins, Shows, Ends, within, Turns, Expand-asks, array-moves, start-moves, Started}
 use Rattle.complement.specs.declared.explore.Progress.{Progress}
 use Rattle.complement.proofs.Agreeing.{letters-agree}
 use Rattle.complement.proofs.Arrays.{Widens, Widens-starts, successors-same, initials-same}
 use Rattle.complement.proofs.Kept.{kept-at}
 use Rattle.complement.proofs.Meeting.{capacity-limit}
 use Rattle.complement.proofs.Reaching.{ends-within, ends-grown}
+use Rattle.complement.proofs.Second.{system-decides}
 use Rattle.complement.proofs.Starting.{started-ends}
 
 -- so many states are expanded
@@ -56,10 +55,6 @@ module _ (t : List ℕ) (passed : check-refusal t ≡ 0) where
   most-reached =
       let both = checked-split t passed in
       at-most-le (few-reached (both .0) (both .1)) (bound-le (moves (meaning t)) (λ q h. both .1 .within q h .0))
-
-  pub system-decides : Decides (system-of t)
-  unfolding system-of
-  system-decides = decides (moves (meaning t))
 
   -- initial quadruples are told apart
   pub starts-apart : Distinct (system-of t) (system-of t .starts)
@@ -105,7 +100,7 @@ module _ (t : List ℕ) (passed : check-refusal t ≡ 0) where
     begins-with : built (initials (start-moves shape)) [] ≡ begin (system-of t)
     unfolding system-of ncsb
     begins-with =
-        ap (λ (xs : List Quadruple). built xs []) starts-same ∙ sym (begin-is (system-of t) system-decides starts-apart)
+        ap (λ (xs : List Quadruple). built xs []) starts-same ∙ sym (begin-is (system-of t) (system-decides t) starts-apart)
 
     pub begin-full :
         {w s : List ℕ} {p : Progress} → Begins [] w → Started shape s p → p .full ≡ true → Ends (complement t) w s p
@@ -121,7 +116,7 @@ module _ (t : List ℕ) (passed : check-refusal t ≡ 0) where
         record {
           built = begin (system-of t);
           shows = ends-within left ends;
-          at = state-begin (system-of t) system-decides (16 ^ n-of t) most-reached starts-apart;
+          at = state-begin (system-of t) (system-decides t) (16 ^ n-of t) most-reached starts-apart;
         }
 
     module _ {w s : List ℕ} {p : Progress} {i : ℕ} (h : Exploring t w s p i) (inside : i < p .states) where
@@ -162,7 +157,7 @@ module _ (t : List ℕ) (passed : check-refusal t ≡ 0) where
 
       next : At-state (system-of t) (16 ^ n-of t) (suc i) (expand (system-of t) i (h .built))
       unfolding system-of
-      next = state-step (system-of t) system-decides (16 ^ n-of t) most-reached listed (h .at)
+      next = state-step (system-of t) (system-decides t) (16 ^ n-of t) most-reached listed (h .at)
 
       module _
           {w′ s′ : List ℕ} {p′ : Progress}
@@ -171,7 +166,7 @@ module _ (t : List ℕ) (passed : check-refusal t ≡ 0) where
         unfolding complement
         expand-full full =
             let ends : Ends (expand (system-of t) i (h .built)) w′ s′ p′ = rw expands at (turn .from (h .built) (h .shows)) in
-            ends-grown full (state-grows (system-of t) system-decides (16 ^ n-of t) most-reached next) ends
+            ends-grown full (state-grows (system-of t) (system-decides t) (16 ^ n-of t) most-reached next) ends
 
         pub expand-turn : p′ .full ≡ false → Exploring t w′ s′ p′ (i + 1)
         expand-turn left =
@@ -183,5 +178,5 @@ module _ (t : List ℕ) (passed : check-refusal t ≡ 0) where
   explore-end h l =
       let e = h .shows .states .counted in
       let all : h .built ≡ explore (16 ^ n-of t) (system-of t) =
-      state-end (system-of t) system-decides (16 ^ n-of t) most-reached (omega arith) (h .at) in
+      state-end (system-of t) (system-decides t) (16 ^ n-of t) most-reached (omega arith) (h .at) in
       within (rw all at (h .shows))

@@ -1,9 +1,9 @@
 -- Loops of exploring within the room: from what the buffers keep at first, so many steps lead to what they keep now; one more step,
 -- more states than fit, and the end. Assumes nothing.
-use mathlib.Core.Path.{_≡_, refl, sym, _∙_, ap}
-use mathlib.Core.Bool.{Bool, true, false}
+use mathlib.Core.Path.{_≡_, refl, _∙_, ap}
+use mathlib.Core.Bool.{true, false}
 use mathlib.Core.List.{List}
-use Prim.Native.Nat.{ℕ, suc, _+_, _≤_, _<_}
+use Prim.Native.Nat.{ℕ, suc, _+_, _<_}
 use native.Mathlib.Numerals.{add-one}
 use native.Mathlib.Omega.{arith}
 use lib.ListN.{length}
@@ -12,14 +12,15 @@ use Rattle.automata.specs.System.{Built}
 use Rattle.automata.proofs.Exploring.{Grows, grows-states}
 use Rattle.ncsb.specs.declared.Quadruple.{Quadruple}
 use Rattle.complement.specs.Records.{capacity}
-use Rattle.complement.specs.Found.{Shows, Ends, within, beyond, Turns, Step-asks}
+use Rattle.complement.specs.Found.{Shows, Ends, within, beyond, overfull, Turns, Step-asks}
 use Rattle.complement.specs.declared.explore.Progress.{Progress}
 
 -- WHICH END a flag says
 module _ {b : Built Quadruple} {w s : List ℕ} {p : Progress} where
   pub ends-within : p .full ≡ false → Ends b w s p → Shows b w s p
+  unfolding overfull
   ends-within e (within h) = h
-  ends-within e (beyond f l) = absurd (clash f e)
+  ends-within e (beyond f l) = absurd (clash (ap (λ (q : Progress). q .full) f) e)
 
   pub ends-beyond : p .full ≡ true → Ends b w s p → capacity s < length (b .states)
   ends-beyond e (within h) = absurd (clash e (h .not-full))
@@ -27,7 +28,8 @@ module _ {b : Built Quadruple} {w s : List ℕ} {p : Progress} where
 
   -- what goes on from there has more states than fit too
   pub ends-grown : {later : Built Quadruple} → p .full ≡ true → Grows b later → Ends b w s p → Ends later w s p
-  ends-grown e g h = let l = ends-beyond e h in let m = grows-states g in beyond e (omega arith)
+  ends-grown e g (within h) = absurd (clash e (h .not-full))
+  ends-grown e g (beyond f l) = let m = grows-states g in beyond f (omega arith)
 
 -- so many steps, given what they make of anything found
 pub record Reaching

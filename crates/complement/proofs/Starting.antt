@@ -1,23 +1,21 @@
 -- Storing the initial quadruples by rising choice. Assumes nothing.
 use mathlib.Core.Path.{_≡_, refl, sym, _∙_, ap}
-use mathlib.Core.Bool.{Bool, true, false}
+use mathlib.Core.Bool.{true, false}
 use mathlib.Core.List.{List, [], _∷_, _++_}
-use Prim.Native.Nat.{ℕ, zero, suc, _+_, _*_, _^_, _≤_, _<_, min}
+use Prim.Native.Nat.{ℕ, zero, suc, _+_, _*_, _^_, _≤_, _<_}
 use native.Mathlib.Numerals.{add-one}
 use native.Mathlib.Omega.{arith}
 use lib.Bits.{bitAnd}
 use lib.ListN.{length, getD, take}
 use lib.Seq.{take-suc, take-all, take-nil}
 use Rattle.sets.specs.Sets.{without, size}
-use Rattle.automata.specs.System.{Built, built}
-use Rattle.tables.specs.Table.{wide-range}
+use Rattle.automata.specs.System.{built}
 use Rattle.ncsb.specs.Array.{from-array, nth-initial}
 use Rattle.ncsb.specs.Successors.{quadruple, initial-free, initials}
 use Rattle.ncsb.specs.declared.Quadruple.{Quadruple}
 use Rattle.patterns.specs.declared.Shape.{Shape}
-use Rattle.complement.specs.Complement.{record-width}
 use Rattle.complement.specs.Records.{with-quadruple, capacity}
-use Rattle.complement.specs.Found.{Begins, records, States-kept, triples, edge-room, counted-to, Edges-kept, Shows, Ends, within, beyond, start-moves, Started, started, too-many}
+use Rattle.complement.specs.Found.{Begins, records, States-kept, triples, edge-room, Ends, within, beyond, overfull, start-moves, Started, started, too-many}
 use Rattle.complement.specs.declared.explore.Progress.{Progress}
 use Rattle.complement.proofs.Choices.{choices-fit, initials-count, choice-initial}
 use Rattle.complement.proofs.Kept.{kept-more}
@@ -55,7 +53,7 @@ module _ (shape : Shape) where
     start-fits j l = let h = start-few in let e = counted in omega arith
 
     -- they do not fit
-    pub start-full : {s : List ℕ} {p : Progress} {room : ℕ} → room ≡ capacity s → room < choices → p .full ≡ true → Started shape s p
+    pub start-full : {s : List ℕ} {p : Progress} {room : ℕ} → room ≡ capacity s → room < choices → p ≡ overfull → Started shape s p
     start-full e l full = let n = counted in too-many full (omega arith)
 
     pub store-start : {s : List ℕ} → Begins [] s → Storing s s 0

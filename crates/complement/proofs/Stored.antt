@@ -1,15 +1,13 @@
 -- Stores into a buffer that begins with given words and is zero beyond: words are appended one by one, records and edges whole. Assumes nothing.
-use mathlib.Core.Path.{_≡_, refl, sym, _∙_, ap}
-use mathlib.Core.Bool.{Bool, true, false, cond}
-use mathlib.Core.List.{List, [], _∷_, _++_, append-assoc, append-nil}
+use mathlib.Core.Path.{_≡_, refl, sym, _∙_}
+use mathlib.Core.List.{List, [], _∷_, _++_, append-nil}
 use mathlib.Core.Logic.{inl, inr}
-use Prim.Native.Nat.{ℕ, zero, suc, _+_, _*_, _-_, _/_, _≤_, _<_, min}
-use native.Mathlib.Nat.{add-zero}
+use Prim.Native.Nat.{ℕ, zero, suc, _+_, _*_, _-_, _≤_, _<_}
 use native.Mathlib.Numerals.{add-one, add-two, add-three}
 use native.Mathlib.Omega.{arith}
 use lib.Dec.{eqb, ltb}
-use lib.ListN.{length, getD, take, set, replicate, length-append, length-set, length-replicate, getD-replicate, List·getD-append, List·getD-eq-default}
-use lib.Seq.{sets, length-sets, getD-set-same, getD-set-other, getD-append-seam, append-snoc, ext-getD}
+use lib.ListN.{length, getD, set, replicate, length-append, length-set, length-replicate, List·getD-append, List·getD-eq-default}
+use lib.Seq.{sets, getD-set-same, getD-set-other, getD-append-seam, append-snoc, ext-getD}
 use Rattle.basics.specs.Buffers.{zeros, filled}
 use Rattle.basics.proofs.Booleans.{either, eqb-eq, eqb-ne, ltb-lt, ltb-ge, lt-ltb, ge-ltb}
 use Rattle.automata.specs.System.{Edge, an-edge}
@@ -17,7 +15,7 @@ use Rattle.tables.specs.Table.{wide-range}
 use Rattle.ncsb.specs.declared.Quadruple.{Quadruple}
 use Rattle.complement.specs.Complement.{quadruple-words, record-width}
 use Rattle.complement.specs.Records.{with-quadruple}
-use Rattle.complement.specs.Found.{Begins, triple, triples, edge-room, counted-to, with-edge, one-more}
+use Rattle.complement.specs.Found.{Begins, triple, edge-room, counted-to, with-edge, one-more}
 
 -- four words of a record, one by one
 pub stored :
@@ -73,12 +71,6 @@ begins-filled {new} {w} l h =
 pub begins-zeros : (w : List ℕ) → Begins [] (zeros w)
 unfolding zeros
 begins-zeros w = record { at = λ i. sym (zeros-beyond [] (length w) i) }
-
-pub zeros-begins : {w : List ℕ} → Begins [] w → w ≡ zeros w
-unfolding zeros
-zeros-begins {w} h =
-    ext-getD 0 w (replicate (length w) 0) (sym (length-replicate {A = ℕ} (length w) 0))
-    (λ i m. h .at i ∙ zeros-beyond [] (length w) i)
 
 -- EDGES behind so many others
 module _ (w : List ℕ) (m : ℕ) where

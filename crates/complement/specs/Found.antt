@@ -1,13 +1,13 @@
 -- What the lent buffers and the counts keep of what was found while exploring. Assumes nothing: these are definitions.
 use mathlib.Core.Path.{_≡_}
-use mathlib.Core.Bool.{Bool, true, false, cond}
+use mathlib.Core.Bool.{true, false, cond}
 use mathlib.Core.List.{List, [], _∷_, _++_}
 use Prim.Native.Nat.{ℕ, suc, _+_, _*_, _-_, _/_, _≤_, _<_, min}
 use lib.Dec.{ltb}
 use lib.ListN.{length, getD, take}
 use lib.Seq.{sets}
 use Rattle.automata.specs.System.{Edge, Built}
-use Rattle.tables.specs.Table.{Limits, wide-range, meaning}
+use Rattle.tables.specs.Table.{wide-range, meaning}
 use Rattle.ncsb.specs.Array.{from-array}
 use Rattle.ncsb.specs.Moves.{Moves}
 use Rattle.ncsb.specs.Successors.{initials}
@@ -67,11 +67,15 @@ pub record Shows (b : Built Quadruple) (words sets-words : List ℕ) (p : Progre
   pub states : States-kept (b .states) sets-words (p .states)
   pub edges : Edges-kept (b .edges) words (p .edges)
 
+-- what is answered where the states do not fit
+unfoldable pub overfull : Progress
+overfull = record { states = 0; edges = 0; full = true }
+
 -- what is left of something found: all of it is kept, or there are more states than fit. The buffers then hold what was found
 -- before that, which nobody reads: the build is refused, and clears them.
 pub data Ends (b : Built Quadruple) (words sets-words : List ℕ) (p : Progress) : Type 0 where
   within : Shows b words sets-words p → Ends b words sets-words p
-  beyond : p .full ≡ true → capacity sets-words < length (b .states) → Ends b words sets-words p
+  beyond : p ≡ overfull → capacity sets-words < length (b .states) → Ends b words sets-words p
 
 -- WHAT A STEP OF EXPLORING DOES: where the buffers keep something found, they then keep what the step makes of it
 pub record Turns
@@ -114,7 +118,7 @@ start-moves s = from-array [] (s .starts) (s .marks) (s .inner)
 pub data Started (shape : Shape) (sets-words : List ℕ) (p : Progress) : Type 0 where
   started :
       p .full ≡ false → p .edges ≡ 0 → States-kept (initials (start-moves shape)) sets-words (p .states) → Started shape sets-words p
-  too-many : p .full ≡ true → capacity sets-words < length (initials (start-moves shape)) → Started shape sets-words p
+  too-many : p ≡ overfull → capacity sets-words < length (initials (start-moves shape)) → Started shape sets-words p
 
 -- WHAT IS READ OFF a pattern that passes the check
 pub record Read-off (table : List ℕ) (masks : List (List ℕ)) (shape : Shape) : Type 0 where

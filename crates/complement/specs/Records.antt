@@ -1,12 +1,12 @@
 -- Records of sets in a lent run of words (document 01, "Numbering and result"): record i is words 4i to 4i + 3. Assumes nothing: these are definitions.
 use mathlib.Core.Path.{_≡_}
-use mathlib.Core.List.{List, []}
-use Prim.Native.Nat.{ℕ, suc, _+_, _*_, _/_, _≤_, min}
+use mathlib.Core.List.{List}
+use Prim.Native.Nat.{ℕ, _+_, _*_, _/_, min}
 use lib.ListN.{length, getD}
 use lib.Seq.{sets}
 use Rattle.automata.specs.Decision.{tabulate}
 use Rattle.automata.specs.System.{number-of}
-use Rattle.tables.specs.Table.{Limits, wide-range}
+use Rattle.tables.specs.Table.{wide-range}
 use Rattle.ncsb.specs.Moves.{Moves}
 use Rattle.ncsb.specs.Successors.{quadruple, ncsb}
 use Rattle.ncsb.specs.declared.Quadruple.{Quadruple}

@@ -12,7 +12,7 @@ ghost use Rattle.ncsb.specs.Successors.{ncsb, successors, initials};
 ghost use Rattle.complement.specs.Records.{capacity, quadruple-at};
 ghost use Rattle.complement.specs.Found.{with-edge, one-more, Placed, Turns, Step-asks, Expand-asks, array-moves, Begins, start-moves, Started, Explore-asks, Explored-to};
 
-// What has been found: how many states and edges, and whether there were more states than fit.
+// What has been found: how many states and edges; or that there are more states than fit, with both counts zero.
 pub(crate) struct Progress {
     pub states: usize,
     pub edges: usize,
@@ -69,7 +69,7 @@ fn meet(
     let target = place(sets, states, x);
     if target >= records::room(sets) {
         return Progress {
-            states,
+            states: 0,
             edges: 0,
             full: true,
         };
@@ -115,23 +115,23 @@ fn add_successors(
         return found;
     }
     let choices = asked.choices();
-    let mut now = found;
+    let mut progress = found;
     let mut choice = 0;
     while choice < choices {
-        now = meet(
+        progress = meet(
             words,
             sets,
-            now,
+            progress,
             source,
             letter,
             x.successor(asked, choice as u32),
         );
-        if now.full {
-            return now;
+        if progress.full {
+            return progress;
         }
         choice += 1;
     }
-    now
+    progress
 }
 
 // Adds all edges of a state, by rising letter.
@@ -149,16 +149,16 @@ fn expand(
 {
     let x = records::load(sets, source);
     let letters = shape.letters;
-    let mut now = found;
+    let mut progress = found;
     let mut letter = 0;
     while letter < letters {
-        now = add_successors(masks, shape, words, sets, now, source, x, letter);
-        if now.full {
-            return now;
+        progress = add_successors(masks, shape, words, sets, progress, source, x, letter);
+        if progress.full {
+            return progress;
         }
         letter += 1;
     }
-    now
+    progress
 }
 
 // How many initial quadruples there are: the initial states of Q2 outside F are free to be safe or not.

@@ -1,6 +1,6 @@
 -- `build_complement` answers and leaves what the definitions say: a refusal of the check, 11 where exploring found more states than fit, 12 where
 -- the table is too long, or the complement's table and sets. Assumes nothing.
-use mathlib.Core.Path.{_≡_, refl, sym, _∙_}
+use mathlib.Core.Path.{_≡_, sym, _∙_}
 use mathlib.Core.List.{List}
 use Prim.Native.Nat.{ℕ}
 use native.Mathlib.Omega.{arith}
@@ -8,26 +8,13 @@ use borrow.Author.Needs.{needs}
 use lib.ListN.{length}
 use Rattle.patterns.proofs.Passed.{checked-table}
 use Rattle.complement.specs.Complement.{complement}
-use Rattle.complement.specs.Found.{Shows, Ends, Read-off}
+use Rattle.complement.specs.Found.{Ends, Read-off}
 use Rattle.complement.proofs.Answers.{refused-check, refused-states, refused-edges}
 use Rattle.complement.proofs.Finishing.{states-limit, built-asks, built-counts, built-flags, built-says}
 use Rattle.complement.proofs.Reaching.{ends-within}
 use Rattle.complement.proofs.Stored.{begins-zeros}
 use Rattle.complement.proofs.build_complement.Statement.{statement}
 use Rattle.complement.proofs.build_complement.Tie as tie
-use Rattle.complement.proofs.build_complement.Reads as reads
-use Rattle.complement.proofs.build_complement.Lts as lts
-use Rattle.complement.proofs.buffers.clear_sets.Reads as clear-sets-reads
-use Rattle.complement.proofs.buffers.clear_words.Reads as clear-words-reads
-use Rattle.complement.proofs.explore.explore.Reads as explore-reads
-use Rattle.complement.proofs.explore.initial_count.Reads as initial-count-reads
-use Rattle.complement.proofs.flags.set_flags.Reads as set-flags-reads
-use Rattle.complement.proofs.refuse.Reads as refuse-reads
-use Rattle.complement.proofs.too_long.Reads as too-long-reads
-use Rattle.layout.proofs.lay_out.Reads as lay-out-reads
-use Rattle.patterns.proofs.check_refusal.Reads as check-refusal-reads
-use Rattle.patterns.proofs.masks_of.Reads as masks-of-reads
-use Rattle.patterns.proofs.shape_of.Reads as shape-of-reads
 
 -- what is known once exploring has ended
 module _ (c : tie.After-explore) where

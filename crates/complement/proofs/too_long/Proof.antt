@@ -5,8 +5,6 @@ use Rattle.complement.specs.Build.{words-needed}
 use borrow.Author.Needs.{needs}
 use Rattle.complement.proofs.too_long.Statement.{statement}
 use Rattle.complement.proofs.too_long.Tie as tie
-use Rattle.complement.proofs.too_long.Reads as reads
-use Rattle.complement.proofs.too_long.Lts as lts
 
 returns : tie.Need-returns
 returns c = rw (lt-ltb (c .if1 .taken)) refl

@@ -5,8 +5,6 @@ use lib.ListN.{length}
 use Rattle.complement.proofs.Clears.{Clearing, clearing-start, clearing-length, clearing-turn, clearing-end}
 use Rattle.complement.proofs.buffers.clear_sets.Statement.{statement}
 use Rattle.complement.proofs.buffers.clear_sets.Tie as tie
-use Rattle.complement.proofs.buffers.clear_sets.Reads as reads
-use Rattle.complement.proofs.buffers.clear_sets.Lts as lts
 
 abbrev Inv-loop : tie.InvT-loop
 Inv-loop sets₀ i₀ sets i = Clearing sets₀ sets i

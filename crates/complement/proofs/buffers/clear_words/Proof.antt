@@ -5,8 +5,6 @@ use lib.ListN.{length}
 use Rattle.complement.proofs.Clears.{Clearing, clearing-start, clearing-length, clearing-turn, clearing-end}
 use Rattle.complement.proofs.buffers.clear_words.Statement.{statement}
 use Rattle.complement.proofs.buffers.clear_words.Tie as tie
-use Rattle.complement.proofs.buffers.clear_words.Reads as reads
-use Rattle.complement.proofs.buffers.clear_words.Lts as lts
 
 abbrev Inv-loop : tie.InvT-loop
 Inv-loop words₀ i₀ words i = Clearing words₀ words i

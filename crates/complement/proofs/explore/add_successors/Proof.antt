@@ -1,5 +1,5 @@
 -- `add_successors` meets the successors on a letter, by rising choice. The invariant: so many choices were met. Assumes nothing.
-use mathlib.Core.Path.{_≡_, refl, _∙_}
+use mathlib.Core.Path.{_∙_}
 use Prim.Native.Nat.{_≤_, _-_}
 use native.Mathlib.Omega.{arith}
 use Rattle.ncsb.specs.Array.{nth-successor}
@@ -8,20 +8,13 @@ use Rattle.complement.proofs.Choices.{choices-fit}
 use Rattle.complement.proofs.Letters.{Choosing, choose-start, choose-asks, choose-turn, letter-blocked, letter-full, letter-end}
 use Rattle.complement.proofs.explore.add_successors.Statement.{statement}
 use Rattle.complement.proofs.explore.add_successors.Tie as tie
-use Rattle.complement.proofs.explore.add_successors.Reads as reads
-use Rattle.complement.proofs.explore.add_successors.Lts as lts
-use Rattle.complement.proofs.explore.meet.Reads as meet-reads
-use Rattle.ncsb.proofs.Asked.choices.Reads as choices-reads
-use Rattle.ncsb.proofs.Quadruple.blocked.Reads as blocked-reads
-use Rattle.ncsb.proofs.Quadruple.on_letter.Reads as on-letter-reads
-use Rattle.ncsb.proofs.Quadruple.successor.Reads as successor-reads
 
 abbrev Inv-loop : tie.InvT-loop
-Inv-loop words₀ sets₀ source x letter asked choices now₀ choice₀ words sets now choice =
-    (choice ≤ choices) × Choosing (nth-successor x asked) source letter words₀ sets₀ now₀ words sets now choice
+Inv-loop words₀ sets₀ source x letter asked choices progress₀ choice₀ words sets progress choice =
+    (choice ≤ choices) × Choosing (nth-successor x asked) source letter words₀ sets₀ progress₀ words sets progress choice
 
 abbrev μ-loop : tie.MeasureT-loop
-μ-loop words₀ sets₀ source x letter asked choices now₀ choice₀ words sets now choice = choices - choice
+μ-loop words₀ sets₀ source x letter asked choices progress₀ choice₀ words sets progress choice = choices - choice
 
 on-letter-requires : tie.Need-on-letter-requires Inv-loop μ-loop
 on-letter-requires c κs = tt

@@ -1,23 +1,19 @@
 -- `expand` adds the edges of a state, by rising letter. The invariant: so many letters are done. Assumes nothing.
-use mathlib.Core.Path.{refl, _∙_}
+use mathlib.Core.Path.{_∙_}
 use Prim.Native.Nat.{_≤_, _-_}
 use native.Mathlib.Omega.{arith}
 use Rattle.complement.specs.Found.{array-moves}
 use Rattle.complement.proofs.Letters.{Spelling, spell-start, spell-asks, spell-turn, spell-full, spell-end, expand-load}
 use Rattle.complement.proofs.explore.expand.Statement.{statement}
 use Rattle.complement.proofs.explore.expand.Tie as tie
-use Rattle.complement.proofs.explore.expand.Reads as reads
-use Rattle.complement.proofs.explore.expand.Lts as lts
-use Rattle.complement.proofs.explore.add_successors.Reads as add-successors-reads
-use Rattle.complement.proofs.records.load.Reads as load-reads
 
 abbrev Inv-loop : tie.InvT-loop
-Inv-loop masks shape words₀ sets₀ source x letters now₀ letter₀ words sets now letter =
+Inv-loop masks shape words₀ sets₀ source x letters progress₀ letter₀ words sets progress letter =
     (letter ≤ letters)
-    × Spelling (array-moves masks shape) source x words₀ sets₀ now₀ words sets now letter
+    × Spelling (array-moves masks shape) source x words₀ sets₀ progress₀ words sets progress letter
 
 abbrev μ-loop : tie.MeasureT-loop
-μ-loop masks shape words₀ sets₀ source x letters now₀ letter₀ words sets now letter = letters - letter
+μ-loop masks shape words₀ sets₀ source x letters progress₀ letter₀ words sets progress letter = letters - letter
 
 load-requires : tie.Need-load-requires Inv-loop μ-loop
 load-requires c κs = expand-load (c .before .before .before .pre)

@@ -8,10 +8,6 @@ use Rattle.complement.specs.Found.{Read-off}
 use Rattle.complement.proofs.Numbering.{Exploring, begin-full, begin-within, expand-asks, expand-full, expand-turn, explore-limit, explore-end}
 use Rattle.complement.proofs.explore.explore.Statement.{statement}
 use Rattle.complement.proofs.explore.explore.Tie as tie
-use Rattle.complement.proofs.explore.explore.Reads as reads
-use Rattle.complement.proofs.explore.explore.Lts as lts
-use Rattle.complement.proofs.explore.expand.Reads as expand-reads
-use Rattle.complement.proofs.explore.store_initials.Reads as store-initials-reads
 
 abbrev Inv-loop : tie.InvT-loop
 Inv-loop masks shape words₀ sets₀ found₀ number₀ words sets found number =

@@ -3,10 +3,6 @@ use Rattle.complement.proofs.Starting.{start-counted}
 use borrow.Author.Needs.{needs}
 use Rattle.complement.proofs.explore.initial_count.Statement.{statement}
 use Rattle.complement.proofs.explore.initial_count.Tie as tie
-use Rattle.complement.proofs.explore.initial_count.Reads as reads
-use Rattle.complement.proofs.explore.initial_count.Lts as lts
-use Rattle.sets.proofs.choices.Reads as choices-reads
-use Rattle.sets.proofs.without.Reads as without-reads
 
 without-requires : tie.Need-without-requires
 without-requires c κs = search needs

@@ -6,8 +6,6 @@ use Rattle.complement.proofs.Stored.{edge-past, edge-long, edge-stored,
 use borrow.Author.Needs.{needs}
 use Rattle.complement.proofs.explore.keep_edge.Statement.{statement}
 use Rattle.complement.proofs.explore.keep_edge.Tie as tie
-use Rattle.complement.proofs.explore.keep_edge.Reads as reads
-use Rattle.complement.proofs.explore.keep_edge.Lts as lts
 
 returns : tie.Need-returns
 returns c =

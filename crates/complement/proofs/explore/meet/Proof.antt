@@ -1,15 +1,10 @@
 -- `meet` adds an edge to a successor, and the successor if it is new. Assumes nothing.
-use mathlib.Core.Path.{refl}
 use native.Mathlib.Omega.{arith}
+use Rattle.complement.specs.Found.{overfull}
 use Rattle.complement.proofs.Meeting.{capacity-limit, meet-full, meet-known, meet-new}
 use borrow.Author.Needs.{needs}
 use Rattle.complement.proofs.explore.meet.Statement.{statement}
 use Rattle.complement.proofs.explore.meet.Tie as tie
-use Rattle.complement.proofs.explore.meet.Reads as reads
-use Rattle.complement.proofs.explore.meet.Lts as lts
-use Rattle.complement.proofs.explore.keep_edge.Reads as keep-edge-reads
-use Rattle.complement.proofs.explore.place.Reads as place-reads
-use Rattle.complement.proofs.records.room.Reads as room-reads
 
 place-requires : tie.Need-place-requires
 place-requires c κs = search needs
@@ -21,7 +16,8 @@ same-length : tie.Need-same-length
 same-length c = search needs
 
 returns : tie.Need-returns
-returns c = λ d. meet-full d _ _ _ (c .before .before .before .before .before .place .ensures) _ (c .before .room .ensures) (c .if1 .taken)
+unfolding overfull
+returns c = λ d. meet-full d _ _ _ {p = c .before .before .before .before .before .before .before .before .before .args .found} (c .before .before .before .before .before .place .ensures) _ (c .before .room .ensures) (c .if1 .taken)
 
 cast-keep-edge : tie.Need-cast-keep-edge
 cast-keep-edge c = let l = c .before .before .before .before .before .before .before .before .before .before .pre .inside in let m = c .before .before .before .before .before .before .before .before .before .before .pre .shows .states .fits in let e = c .before .before .before .before .before .before .before .before .before .before .pre .shows .states .counted in let h = capacity-limit (c .before .before .before .before .before .before .before .before .before .before .args .sets .now) in omega arith

@@ -8,11 +8,6 @@ use Rattle.complement.proofs.Meeting.{capacity-words}
 use borrow.Author.Needs.{needs}
 use Rattle.complement.proofs.explore.place.Statement.{statement}
 use Rattle.complement.proofs.explore.place.Tie as tie
-use Rattle.complement.proofs.explore.place.Reads as reads
-use Rattle.complement.proofs.explore.place.Lts as lts
-use Rattle.complement.proofs.records.find.Reads as find-reads
-use Rattle.complement.proofs.records.room.Reads as room-reads
-use Rattle.complement.proofs.records.store.Reads as store-reads
 
 find-requires : tie.Need-find-requires
 find-requires c κs = capacity-words (c .before .before .args .sets .now) (c .before .before .args .states) (c .before .before .pre)

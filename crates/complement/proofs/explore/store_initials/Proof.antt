@@ -2,15 +2,10 @@
 use mathlib.Core.Path.{refl}
 use Prim.Native.Nat.{_≤_, _-_}
 use native.Mathlib.Omega.{arith}
+use Rattle.complement.specs.Found.{overfull}
 use Rattle.complement.proofs.Starting.{Storing, start-fits, start-full, store-start, store-asks, store-turn, store-end}
 use Rattle.complement.proofs.explore.store_initials.Statement.{statement}
 use Rattle.complement.proofs.explore.store_initials.Tie as tie
-use Rattle.complement.proofs.explore.store_initials.Reads as reads
-use Rattle.complement.proofs.explore.store_initials.Lts as lts
-use Rattle.complement.proofs.explore.initial_count.Reads as initial-count-reads
-use Rattle.complement.proofs.records.room.Reads as room-reads
-use Rattle.complement.proofs.records.store.Reads as store-reads
-use Rattle.ncsb.proofs.Quadruple.initial.Reads as initial-reads
 
 abbrev Inv-loop : tie.InvT-loop
 Inv-loop shape sets₀ choices choice₀ sets choice = (choice ≤ choices) × Storing shape sets₀ sets choice
@@ -28,6 +23,7 @@ same-length : tie.Need-same-length Inv-loop μ-loop
 same-length c = refl
 
 returns : tie.Need-returns Inv-loop μ-loop
+unfolding overfull
 returns c = start-full (c .before .before .before .before .before .args .shape) (c .before .before .before .initial-count .ensures) (c .before .room .ensures) (c .if1 .taken) refl
 
 loop-holds : tie.Need-loop-holds Inv-loop μ-loop

@@ -4,12 +4,9 @@ use Prim.Native.Nat.{_≤_, _-_}
 use native.Mathlib.Omega.{arith}
 use lib.ListN.{length, length-set}
 use Rattle.complement.specs.Flags.{with-flags}
-use Rattle.complement.proofs.Flagged.{flags-length, flags-start, flags-turn, flags-end}
+use Rattle.complement.proofs.Flagged.{flags-start, flags-turn, flags-end}
 use Rattle.complement.proofs.flags.set_flags.Statement.{statement}
 use Rattle.complement.proofs.flags.set_flags.Tie as tie
-use Rattle.complement.proofs.flags.set_flags.Reads as reads
-use Rattle.complement.proofs.flags.set_flags.Lts as lts
-use Rattle.complement.proofs.flags.state_flags.Reads as state-flags-reads
 
 abbrev Inv-loop : tie.InvT-loop
 Inv-loop words₀ sets initial states state₀ words state = (state ≤ states) × (length words ≡ length words₀) × (words ≡ with-flags sets initial state words₀)

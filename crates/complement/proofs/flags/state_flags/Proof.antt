@@ -3,10 +3,6 @@ use Rattle.complement.proofs.Flagged.{flags-both, flags-initial, flags-
 use borrow.Author.Needs.{needs}
 use Rattle.complement.proofs.flags.state_flags.Statement.{statement}
 use Rattle.complement.proofs.flags.state_flags.Tie as tie
-use Rattle.complement.proofs.flags.state_flags.Reads as reads
-use Rattle.complement.proofs.flags.state_flags.Lts as lts
-use Rattle.complement.proofs.records.load.Reads as load-reads
-use Rattle.ncsb.proofs.Quadruple.accepting.Reads as accepting-reads
 
 load-requires : tie.Need-load-requires
 load-requires c κs = search needs

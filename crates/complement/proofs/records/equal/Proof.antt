@@ -2,8 +2,6 @@
 use Rattle.complement.proofs.Lookup.{differ-N, differ-C, differ-S, alike}
 use Rattle.complement.proofs.records.equal.Statement.{statement}
 use Rattle.complement.proofs.records.equal.Tie as tie
-use Rattle.complement.proofs.records.equal.Reads as reads
-use Rattle.complement.proofs.records.equal.Lts as lts
 
 -- src/records.rt:51:9
 returns : tie.Need-returns

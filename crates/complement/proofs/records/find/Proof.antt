@@ -4,10 +4,6 @@ use native.Mathlib.Omega.{arith}
 use Rattle.complement.proofs.Lookup.{Passed-by, passed-none, passed-more, compared, looked-found, looked-none}
 use Rattle.complement.proofs.records.find.Statement.{statement}
 use Rattle.complement.proofs.records.find.Tie as tie
-use Rattle.complement.proofs.records.find.Reads as reads
-use Rattle.complement.proofs.records.find.Lts as lts
-use Rattle.complement.proofs.records.equal.Reads as equal-reads
-use Rattle.complement.proofs.records.load.Reads as load-reads
 
 abbrev Inv-loop : tie.InvT-loop
 Inv-loop sets count x number₀ number = (number ≤ count) × Passed-by sets x number

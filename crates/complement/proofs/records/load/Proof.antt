@@ -6,8 +6,6 @@ use Rattle.complement.specs.Complement.{record-width}
 use Rattle.complement.specs.Records.{quadruple-at}
 use Rattle.complement.proofs.records.load.Statement.{statement}
 use Rattle.complement.proofs.records.load.Tie as tie
-use Rattle.complement.proofs.records.load.Reads as reads
-use Rattle.complement.proofs.records.load.Lts as lts
 
 -- src/records.rt:25:14
 mul-at : tie.Need-mul-at

@@ -2,8 +2,6 @@
 use Rattle.complement.proofs.Lookup.{room-records, room-limit}
 use Rattle.complement.proofs.records.room.Statement.{statement}
 use Rattle.complement.proofs.records.room.Tie as tie
-use Rattle.complement.proofs.records.room.Reads as reads
-use Rattle.complement.proofs.records.room.Lts as lts
 
 -- src/records.rt:15:9
 returns : tie.Need-returns

@@ -5,8 +5,6 @@ use lib.ListN.{length-set}
 use Rattle.complement.proofs.Stored.{stored}
 use Rattle.complement.proofs.records.store.Statement.{statement}
 use Rattle.complement.proofs.records.store.Tie as tie
-use Rattle.complement.proofs.records.store.Reads as reads
-use Rattle.complement.proofs.records.store.Lts as lts
 
 -- src/records.rt:39:14
 mul-at : tie.Need-mul-at
