@@ -7,6 +7,7 @@
 #define _GNU_SOURCE
 #include "draw.h"
 #include "reference.h"
+#include "rings.h"
 
 #include <errno.h>
 #include <fcntl.h>
@@ -306,6 +307,22 @@ static void compare_pattern_a(struct random *r)
     compare_text(r, &t, 0);
 }
 
+/* Complements of 1,024 states, as many as there is room for, and of more; and of more words than there is room for. */
+static void compare_rings(struct random *r)
+{
+    static const uint32_t rings[][3] = {{8, 7, 1}, {9, 7, 1}, {8, 7, 4}, {8, 7, 5}};
+    static struct text t;
+    static struct drawn_table table;
+    size_t i;
+    for (i = 0; i < sizeof rings / sizeof rings[0]; i++) {
+        const uint32_t states = rings[i][0] + rings[i][1] + 1;
+        ring_pattern(table.words, rings[i][0], rings[i][1], rings[i][2]);
+        table.len = 3 + (2 + 3 * (size_t)rings[i][2]) * states;
+        write_table(r, &t, &table);
+        compare_text(r, &t, 0);
+    }
+}
+
 static uint64_t number_argument(const char *text)
 {
     char *end;
@@ -342,6 +359,7 @@ int main(int argc, char **argv)
     signal(SIGPIPE, SIG_IGN);
     printf("compare_listing: %" PRIu64 " trials from seed %" PRIu64 "\n", trials, seed);
     compare_pattern_a(&r);
+    compare_rings(&r);
     for (i = 0; i < trials; i++) {
         static struct text t;
         r = random_from(seed + i);
