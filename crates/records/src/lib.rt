@@ -95,3 +95,11 @@ pub fn find_in_words(sets: &[u32], x: Quadruple) -> usize
     fill(&mut records, sets);
     find(&records, x)
 }
+
+// The C call: fills the lent records from the sets words of a build, and clears the rest.
+#[no_mangle]
+pub extern "C" fn tubochre_records(records: &mut [Quadruple], words: &[u32])
+    ensures { λ _. ⌜ now (records .exit) ≡ fitted (length (now (records .entry))) (records-of (now (words .entry))) ⌝ }
+{
+    fill(records, words);
+}

@@ -1,0 +1,32 @@
+-- The definitions at small values, by computation: the three records of document 01's pattern B, with two words left over. Assumes nothing.
+use mathlib.Core.Path.{_≡_, refl}
+use mathlib.Core.List.{List, [], _∷_}
+use Prim.Native.Nat.{ℕ}
+use Rattle.ncsb.specs.Successors.{quadruple, same}
+use Rattle.records.specs.Records.{blank, records-of, fitted, place-of}
+
+words : List ℕ
+words = 0 ∷ 1 ∷ 0 ∷ 1 ∷ 0 ∷ 0 ∷ 1 ∷ 0 ∷ 0 ∷ 2 ∷ 0 ∷ 2 ∷ 7 ∷ 7 ∷ []
+
+-- the words left over make no record
+three-records : records-of words ≡ quadruple 0 1 0 1 ∷ quadruple 0 0 1 0 ∷ quadruple 0 2 0 2 ∷ []
+unfolding words records-of
+three-records = refl
+
+-- a run of four is blank at its end, and a run of two holds the first two
+run-of-four : fitted 4 (records-of words) ≡ quadruple 0 1 0 1 ∷ quadruple 0 0 1 0 ∷ quadruple 0 2 0 2 ∷ blank ∷ []
+unfolding words records-of fitted
+run-of-four = refl
+
+run-of-two : fitted 2 (records-of words) ≡ quadruple 0 1 0 1 ∷ quadruple 0 0 1 0 ∷ []
+unfolding words records-of fitted
+run-of-two = refl
+
+-- a quadruple is found at its first place, and one that is none of them at their count
+place-met : place-of (quadruple 0 2 0 2) (records-of words) ≡ 2
+unfolding words records-of place-of same quadruple
+place-met = refl
+
+place-missed : place-of (quadruple 0 2 0 0) (records-of words) ≡ 3
+unfolding words records-of place-of same quadruple
+place-missed = refl
