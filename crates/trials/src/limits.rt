@@ -1,0 +1,116 @@
+// Lassos at the limits, and each refusal of the lasso decision.
+use crate::answers::lasso;
+use crate::answers::lasso_in;
+use crate::answers::long_lasso;
+
+const A: [u16; 19] = [2, 2, 4, 1, 1, 2, 4, 0, 0, 2, 1, 0, 3, 0, 1, 0, 0, 1, 0];
+
+const B: [u16; 19] = [2, 2, 4, 1, 1, 2, 3, 0, 0, 2, 1, 1, 0, 0, 0, 4, 1, 1, 0];
+
+fn long_over_a() {
+    let ones = [1; 4096];
+    let zeros = [0; 4096];
+    let mut one_at_last = [0; 4096];
+    one_at_last[4095] = 1;
+    long_lasso(b"A, a loop of 4096 zeros", &A, &[], &zeros);
+    long_lasso(b"A, a loop of 4095 zeros and a one", &A, &[], &one_at_last);
+    long_lasso(b"A, a prefix of 4096 ones and a loop of 0", &A, &ones, &[0]);
+    long_lasso(
+        b"A, a prefix of 4096 ones and a loop of 4096 zeros",
+        &A,
+        &ones,
+        &zeros,
+    );
+    long_lasso(
+        b"A, a prefix of 4096 zeros and a loop of 4096 ones",
+        &A,
+        &zeros,
+        &ones,
+    );
+}
+
+fn long_over_b() {
+    let ones = [1; 4096];
+    let zeros = [0; 4096];
+    let mut one_at_last = [0; 4096];
+    one_at_last[4095] = 1;
+    long_lasso(b"B, a loop of 4096 zeros", &B, &[], &zeros);
+    long_lasso(b"B, a loop of 4095 zeros and a one", &B, &[], &one_at_last);
+    long_lasso(b"B, a prefix of 4096 ones and a loop of 0", &B, &ones, &[0]);
+    long_lasso(
+        b"B, a prefix of 4096 zeros and a loop of 0 1",
+        &B,
+        &zeros,
+        &[0, 1],
+    );
+    long_lasso(
+        b"B, a prefix of 4096 ones and a loop of 4096 zeros",
+        &B,
+        &ones,
+        &zeros,
+    );
+    long_lasso(
+        b"B, a prefix of 4096 zeros and a loop of 4095 zeros and a one",
+        &B,
+        &zeros,
+        &one_at_last,
+    );
+}
+
+fn too_long() {
+    let zeros = [0; 4097];
+    long_lasso(b"A, a loop of 4097", &A, &[], &zeros);
+    long_lasso(b"A, a prefix of 4097", &A, &zeros, &[0]);
+}
+
+fn refused_parts() {
+    lasso(b"A, a loop of one letter", &A, &[], &[0]);
+    lasso(b"A, an empty loop", &A, &[], &[]);
+    lasso(
+        b"A, a prefix of one letter and an empty loop",
+        &A,
+        &[1],
+        &[],
+    );
+    lasso(b"A, a letter of k in the loop", &A, &[], &[0, 2]);
+    lasso(b"A, a letter of k in the prefix", &A, &[2], &[0]);
+    lasso(b"A, letter 255", &A, &[], &[255]);
+}
+
+// Where two refusals are met, the one that is checked first is answered.
+fn first_refusals() {
+    let twos = [2; 4097];
+    let own_next = [1, 1, 1, 3, 1, 0, 0, 1];
+    lasso(
+        b"a next equal to its own number, and an empty loop",
+        &own_next,
+        &[],
+        &[],
+    );
+    lasso(b"A, a prefix of 4097 and an empty loop", &A, &twos, &[]);
+    lasso(b"A, a loop of 4097 letters of k", &A, &[], &twos);
+    lasso_in(
+        b"A, a letter of k and no work words",
+        &A,
+        &[],
+        &[2],
+        &mut [],
+    );
+}
+
+fn work_words() {
+    let mut exact = [7; 24];
+    lasso_in(b"A, 1 1 (0), 24 work words", &A, &[1, 1], &[0], &mut exact);
+    let mut short = [7; 23];
+    lasso_in(b"A, 1 1 (0), 23 work words", &A, &[1, 1], &[0], &mut short);
+    lasso_in(b"A, 1 1 (0), no work words", &A, &[1, 1], &[0], &mut []);
+}
+
+pub(crate) fn decide_at_limits() {
+    long_over_a();
+    long_over_b();
+    too_long();
+    refused_parts();
+    first_refusals();
+    work_words();
+}
