@@ -14,7 +14,6 @@ use Rattle.tables.specs.Table.{meaning, wide-range}
 use Rattle.tables.proofs.Laws.{valid, meaning-closed}
 use Rattle.lassos.specs.Decision.{as-decision, decision, Lasso-says}
 use Rattle.lassos.specs.Refusals.{lasso-refusal}
-use Rattle.lassos.specs.declared.Decision.{Decision}
 use Rattle.lassos.specs.declared.Decision.the-variants.{Taken, NotTaken, Refused}
 use Rattle.lassos.proofs.Parts.{accepted}
 

@@ -1,16 +1,16 @@
 -- Laws of walks along the chains of a valid table: they end, their targets are nodes, and what the outer search passes by.
 -- Assumes nothing.
-use mathlib.Core.Path.{_≡_, refl, sym, _∙_, ap}
-use mathlib.Core.Bool.{Bool, true, false, _&&_}
+use mathlib.Core.Path.{_≡_, refl, sym, _∙_}
+use mathlib.Core.Bool.{Bool, true, false}
 use mathlib.Core.List.{List}
 use mathlib.Core.Logic.{_⊎_, inl, inr}
-use Prim.Native.Nat.{ℕ, zero, suc, _+_, _*_, _-_, _≤_, _<_}
+use Prim.Native.Nat.{ℕ, zero, suc, _+_, _-_, _≤_, _<_}
 use native.Mathlib.Omega.{arith}
 use lib.Dec.{eqb}
 use lib.ListN.{length, getD}
 use Rattle.basics.proofs.Booleans.{and-l, and-r, and-false, and-false-l, eqb-eq, eq-eqb, eqb-ne, ne-eqb}
 use Rattle.tables.specs.Access.{Record-asks}
-use Rattle.tables.specs.Table.{n-of, m-of, letter-of, target-of, next-of, wide-range, table-refusal}
+use Rattle.tables.specs.Table.{m-of, letter-of, target-of, next-of, wide-range}
 use Rattle.tables.proofs.Laws.{Valid, valid}
 use Rattle.lassos.specs.Product.{Chain-to, here, later}
 use Rattle.lassos.specs.Search.{colour}

@@ -1,7 +1,7 @@
 -- Laws of clearing a buffer: word by word from the front, and that only its length matters. Assumes nothing.
-use mathlib.Core.Path.{_≡_, refl, sym, _∙_, ap}
+use mathlib.Core.Path.{_≡_, _∙_}
 use mathlib.Core.List.{List, _++_, append-nil}
-use Prim.Native.Nat.{ℕ, _+_, _-_, _≤_, _<_}
+use Prim.Native.Nat.{ℕ, _+_, _≤_, _<_}
 use native.Mathlib.Omega.{arith}
 use borrow.Author.Fill.{fill-none, fill-more}
 use lib.ListN.{length, getD, set, drop, replicate, length-append, length-replicate, length-drop, drop-of-length-le, getD-replicate}
@@ -39,9 +39,6 @@ zeros-same w w1 e = rw e
 pub zeros-length : (w : List ℕ) → length (zeros w) ≡ length w
 unfolding zeros
 zeros-length w = length-replicate (length w) 0
-
-pub zeros-zeros : (w : List ℕ) → zeros w ≡ zeros (zeros w)
-zeros-zeros w = sym (zeros-same w (zeros w) (zeros-length w))
 
 pub zeros-at : (w : List ℕ) (i : ℕ) → i < length w → getD (zeros w) i 0 ≡ 0
 unfolding zeros

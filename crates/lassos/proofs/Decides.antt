@@ -16,14 +16,13 @@ use Rattle.automata.proofs.Decision.{takes-right}
 use Rattle.tables.specs.Table.{n-of, meaning, wide-range}
 use Rattle.tables.proofs.Laws.{Valid, valid, meaning-closed}
 use Rattle.lassos.specs.Decision.{as-decision, decision, Lasso-says, Takes-asks}
-use Rattle.lassos.specs.Graph.{Graph, Found}
+use Rattle.lassos.specs.Graph.{Graph}
 use Rattle.lassos.specs.Product.{product}
 use Rattle.lassos.specs.Refusals.{lasso-refusal}
 use Rattle.lassos.specs.Search.{colour, Search}
 use Rattle.lassos.specs.Steps.{Given, Explore-asks, Searched, found, nothing}
-use Rattle.lassos.specs.declared.Decision.{Decision}
 use Rattle.lassos.specs.declared.Decision.the-variants.{Taken, NotTaken, Refused}
-use Rattle.lassos.proofs.Clears.{zeros-same, zeros-length, zeros-zeros, zeros-at}
+use Rattle.lassos.proofs.Clears.{zeros-same, zeros-length, zeros-at}
 use Rattle.lassos.proofs.Given.{size-is}
 use Rattle.lassos.proofs.Outer.{whites-le}
 use Rattle.lassos.proofs.Parts.{Accepted, accepted}

@@ -1,9 +1,9 @@
 -- Laws of one step of the outer search: a white target of the stack's top enters, and the top's cursor moves on. Assumes nothing.
-use mathlib.Core.Path.{_≡_, refl, sym, _∙_, ap}
-use mathlib.Core.Bool.{Bool, true, false}
+use mathlib.Core.Path.{_≡_, refl, sym, _∙_}
+use mathlib.Core.Bool.{true, false}
 use mathlib.Core.List.{List}
 use mathlib.Core.Logic.{_⊎_, inl, inr}
-use Prim.Native.Nat.{ℕ, zero, suc, _+_, _*_, _-_, _/_, _%_, _≤_, _<_}
+use Prim.Native.Nat.{ℕ, suc, _+_, _*_, _-_, _%_, _≤_, _<_}
 use native.Mathlib.Omega.{arith}
 use native.Mathlib.Nat.{mod-lt}
 use lib.Dec.{eqb}
@@ -12,10 +12,10 @@ use Rattle.basics.proofs.Booleans.{eq-eqb, clash}
 use Rattle.basics.proofs.Bounded.{count-less}
 use Rattle.tables.specs.Access.{Record-asks}
 use Rattle.tables.specs.Table.{n-of, m-of, head-of, target-of, next-of}
-use Rattle.lassos.specs.Graph.{Graph, Leads, Bounded, Way, stay, onward, Reached}
+use Rattle.lassos.specs.Graph.{Leads, onward, Reached}
 use Rattle.lassos.specs.Product.{Chain-to, node-letter, node-base, product}
-use Rattle.lassos.specs.Search.{colour, stacked, cursor, whites, entered, advanced, Search, Grows}
-use Rattle.lassos.specs.Steps.{Node-asks, Chain-asks, Next-white, White-at, no-white, white-at, Given, Enter-asks, Top-asks, Descended, deeper, all-visited}
+use Rattle.lassos.specs.Search.{colour, stacked, cursor, whites, entered, advanced, Search}
+use Rattle.lassos.specs.Steps.{Node-asks, Chain-asks, Next-white, White-at, no-white, white-at, Enter-asks, Top-asks, Descended, deeper, all-visited}
 use Rattle.lassos.proofs.Chains.{reads-record, chain-inside}
 use Rattle.lassos.proofs.Given.{given-valid, given-bounded, given-few, given-some, given-small, given-node, given-chain, given-first}
 use Rattle.lassos.proofs.Outer.{grows-grows, enter-grows, enter-whites, enter-keeps, advance-grows, advance-whites, advance-keeps}

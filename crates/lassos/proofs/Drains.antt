@@ -1,18 +1,17 @@
 -- Laws of the inner search over the product: a node's edges followed, the waiting nodes emptied, and what a node meets.
 -- Assumes nothing.
-use mathlib.Core.Path.{_≡_, refl, sym, _∙_, ap}
+use mathlib.Core.Path.{_≡_, refl, _∙_}
 use mathlib.Core.Bool.{Bool, true, false}
 use mathlib.Core.List.{List}
-use mathlib.Core.Logic.{_⊎_, inl, inr}
-use Prim.Native.Nat.{ℕ, zero, suc, _+_, _*_, _-_, _/_, _%_, _≤_, _<_}
+use Prim.Native.Nat.{ℕ, suc, _+_, _*_, _-_, _%_, _≤_, _<_}
 use native.Mathlib.Omega.{arith}
 use lib.ListN.{length, getD}
-use Rattle.tables.specs.Table.{m-of, head-of}
-use Rattle.lassos.specs.Graph.{Graph, Leads, Way, stay}
-use Rattle.lassos.specs.Product.{Chain-to, node-letter, node-base, product}
+use Rattle.tables.specs.Table.{head-of}
+use Rattle.lassos.specs.Graph.{Leads, stay}
+use Rattle.lassos.specs.Product.{node-letter, node-base, product}
 use Rattle.lassos.specs.Search.{colour, waiting, blacks, Inner-says, Spread, None, Spread-says, Waiting, Since, Drained, met, none, spread}
 use Rattle.lassos.specs.Steps.{Spread-asks, Given, Spread-node-asks, Drain-asks, Meets-asks}
-use Rattle.lassos.proofs.Given.{given-bounded, given-small, given-node, given-chain, given-first}
+use Rattle.lassos.proofs.Given.{given-bounded, given-small, given-chain, given-first}
 use Rattle.lassos.proofs.Inner.{blacks-le, waiting-start, waiting-step, waiting-less, waiting-none, since-start, since-step, drained-met, inner-says}
 
 -- what a count of waiting nodes says

@@ -1,23 +1,23 @@
 -- Laws of the outer search as its functions see it: a node is finished, the stack is emptied, and all states are tried.
 -- Assumes nothing.
-use mathlib.Core.Path.{_≡_, refl, sym, _∙_, ap}
-use mathlib.Core.Bool.{Bool, true, false, _&&_}
+use mathlib.Core.Path.{_≡_, refl, _∙_}
+use mathlib.Core.Bool.{Bool, true, false}
 use mathlib.Core.List.{List}
-use mathlib.Core.Logic.{_⊎_, inl, inr}
-use Prim.Native.Nat.{ℕ, zero, suc, _+_, _*_, _-_, _/_, _%_, _≤_, _<_}
+use mathlib.Core.Logic.{inl, inr}
+use Prim.Native.Nat.{ℕ, suc, _+_, _*_, _-_, _%_, _≤_, _<_}
 use native.Mathlib.Omega.{arith}
 use native.Mathlib.Nat.{zero-mul}
 use native.Mathlib.Numerals.{add-one}
 use lib.Arith.{digits-lt}
-use lib.Dec.{eqb, leb, ltb}
+use lib.Dec.{ltb}
 use lib.ListN.{length, getD, set}
 use Rattle.basics.proofs.Booleans.{clash, and-l, and-r, and-make, eqb-eq, eq-eqb, ltb-lt, lt-ltb, gt-leb, le-leb}
 use Rattle.automata.specs.Lasso.{positions}
 use Rattle.automata.proofs.Positions.{next-below}
 use Rattle.tables.specs.Table.{n-of, head-of, flags-of, is-initial, is-accepting}
-use Rattle.lassos.specs.Graph.{Graph, Leads, Bounded, Found, stay}
+use Rattle.lassos.specs.Graph.{Graph, Leads, Bounded, stay}
 use Rattle.lassos.specs.Product.{product}
-use Rattle.lassos.specs.Search.{colour, stacked, whites, recoloured, entered, Search, Grows, Redder, Red-closed, Inner-asks, Inner-says, met, none}
+use Rattle.lassos.specs.Search.{colour, stacked, whites, recoloured, entered, Search, Grows, Inner-says, met, none}
 use Rattle.lassos.specs.Steps.{Given, Meets-asks, Top-asks, Descended, deeper, all-visited, Finished, closes, black, red, Enter-asks, Explore-asks, Explored, found, exhausted, Try-asks, Tried, tried, Searched, nothing}
 use Rattle.lassos.proofs.Given.{size-is, given-bounded, given-few, given-some, given-small, given-first, given-state}
 use Rattle.lassos.proofs.Outer.{grows-grows, grows-same, enter-grows, enter-keeps, none-found, Left-off, black-leaves, red-leaves, grey-cycle}
@@ -30,9 +30,6 @@ module _ {t u v w : List ℕ} {states size x : ℕ} (a : Meets-asks t u v w stat
 
   pub finish-some : 1 ≤ states
   finish-some = let k = given-some (a .given) in let e = a .given .counted in omega arith
-
-  pub finish-index : x < length w
-  finish-index = let k = a .asks .inside in let l = a .asks .long in omega arith
 
   module _ {f : ℕ} (is-flags : f ≡ flags-of t (x % states)) where
     pub finish-black : f < 2 → Finished (product t u v) x w (set w x 2) false

@@ -1,9 +1,9 @@
 -- Laws of the inner search's first two functions: one edge followed, and all edges of a chain. Assumes nothing.
-use mathlib.Core.Path.{_≡_, refl, sym, _∙_, ap}
-use mathlib.Core.Bool.{Bool, true, false}
+use mathlib.Core.Path.{_≡_, refl, sym, _∙_}
+use mathlib.Core.Bool.{false}
 use mathlib.Core.List.{List}
 use mathlib.Core.Logic.{_⊎_, inl, inr}
-use Prim.Native.Nat.{ℕ, zero, suc, _+_, _*_, _-_, _≤_, _<_}
+use Prim.Native.Nat.{ℕ, _+_, _*_, _≤_, _<_}
 use native.Mathlib.Omega.{arith}
 use native.Mathlib.Numerals.{add-one}
 use lib.Dec.{eqb}
@@ -11,11 +11,11 @@ use lib.ListN.{length, getD, set, length-set}
 use Rattle.basics.proofs.Booleans.{eq-eqb, clash}
 use Rattle.basics.proofs.Bounded.{count-less}
 use Rattle.tables.specs.Access.{Record-asks}
-use Rattle.tables.specs.Table.{m-of, letter-of, target-of, next-of}
+use Rattle.tables.specs.Table.{letter-of, target-of, next-of}
 use Rattle.lassos.specs.Product.{Chain-to, here, later}
-use Rattle.lassos.specs.Search.{colour, blacks, reddened, Spread, None, Spread-says, met, spread}
-use Rattle.lassos.specs.Steps.{Chain-asks, Edge-asks, Follow-asks, Followed, other-letter, grey-met, black-met, other-met, Spread-asks}
-use Rattle.lassos.proofs.Chains.{reads-edge, edge-target, chain-inside, next-asks, next-less}
+use Rattle.lassos.specs.Search.{colour, blacks, reddened, Spread, Spread-says, met, spread}
+use Rattle.lassos.specs.Steps.{Chain-asks, Follow-asks, Followed, other-letter, grey-met, black-met, other-met, Spread-asks}
+use Rattle.lassos.proofs.Chains.{reads-edge, edge-target, chain-inside, next-asks}
 use Rattle.lassos.proofs.Inner.{was-grey, still-coloured, spread-start, spread-skip, spread-push}
 use Rattle.lassos.proofs.Product.{chain-zero, chain-parts}
 use Rattle.lassos.proofs.Stores.{same-or, reddens}

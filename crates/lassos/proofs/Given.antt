@@ -1,10 +1,8 @@
 -- Laws of a table and a lasso that were not refused: the product is small, its nodes can be taken apart, and its edges read from
 -- the table. Assumes nothing.
-use mathlib.Core.Path.{_≡_, refl, sym, _∙_, ap, subst}
-use mathlib.Core.Bool.{Bool, true, false}
+use mathlib.Core.Path.{_≡_, refl}
 use mathlib.Core.List.{List}
-use mathlib.Core.Logic.{_⊎_, inl, inr}
-use Prim.Native.Nat.{ℕ, zero, suc, _+_, _*_, _-_, _/_, _%_, _≤_, _<_}
+use Prim.Native.Nat.{ℕ, suc, _+_, _*_, _/_, _%_, _≤_, _<_}
 use native.Mathlib.Omega.{arith}
 use native.Mathlib.Nat.{mod-lt, mul-le-mul, mul-le-mul-right, suc-mul}
 use lib.ListN.{length}
@@ -12,7 +10,7 @@ use Rattle.automata.specs.Lasso.{positions, next-position}
 use Rattle.automata.proofs.Positions.{next-below}
 use Rattle.tables.specs.Table.{n-of, m-of, head-of, wide-range}
 use Rattle.tables.proofs.Laws.{Valid, valid}
-use Rattle.lassos.specs.Graph.{Graph, Leads, Bounded}
+use Rattle.lassos.specs.Graph.{Leads, Bounded}
 use Rattle.lassos.specs.Product.{Chain-to, node-letter, node-base, product}
 use Rattle.lassos.specs.Search.{Spread-says}
 use Rattle.lassos.specs.Steps.{Node-asks, Chain-asks, Given}

@@ -1,17 +1,17 @@
 -- Laws of the inner search: following a node's edges turns its black targets red and lets them wait; the waiting nodes are
 -- emptied until all red nodes lead to red nodes only, or a grey one is met. Assumes nothing.
-use mathlib.Core.Path.{_≡_, refl, sym, _∙_, ap}
+use mathlib.Core.Path.{_≡_, refl, sym, _∙_}
 use mathlib.Core.Bool.{Bool, true, false}
 use mathlib.Core.List.{List}
 use mathlib.Core.Logic.{_⊎_, inl, inr}
-use Prim.Native.Nat.{ℕ, zero, suc, _+_, _*_, _-_, _≤_, _<_}
+use Prim.Native.Nat.{ℕ, suc, _+_, _*_, _≤_, _<_}
 use native.Mathlib.Omega.{arith}
 use lib.ListN.{length}
 use Rattle.basics.proofs.Bounded.{count-le}
 use Rattle.lassos.specs.Graph.{Graph, Leads, Bounded, Way, stay, onward}
-use Rattle.lassos.specs.Search.{colour, stacked, cursor, waiting, blacks, Redder, Red-closed, Inner-asks, Inner-says, Spread, None, Spread-says, spread, Waiting, Since, Drained, met, none}
+use Rattle.lassos.specs.Search.{colour, waiting, blacks, Redder, Red-closed, Inner-asks, Inner-says, Spread, None, Waiting, Since, Drained, met, none}
 use Rattle.lassos.proofs.Stores.{same-or, below-or, Reddens}
-use Rattle.lassos.proofs.Outer.{blacks-mono, blacks-less, way-way}
+use Rattle.lassos.proofs.Outer.{blacks-less}
 
 pub blacks-le : (n : ℕ) (w : List ℕ) → blacks n w ≤ n
 unfolding blacks

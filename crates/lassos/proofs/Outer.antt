@@ -1,18 +1,17 @@
 -- Laws of the outer search: each of its steps keeps the invariant; a grey node that the inner search meets closes a cycle; and
 -- where the stack is empty and every start is visited, no accepting node that is reached lies on a cycle. Assumes nothing.
-use mathlib.Core.Path.{_≡_, refl, sym, _∙_, ap}
-use mathlib.Core.Bool.{Bool, true, false}
+use mathlib.Core.Path.{_≡_, sym, _∙_, ap}
+use mathlib.Core.Bool.{true, false}
 use mathlib.Core.List.{List}
 use mathlib.Core.Logic.{_⊎_, inl, inr}
-use Prim.Native.Nat.{ℕ, zero, suc, _+_, _*_, _-_, _≤_, _<_}
+use Prim.Native.Nat.{ℕ, zero, suc, _≤_, _<_}
 use native.Mathlib.Omega.{arith}
 use lib.Dec.{eqb}
 use lib.ListN.{length}
-use Rattle.basics.specs.Bounded.{count}
-use Rattle.basics.proofs.Booleans.{eqb-eq, eq-eqb, eqb-ne, ne-eqb, clash}
+use Rattle.basics.proofs.Booleans.{eqb-eq, eq-eqb, ne-eqb, clash}
 use Rattle.basics.proofs.Bounded.{count-le, count-mono, count-less}
 use Rattle.lassos.specs.Graph.{Graph, Leads, Bounded, Way, stay, onward, Reached, Cycle, Found}
-use Rattle.lassos.specs.Search.{colour, stacked, cursor, waiting, whites, blacks, Search, Grows, Redder, Red-closed, Inner-asks, Inner-says, met, none}
+use Rattle.lassos.specs.Search.{colour, stacked, cursor, whites, blacks, Search, Grows, Redder, Red-closed}
 use Rattle.lassos.proofs.Stores.{same-or, Recolours, Enters, Advances}
 
 -- WAYS
@@ -40,12 +39,6 @@ unfolding whites
 whites-less n w w′ h x l e o =
     count-less n (λ x. eqb (colour w′ x) 0) (λ x. eqb (colour w x) 0)
     (λ x l e. eq-eqb (h x l (eqb-eq (colour w′ x) 0 e))) x l (ne-eqb (colour w′ x) 0 (λ z. omega arith)) (eq-eqb e)
-
-pub blacks-mono : (n : ℕ) (w w′ : List ℕ) → ((x : ℕ) → x < n → colour w′ x ≡ 2 → colour w x ≡ 2) → blacks n w′ ≤ blacks n w
-unfolding blacks
-blacks-mono n w w′ h =
-    count-mono n (λ x. eqb (colour w′ x) 2) (λ x. eqb (colour w x) 2)
-    (λ x l e. eq-eqb (h x l (eqb-eq (colour w′ x) 2 e)))
 
 pub blacks-less :
     (n : ℕ) (w w′ : List ℕ) → ((x : ℕ) → x < n → colour w′ x ≡ 2 → colour w x ≡ 2) → (x : ℕ) → x < n → colour w x ≡ 2 →

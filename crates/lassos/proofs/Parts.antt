@@ -1,16 +1,16 @@
 -- Laws of refusals 13 to 16: what each test finds, and what holds of a table and a lasso that none refuses. Assumes nothing.
-use mathlib.Core.Path.{_≡_, refl, sym, _∙_, ap}
+use mathlib.Core.Path.{_≡_, refl, sym, _∙_}
 use mathlib.Core.Bool.{Bool, true, false, _&&_, _||_, not, cond}
 use mathlib.Core.List.{List}
-use mathlib.Core.Logic.{_⊎_, inl, inr}
-use Prim.Native.Nat.{ℕ, zero, suc, _+_, _*_, _-_, _^_, _≤_, _<_}
+use mathlib.Core.Logic.{inl, inr}
+use Prim.Native.Nat.{ℕ, suc, _+_, _*_, _^_, _≤_, _<_}
 use native.Mathlib.Omega.{arith}
-use native.Mathlib.Nat.{mul-le-mul, mul-comm, mul-assoc}
+use native.Mathlib.Nat.{mul-le-mul}
 use lib.Dec.{ltb, eqb}
 use lib.ListN.{length, getD}
 use Rattle.basics.specs.Bounded.{each}
 use Rattle.basics.specs.Buffers.{or-else}
-use Rattle.basics.proofs.Booleans.{either, clash, and-l, and-r, and-make, not-both, eq-eqb, eqb-eq, eqb-ne, ne-eqb, lt-ltb, ge-ltb, ltb-lt, ltb-ge, or-false-l, or-false-r, true-not, false-not}
+use Rattle.basics.proofs.Booleans.{either, not-both, eq-eqb, eqb-eq, eqb-ne, ne-eqb, lt-ltb, ge-ltb, ltb-lt, ltb-ge, or-false-l, or-false-r}
 use Rattle.basics.proofs.Bounded.{each-all, each-make}
 use Rattle.automata.specs.Lasso.{all-below}
 use Rattle.tables.specs.Table.{n-of, k-of, wide-range, table-refusal}

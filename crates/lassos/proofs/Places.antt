@@ -1,7 +1,7 @@
 -- Laws of nodes as places: position and state of a node, its letter, and where the next position begins. Assumes nothing.
-use mathlib.Core.Path.{_≡_, refl, sym, _∙_, ap}
+use mathlib.Core.Path.{_≡_}
 use mathlib.Core.List.{List}
-use Prim.Native.Nat.{ℕ, suc, _+_, _*_, _-_, _/_, _%_, _^_, _≤_, _<_}
+use Prim.Native.Nat.{ℕ, suc, _+_, _*_, _-_, _/_, _^_, _≤_, _<_}
 use native.Mathlib.Omega.{arith}
 use native.Mathlib.Nat.{div-lt-iff-lt-mul, mul-le-mul-right}
 use native.Mathlib.Numerals.{add-one}

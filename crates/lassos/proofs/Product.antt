@@ -1,22 +1,21 @@
 -- The product graph of a valid table and a lasso: its edges stay inside, and an accepting node that is reached and lies on a
 -- cycle is an accepting cycle of the table's automaton over the lasso, and back. Assumes nothing.
 use mathlib.Core.Path.{_≡_, refl, sym, _∙_, ap}
-use mathlib.Core.Bool.{Bool, true, false, _&&_, _||_, not}
+use mathlib.Core.Bool.{true, _&&_, _||_, not}
 use mathlib.Core.List.{List}
 use mathlib.Core.Logic.{_⊎_, inl, inr}
-use Prim.Native.Nat.{ℕ, zero, suc, _+_, _*_, _-_, _/_, _%_, _≤_, _<_}
+use Prim.Native.Nat.{ℕ, zero, suc, _+_, _*_, _/_, _%_, _≤_, _<_}
 use native.Mathlib.Omega.{arith}
 use native.Mathlib.Nat.{mod-lt, mod-eq-of-lt, div-eq-of-lt, zero-add, zero-mul}
 use lib.Arith.{digits-lt, digits-div, digits-mod}
 use lib.Dec.{ltb, eqb}
 use lib.ListN.{length}
 use Rattle.basics.proofs.Booleans.{and-l, and-r, and-make, or-l, or-r, or-true, true-not, eqb-eq, eqb-self, eq-eqb, eqb-ne, ltb-lt, lt-ltb, clash}
-use Rattle.automata.specs.Automaton.{Automaton}
 use Rattle.automata.specs.Lasso.{positions, position-letter, next-position, Walk, stay, onward, Accepting-cycle}
 use Rattle.automata.proofs.Positions.{next-below}
-use Rattle.tables.specs.Table.{Limits, n-of, m-of, head-of, letter-of, target-of, next-of, is-initial, is-accepting, chain-has, edge, meaning}
-use Rattle.tables.proofs.Laws.{Valid, chain-step, chain-ends}
-use Rattle.lassos.specs.Graph.{Graph, Leads, Bounded, Way, Reached, Cycle, Found}
+use Rattle.tables.specs.Table.{Limits, n-of, m-of, head-of, letter-of, target-of, next-of, is-initial, chain-has, edge, meaning}
+use Rattle.tables.proofs.Laws.{Valid, chain-step}
+use Rattle.lassos.specs.Graph.{Leads, Bounded, Way, Found}
 use Rattle.lassos.specs.Product.{Chain-to, here, later, node-letter, node-base, product}
 
 -- CHAINS

@@ -1,11 +1,11 @@
 -- What a store in one block of the work words changes, and that it changes nothing else. Assumes nothing.
-use mathlib.Core.Path.{_≡_, refl, sym, _∙_}
+use mathlib.Core.Path.{_≡_, _∙_}
 use mathlib.Core.List.{List}
 use mathlib.Core.Logic.{_⊎_, inl, inr}
 use Prim.Native.Nat.{ℕ, _+_, _*_, _≤_, _<_}
 use native.Mathlib.Omega.{arith}
 use lib.Dec.{eqb, ltb}
-use lib.ListN.{length, getD, set, length-set}
+use lib.ListN.{length, set, length-set}
 use lib.Seq.{getD-set-same, getD-set-other}
 use Rattle.basics.proofs.Booleans.{either, eqb-eq, eqb-ne, ltb-lt, ltb-ge}
 use Rattle.lassos.specs.Search.{colour, stacked, cursor, waiting, recoloured, entered, advanced, reddened}

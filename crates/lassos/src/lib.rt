@@ -9,7 +9,6 @@ use tables::states_of;
 use tables::table_refusal;
 ghost use mathlib.Core.Path.{_≡_};
 ghost use Prim.Native.Nat.{_<_};
-ghost use lib.ListN.{length};
 ghost use Rattle.basics.specs.Buffers.{zeros};
 ghost use Rattle.automata.specs.Decision.{takes?};
 ghost use Rattle.automata.specs.Lasso.{all-below};

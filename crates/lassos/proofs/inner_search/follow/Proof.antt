@@ -1,6 +1,5 @@
 -- `lassos::inner_search::follow` meets its contract: a black target has room to wait. Assumes nothing.
 use borrow.Author.Needs.{needs}
-use native.Mathlib.Omega.{arith}
 use Rattle.lassos.proofs.Follows.{follow-record, follow-node, follow-wait, follow-other, follow-grey, follow-black, follow-rest}
 use Rattle.lassos.proofs.inner_search.follow.Statement.{statement}
 use Rattle.lassos.proofs.inner_search.follow.Tie as tie
