@@ -23,8 +23,8 @@ use Rattle.lassos.specs.Search.{colour, Search}
 use Rattle.lassos.specs.Steps.{Given, Explore-asks, Searched, found, nothing}
 use Rattle.lassos.specs.declared.Decision.the-variants.{Taken, NotTaken, Refused}
 use Rattle.lassos.proofs.Clears.{zeros-same, zeros-length, zeros-at}
+use Rattle.lassos.proofs.Colours.{coloured-le}
 use Rattle.lassos.proofs.Given.{size-is}
-use Rattle.lassos.proofs.Outer.{whites-le}
 use Rattle.lassos.proofs.Parts.{Accepted, accepted}
 use Rattle.lassos.proofs.Product.{found-cycle, cycle-found}
 
@@ -35,7 +35,7 @@ fresh g w long white =
     record {
       long = long;
       colours = λ x l. let k = white x l in omega arith;
-      room = let k = whites-le (g .size) w in omega arith;
+      room = let k = coloured-le 0 (g .size) w in omega arith;
       inside = λ i l. absurd (omega arith);
       grey = λ i l. absurd (omega arith);
       distinct = λ i j l m. absurd (omega arith);

@@ -6,19 +6,17 @@ use mathlib.Core.Logic.{_⊎_, inl, inr}
 use Prim.Native.Nat.{ℕ, suc, _+_, _*_, _-_, _%_, _≤_, _<_}
 use native.Mathlib.Omega.{arith}
 use native.Mathlib.Nat.{mod-lt}
-use lib.Dec.{eqb}
 use lib.ListN.{length, getD, set}
-use Rattle.basics.proofs.Booleans.{eq-eqb, clash}
-use Rattle.basics.proofs.Bounded.{count-less}
 use Rattle.tables.specs.Access.{Record-asks}
 use Rattle.tables.specs.Table.{n-of, m-of, head-of, target-of, next-of}
 use Rattle.lassos.specs.Graph.{Leads, onward, Reached}
 use Rattle.lassos.specs.Product.{Chain-to, node-letter, node-base, product}
-use Rattle.lassos.specs.Search.{colour, stacked, cursor, whites, entered, advanced, Search}
+use Rattle.lassos.specs.Search.{colour, stacked, cursor, entered, advanced, Search}
 use Rattle.lassos.specs.Steps.{Node-asks, Chain-asks, Next-white, White-at, no-white, white-at, Enter-asks, Top-asks, Descended, deeper, all-visited}
 use Rattle.lassos.proofs.Chains.{reads-record, chain-inside}
+use Rattle.lassos.proofs.Colours.{grows-grows, coloured-one}
 use Rattle.lassos.proofs.Given.{given-valid, given-bounded, given-few, given-some, given-small, given-node, given-chain, given-first}
-use Rattle.lassos.proofs.Outer.{grows-grows, enter-grows, enter-whites, enter-keeps, advance-grows, advance-whites, advance-keeps}
+use Rattle.lassos.proofs.Outer.{enter-grows, enter-whites, enter-keeps, advance-grows, advance-whites, advance-keeps}
 use Rattle.lassos.proofs.Stores.{Enters, enters, Advances, advances}
 
 -- ENTERING, as it is written
@@ -28,13 +26,6 @@ enter-state {x = x} a = let k = mod-lt x (a .some) in let f = a .few in omega ar
 pub entered-is : (n : ℕ) (w : List ℕ) (x d : ℕ) {r first : ℕ} → r ≡ first → set (set (set w x 1) (n + d) x) (2 * n + x) r ≡ entered n w x first d
 unfolding entered
 entered-is n w x d e = rw e
-
--- a white node is counted
-pub white-counted : (n : ℕ) (w : List ℕ) (x : ℕ) → x < n → colour w x ≡ 0 → 1 ≤ whites n w
-unfolding whites
-white-counted n w x l e =
-    let k = count-less n (λ y. false) (λ y. eqb (colour w y) 0) (λ y b f. absurd (clash f refl)) x l refl (eq-eqb e) in
-    omega arith
 
 -- a record that is not zero is one with a white target
 pub is-white : {t w : List ℕ} {letter base first r : ℕ} → Next-white t w letter base first r → (r ≡ 0 → ⊥) → White-at t w letter base first r
@@ -124,7 +115,7 @@ module _ {t u v w : List ℕ} {states size x depth : ℕ} (a : Top-asks t u v w 
 
         to-room : depth < product t u v .size
         to-room =
-            let k = white-counted (product t u v .size) w (base + to) to-inside to-white in
+            let k = coloured-one 0 (product t u v .size) w (base + to) to-inside to-white in
             let j = a .search .room in omega arith
 
         pub to-asks : Enter-asks w states size (base + to) depth

@@ -11,8 +11,9 @@ use Rattle.lassos.specs.Graph.{Leads, stay}
 use Rattle.lassos.specs.Product.{node-letter, node-base, product}
 use Rattle.lassos.specs.Search.{colour, waiting, blacks, Inner-says, Spread, None, Spread-says, Waiting, Since, Drained, met, none, spread}
 use Rattle.lassos.specs.Steps.{Spread-asks, Given, Spread-node-asks, Drain-asks, Meets-asks}
+use Rattle.lassos.proofs.Colours.{coloured-le}
 use Rattle.lassos.proofs.Given.{given-bounded, given-small, given-chain, given-first}
-use Rattle.lassos.proofs.Inner.{blacks-le, waiting-start, waiting-step, waiting-less, waiting-none, since-start, since-step, drained-met, inner-says}
+use Rattle.lassos.proofs.Inner.{waiting-start, waiting-step, waiting-less, waiting-none, since-start, since-step, drained-met, inner-says}
 
 -- what a count of waiting nodes says
 pub spread-small :
@@ -128,7 +129,7 @@ module _ {t u v w : List ℕ} {states size x : ℕ} (a : Meets-asks t u v w stat
         given = a .given;
         inside = a .asks .inside;
         long = a .asks .long;
-        room = let k = blacks-le (product t u v .size) w in omega arith;
+        room = let k = coloured-le 2 (product t u v .size) w in omega arith;
         colours = a .asks .colours;
       }
 

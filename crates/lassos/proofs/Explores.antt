@@ -19,8 +19,9 @@ use Rattle.lassos.specs.Graph.{Graph, Leads, Bounded, stay}
 use Rattle.lassos.specs.Product.{product}
 use Rattle.lassos.specs.Search.{colour, stacked, whites, recoloured, entered, Search, Grows, Inner-says, met, none}
 use Rattle.lassos.specs.Steps.{Given, Meets-asks, Top-asks, Descended, deeper, all-visited, Finished, closes, black, red, Enter-asks, Explore-asks, Explored, found, exhausted, Try-asks, Tried, tried, Searched, nothing}
+use Rattle.lassos.proofs.Colours.{grows-grows, grows-same}
 use Rattle.lassos.proofs.Given.{size-is, given-bounded, given-few, given-some, given-small, given-first, given-state}
-use Rattle.lassos.proofs.Outer.{grows-grows, grows-same, enter-grows, enter-keeps, none-found, Left-off, black-leaves, red-leaves, grey-cycle}
+use Rattle.lassos.proofs.Outer.{enter-grows, enter-keeps, none-found, Left-off, black-leaves, red-leaves, grey-cycle}
 use Rattle.lassos.proofs.Stores.{same-or, recolours, Enters, enters}
 
 -- A FINISHED NODE

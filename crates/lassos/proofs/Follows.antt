@@ -1,30 +1,21 @@
 -- Laws of the inner search's first two functions: one edge followed, and all edges of a chain. Assumes nothing.
 use mathlib.Core.Path.{_≡_, refl, sym, _∙_}
-use mathlib.Core.Bool.{false}
 use mathlib.Core.List.{List}
 use mathlib.Core.Logic.{_⊎_, inl, inr}
 use Prim.Native.Nat.{ℕ, _+_, _*_, _≤_, _<_}
 use native.Mathlib.Omega.{arith}
 use native.Mathlib.Numerals.{add-one}
-use lib.Dec.{eqb}
 use lib.ListN.{length, getD, set, length-set}
-use Rattle.basics.proofs.Booleans.{eq-eqb, clash}
-use Rattle.basics.proofs.Bounded.{count-less}
 use Rattle.tables.specs.Access.{Record-asks}
 use Rattle.tables.specs.Table.{letter-of, target-of, next-of}
 use Rattle.lassos.specs.Product.{Chain-to, here, later}
 use Rattle.lassos.specs.Search.{colour, blacks, reddened, Spread, Spread-says, met, spread}
 use Rattle.lassos.specs.Steps.{Chain-asks, Follow-asks, Followed, other-letter, grey-met, black-met, other-met, Spread-asks}
 use Rattle.lassos.proofs.Chains.{reads-edge, edge-target, chain-inside, next-asks}
-use Rattle.lassos.proofs.Inner.{was-grey, still-coloured, spread-start, spread-skip, spread-push}
+use Rattle.lassos.proofs.Colours.{coloured-one, was-grey, still-coloured}
+use Rattle.lassos.proofs.Inner.{spread-start, spread-skip, spread-push}
 use Rattle.lassos.proofs.Product.{chain-zero, chain-parts}
 use Rattle.lassos.proofs.Stores.{same-or, reddens}
-
--- a black node is counted
-pub black-counted : (n : ℕ) (w : List ℕ) (x : ℕ) → x < n → colour w x ≡ 2 → 1 ≤ blacks n w
-unfolding blacks
-black-counted n w x l e =
-    let k = count-less n (λ y. false) (λ y. eqb (colour w y) 2) (λ y b f. absurd (clash f refl)) x l refl (eq-eqb e) in omega arith
 
 -- ONE EDGE, as it is read
 module _ {t w : List ℕ} {states size base r wait : ℕ} (a : Follow-asks t w states size base r wait) where
@@ -37,7 +28,7 @@ module _ {t w : List ℕ} {states size base r wait : ℕ} (a : Follow-asks t w s
 
     pub follow-room : colour w (base + y) ≡ 2 → wait < size
     follow-room e =
-        let k = black-counted size w (base + y) (edge-target (a .edge) n) e in let l = a .room in omega arith
+        let k = coloured-one 2 size w (base + y) (edge-target (a .edge) n) e in let l = a .room in omega arith
 
     pub follow-wait : getD w (base + y) 0 ≡ 2 → 3 * size + wait < length (set w (base + y) 3)
     unfolding colour

@@ -7,58 +7,10 @@ use mathlib.Core.Logic.{_⊎_, inl, inr}
 use Prim.Native.Nat.{ℕ, suc, _+_, _*_, _≤_, _<_}
 use native.Mathlib.Omega.{arith}
 use lib.ListN.{length}
-use Rattle.basics.proofs.Bounded.{count-le}
 use Rattle.lassos.specs.Graph.{Graph, Leads, Bounded, Way, stay, onward}
 use Rattle.lassos.specs.Search.{colour, waiting, blacks, Redder, Red-closed, Inner-asks, Inner-says, Spread, None, Waiting, Since, Drained, met, none}
+use Rattle.lassos.proofs.Colours.{coloured-le, coloured-less, redder-same, redder-redder, stays-red, was-grey, was-white, was-black, was-finished, stays-visited, red-or-new, still-coloured}
 use Rattle.lassos.proofs.Stores.{same-or, below-or, Reddens}
-use Rattle.lassos.proofs.Outer.{blacks-less}
-
-pub blacks-le : (n : ℕ) (w : List ℕ) → blacks n w ≤ n
-unfolding blacks
-blacks-le n w = count-le n _
-
--- TURNING RED
-pub redder-same : {n : ℕ} {w : List ℕ} → Redder n w w
-redder-same = record { turned = λ x l. inl refl; stack = λ i l. refl; cursors = λ x l. refl }
-
-module _ {n : ℕ} {w w′ : List ℕ} (r : Redder n w w′) where
-  pub stays-red : (x : ℕ) → x < n → colour w x ≡ 3 → colour w′ x ≡ 3
-  stays-red x l k = elim (r .turned x l) [ inl s ↦ s ∙ k | inr s ↦ s .1 ]
-
-  pub was-grey : (x : ℕ) → x < n → colour w′ x ≡ 1 → colour w x ≡ 1
-  was-grey x l k = elim (r .turned x l) [ inl s ↦ sym s ∙ k | inr s ↦ absurd (let j = s .1 in omega arith) ]
-
-  pub was-white : (x : ℕ) → x < n → colour w′ x ≡ 0 → colour w x ≡ 0
-  was-white x l k = elim (r .turned x l) [ inl s ↦ sym s ∙ k | inr s ↦ absurd (let j = s .1 in omega arith) ]
-
-  pub was-black : (x : ℕ) → x < n → colour w′ x ≡ 2 → colour w x ≡ 2
-  was-black x l k = elim (r .turned x l) [ inl s ↦ sym s ∙ k | inr s ↦ absurd (let j = s .1 in omega arith) ]
-
-  pub was-finished : (x : ℕ) → x < n → 2 ≤ colour w′ x → 2 ≤ colour w x
-  was-finished x l o = elim (r .turned x l) [ inl s ↦ omega arith | inr s ↦ (let j = s .0 in omega arith) ]
-
-  pub stays-visited : (x : ℕ) → x < n → 1 ≤ colour w x → 1 ≤ colour w′ x
-  stays-visited x l o = elim (r .turned x l) [ inl s ↦ omega arith | inr s ↦ (let j = s .1 in omega arith) ]
-
-  -- red now: red before, or black
-  pub red-or-new : (x : ℕ) → x < n → colour w′ x ≡ 3 → (colour w x ≡ 3) ⊎ (colour w x ≡ 2)
-  red-or-new x l k = elim (r .turned x l) [ inl s ↦ inl (sym s ∙ k) | inr s ↦ inr (s .0) ]
-
-  pub still-coloured : ((x : ℕ) → x < n → colour w x ≤ 3) → (x : ℕ) → x < n → colour w′ x ≤ 3
-  still-coloured h x l = elim (r .turned x l) [ inl s ↦ (let j = h x l in omega arith) | inr s ↦ (let j = s .1 in omega arith) ]
-
-pub redder-redder : {n : ℕ} {w w1 w2 : List ℕ} → Redder n w w1 → Redder n w1 w2 → Redder n w w2
-redder-redder {n} {w} {w1} {w2} p q =
-    record {
-      turned =
-          λ x l.
-          elim (q .turned x l) [
-            | inl s ↦ elim (p .turned x l) [ inl t ↦ inl (s ∙ t) | inr t ↦ inr (t .0, s ∙ t .1) ]
-            | inr s ↦ inr (was-black p x l (s .0), s .1)
-          ];
-      stack = λ i l. q .stack i l ∙ p .stack i l;
-      cursors = λ x l. q .cursors x l ∙ p .cursors x l;
-    }
 
 -- ONE NODE'S EDGES
 pub spread-start : {n : ℕ} {To : ℕ → Type 0} {w : List ℕ} {a : ℕ} → Spread n To To w w a a
@@ -121,7 +73,7 @@ module _ {n : ℕ} {To Left Left′ : ℕ → Type 0} {w w1 : List ℕ} {a b : �
 
     pub push-blacks : blacks n w2 < blacks n w1
     push-blacks =
-        blacks-less n w1 w2 (λ x l k. was-black push-redder x l k) y (below y target) black (e .here)
+        coloured-less 2 n w1 w2 (was-black push-redder) y (below y target) black (λ z. let k = e .here in omega arith)
 
     push-place : (i : ℕ) → a ≤ i → i < suc b → ((i ≡ b) × (waiting n w2 i ≡ y)) ⊎ ((i < b) × (waiting n w2 i ≡ waiting n w1 i))
     push-place i low high =
@@ -187,7 +139,7 @@ module _ {g : Graph} (closed : Bounded g) where
     waiting-start =
         record {
           long = let k = asks .long in omega arith;
-          room = let k = h .room in let j = blacks-le (g .size) w in omega arith;
+          room = let k = h .room in let j = coloured-le 2 (g .size) w in omega arith;
           colours = still-coloured (h .redder) (asks .colours);
           inside = λ i l. h .inside i (omega arith) l;
           reds = λ i l. h .reds i (omega arith) l;

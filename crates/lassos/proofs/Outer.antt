@@ -6,54 +6,17 @@ use mathlib.Core.List.{List}
 use mathlib.Core.Logic.{_⊎_, inl, inr}
 use Prim.Native.Nat.{ℕ, zero, suc, _≤_, _<_}
 use native.Mathlib.Omega.{arith}
-use lib.Dec.{eqb}
 use lib.ListN.{length}
-use Rattle.basics.proofs.Booleans.{eqb-eq, eq-eqb, ne-eqb, clash}
-use Rattle.basics.proofs.Bounded.{count-le, count-mono, count-less}
+use Rattle.basics.proofs.Booleans.{clash}
 use Rattle.lassos.specs.Graph.{Graph, Leads, Bounded, Way, stay, onward, Reached, Cycle, Found}
-use Rattle.lassos.specs.Search.{colour, stacked, cursor, whites, blacks, Search, Grows, Redder, Red-closed}
+use Rattle.lassos.specs.Search.{colour, stacked, cursor, whites, Search, Grows, Redder, Red-closed}
+use Rattle.lassos.proofs.Colours.{grows-grows, coloured-mono, coloured-less, stays-visited, stays-grey, was-grey, was-white, was-visited, was-finished}
 use Rattle.lassos.proofs.Stores.{same-or, Recolours, Enters, Advances}
 
 -- WAYS
 pub way-way : {g : Graph} {x y z : ℕ} → Way g x y → Way g y z → Way g x z
 way-way p stay = p
 way-way p (onward z q e) = onward z (way-way p q) e
-
--- COLOURS
-pub whites-le : (n : ℕ) (w : List ℕ) → whites n w ≤ n
-unfolding whites
-whites-le n w = count-le n _
-
--- where no node turns white, there are no more white nodes
-pub whites-mono : (n : ℕ) (w w′ : List ℕ) → ((x : ℕ) → x < n → colour w′ x ≡ 0 → colour w x ≡ 0) → whites n w′ ≤ whites n w
-unfolding whites
-whites-mono n w w′ h =
-    count-mono n (λ x. eqb (colour w′ x) 0) (λ x. eqb (colour w x) 0)
-    (λ x l e. eq-eqb (h x l (eqb-eq (colour w′ x) 0 e)))
-
--- and fewer, where a white one has got a colour
-pub whites-less :
-    (n : ℕ) (w w′ : List ℕ) → ((x : ℕ) → x < n → colour w′ x ≡ 0 → colour w x ≡ 0) → (x : ℕ) → x < n → colour w x ≡ 0 →
-    1 ≤ colour w′ x → whites n w′ < whites n w
-unfolding whites
-whites-less n w w′ h x l e o =
-    count-less n (λ x. eqb (colour w′ x) 0) (λ x. eqb (colour w x) 0)
-    (λ x l e. eq-eqb (h x l (eqb-eq (colour w′ x) 0 e))) x l (ne-eqb (colour w′ x) 0 (λ z. omega arith)) (eq-eqb e)
-
-pub blacks-less :
-    (n : ℕ) (w w′ : List ℕ) → ((x : ℕ) → x < n → colour w′ x ≡ 2 → colour w x ≡ 2) → (x : ℕ) → x < n → colour w x ≡ 2 →
-    colour w′ x ≡ 3 → blacks n w′ < blacks n w
-unfolding blacks
-blacks-less n w w′ h x l e o =
-    count-less n (λ x. eqb (colour w′ x) 2) (λ x. eqb (colour w x) 2)
-    (λ x l e. eq-eqb (h x l (eqb-eq (colour w′ x) 2 e))) x l (ne-eqb (colour w′ x) 2 (λ z. omega arith)) (eq-eqb e)
-
--- VISITED
-pub grows-grows : {n : ℕ} {w w1 w2 : List ℕ} → Grows n w w1 → Grows n w1 w2 → Grows n w w2
-grows-grows p q = record { stays = λ x l o. q .stays x l (p .stays x l o) }
-
-pub grows-same : {n : ℕ} {w : List ℕ} → Grows n w w
-grows-same = record { stays = λ x l o. o }
 
 -- one node less on the stack
 pub record Left-off (g : Graph) (w w′ : List ℕ) (d : ℕ) : Type 0 where
@@ -77,9 +40,9 @@ module _ {g : Graph} (closed : Bounded g) where
 
     pub enter-whites : whites (g .size) w′ < whites (g .size) w
     enter-whites =
-        whites-less (g .size) w w′
+        coloured-less 0 (g .size) w w′
         (λ y b z. elim (enter-colour y b) [ inl s ↦ rw s white | inr s ↦ sym s ∙ z ])
-        x l white (let k = e .here in omega arith)
+        x l white (λ z. let k = e .here in omega arith)
 
     module _ (found : Reached g x) (small : g .first x ≤ g .last)
         (link : (i : ℕ) → suc i ≡ d → Leads g (stacked (g .size) w i) x) where
@@ -186,7 +149,7 @@ module _ {g : Graph} (closed : Bounded g) where
     advance-grows = record { stays = λ y b o. let k = e .colours y b in omega arith }
 
     pub advance-whites : whites (g .size) w′ ≤ whites (g .size) w
-    advance-whites = whites-mono (g .size) w w′ (λ y b z. sym (e .colours y b) ∙ z)
+    advance-whites = coloured-mono 0 (g .size) w w′ (λ y b z. sym (e .colours y b) ∙ z)
 
     pub advance-keeps :
         r ≤ g .last → ((y : ℕ) → g .Ahead x r y → g .Ahead x (cursor (g .size) w x) y) →
@@ -257,7 +220,7 @@ module _ {g : Graph} (closed : Bounded g) where
 
     pub leave-whites : whites (g .size) w′ ≤ whites (g .size) w
     leave-whites =
-        whites-mono (g .size) w w′
+        coloured-mono 0 (g .size) w w′
         (λ y b z.
         elim (leave-colour y) [
           | inl s ↦ absurd (let k = e .here in let q : colour w′ (stacked (g .size) w d) ≡ 0 = rw s at z in omega arith)
@@ -348,25 +311,10 @@ module _ {g : Graph} (closed : Bounded g) where
   -- THE INNER SEARCH in between keeps everything
   module _ {w w′ : List ℕ} {d : ℕ} (h : Search g w d) (r : Redder (g .size) w w′) where
     pub redder-grows : Grows (g .size) w w′
-    redder-grows =
-        record { stays = λ y b o. elim (r .turned y b) [ inl s ↦ omega arith | inr s ↦ (let k = s .1 in omega arith) ] }
+    redder-grows = record { stays = stays-visited r }
 
     pub redder-whites : whites (g .size) w′ ≤ whites (g .size) w
-    redder-whites =
-        whites-mono (g .size) w w′
-        (λ y b z. elim (r .turned y b) [ inl s ↦ sym s ∙ z | inr s ↦ absurd (let k = s .1 in omega arith) ])
-
-    pub redder-grey : (y : ℕ) → y < g .size → colour w y ≡ 1 → colour w′ y ≡ 1
-    redder-grey y b k = elim (r .turned y b) [ inl s ↦ s ∙ k | inr s ↦ absurd (let j = s .0 in omega arith) ]
-
-    pub grey-redder : (y : ℕ) → y < g .size → colour w′ y ≡ 1 → colour w y ≡ 1
-    grey-redder y b k = elim (r .turned y b) [ inl s ↦ sym s ∙ k | inr s ↦ absurd (let j = s .1 in omega arith) ]
-
-    visited-before : (y : ℕ) → y < g .size → 1 ≤ colour w′ y → 1 ≤ colour w y
-    visited-before y b o = elim (r .turned y b) [ inl s ↦ omega arith | inr s ↦ (let j = s .0 in omega arith) ]
-
-    finished-before : (y : ℕ) → y < g .size → 2 ≤ colour w′ y → 2 ≤ colour w y
-    finished-before y b o = elim (r .turned y b) [ inl s ↦ omega arith | inr s ↦ (let j = s .0 in omega arith) ]
+    redder-whites = coloured-mono 0 (g .size) w w′ (was-white r)
 
     pub redder-keeps : length w′ ≡ length w → Red-closed g w′ → Search g w′ d
     redder-keeps same reds =
@@ -378,26 +326,26 @@ module _ {g : Graph} (closed : Bounded g) where
               elim (r .turned y b) [ inl s ↦ (let k = h .colours y b in omega arith) | inr s ↦ (let k = s .1 in omega arith) ];
           room = let k = h .room in let j = redder-whites in omega arith;
           inside = λ i b. rw (r .stack i (omega arith)) (h .inside i b);
-          grey = λ i b. rw (r .stack i (omega arith)) (redder-grey (stacked (g .size) w i) (h .inside i b) (h .grey i b));
+          grey = λ i b. rw (r .stack i (omega arith)) (stays-grey r (stacked (g .size) w i) (h .inside i b) (h .grey i b));
           distinct = λ i j lt b s. h .distinct i j lt b (sym (r .stack i (omega arith)) ∙ s ∙ r .stack j (omega arith));
           on-stack =
               λ y b k.
-              let s = h .on-stack y b (grey-redder y b k) in
+              let s = h .on-stack y b (was-grey r y b k) in
               (s .0, s .1, r .stack (s .0) (let t = s .1 in omega arith) ∙ s .2);
           linked = λ i b. rw (r .stack i (omega arith), r .stack (suc i) (omega arith)) (h .linked i b);
-          reached = λ y b o. h .reached y b (visited-before y b o);
-          cursors = λ y b o. rw (r .cursors y b) (h .cursors y b (visited-before y b o));
-          on-chain = λ y z b o k. h .on-chain y z b (visited-before y b o) (rw (r .cursors y b) at k);
+          reached = λ y b o. h .reached y b (was-visited r y b o);
+          cursors = λ y b o. rw (r .cursors y b) (h .cursors y b (was-visited r y b o));
+          on-chain = λ y z b o k. h .on-chain y z b (was-visited r y b o) (rw (r .cursors y b) at k);
           ahead =
               λ y z b o t.
-              elim (h .ahead y z b (visited-before y b o) t) [
+              elim (h .ahead y z b (was-visited r y b o) t) [
                 | inl v ↦ inl (redder-grows .stays z (closed .edge y z b t) v)
                 | inr v ↦ inr (rw (r .cursors y b) v)
               ];
           finished =
-              λ y z b o t. redder-grows .stays z (closed .edge y z b t) (h .finished y z b (finished-before y b o) t);
+              λ y z b o t. redder-grows .stays z (closed .edge y z b t) (h .finished y z b (was-finished r y b o) t);
           red = reds .edges;
-          fruitless = λ y b o. h .fruitless y b (finished-before y b o);
+          fruitless = λ y b o. h .fruitless y b (was-finished r y b o);
         }
 
   -- a way from a red node leads to red nodes

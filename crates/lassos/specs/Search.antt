@@ -26,12 +26,16 @@ cursor n w x = getD w (2 * n + x) 0
 unfoldable pub waiting : (size : ℕ) → (words : List ℕ) → (index : ℕ) → ℕ
 waiting n w i = getD w (3 * n + i) 0
 
--- how many nodes are white, and black
-unfoldable pub whites : (size : ℕ) → (words : List ℕ) → ℕ
-whites n w = count n (λ x. eqb (colour w x) 0)
+-- how many nodes have a colour
+unfoldable pub coloured : (colour size : ℕ) → (words : List ℕ) → ℕ
+coloured c n w = count n (λ x. eqb (colour w x) c)
 
-unfoldable pub blacks : (size : ℕ) → (words : List ℕ) → ℕ
-blacks n w = count n (λ x. eqb (colour w x) 2)
+-- how many are white, and black
+abbrev pub whites : (size : ℕ) → (words : List ℕ) → ℕ
+whites n w = coloured 0 n w
+
+abbrev pub blacks : (size : ℕ) → (words : List ℕ) → ℕ
+blacks n w = coloured 2 n w
 
 -- THE STORES
 -- a node gets a colour
