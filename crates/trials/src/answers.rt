@@ -1,4 +1,6 @@
 // Each trial is one line of output: its name and the answer.
+use complement::Counts;
+use complement::build_complement;
 use lassos::Decision;
 use lassos::decide_lasso;
 use patterns::Checked;
@@ -33,6 +35,19 @@ fn print_decision(name: &[u8], answer: Decision) {
     }
 }
 
+fn print_counts(name: &[u8], counts: Counts) {
+    io::write_all(1, name);
+    if counts.number != 0 {
+        print_refused(counts.number);
+    } else {
+        io::write_all(1, b": states ");
+        io::print_decimal(1, counts.states as u64);
+        io::write_all(1, b" edges ");
+        io::print_decimal(1, counts.edges as u64);
+        io::write_all(1, b"\n");
+    }
+}
+
 // Checks a pattern.
 pub(crate) fn check(name: &[u8], table: &[u16]) {
     print_checked(name, check_pattern(table));
@@ -59,4 +74,29 @@ pub(crate) fn long_lasso(name: &[u8], table: &[u16], prefix: &[u8], cycle: &[u8]
 pub(crate) fn wide_lasso(name: &[u8], table: &[u16], prefix: &[u8], cycle: &[u8]) {
     let mut work = [7u32; 524280];
     lasso_in(name, table, prefix, cycle, &mut work);
+}
+
+// Builds a pattern's complement in so many table words, at most 32, and so many words of records, at most 16.
+pub(crate) fn build(name: &[u8], table: &[u16], length: usize, room: usize) {
+    let mut words = [7u16; 32];
+    let mut sets = [7u32; 16];
+    if length <= 32 {
+        if room <= 16 {
+            print_counts(
+                name,
+                build_complement(table, &mut words[0..length], &mut sets[0..room]),
+            );
+        }
+    }
+}
+
+// Builds a pattern's complement, and decides a lasso over it.
+pub(crate) fn complement_lasso(name: &[u8], table: &[u16], prefix: &[u8], cycle: &[u8]) {
+    let mut words = [7u16; 64];
+    let mut sets = [7u32; 64];
+    let counts = build_complement(table, &mut words, &mut sets);
+    let used = 3 + 2 * counts.states as usize + 3 * counts.edges as usize;
+    if used <= 64 {
+        lasso(name, &words[0..used], prefix, cycle);
+    }
 }

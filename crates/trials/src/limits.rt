@@ -2,10 +2,8 @@
 use crate::answers::lasso;
 use crate::answers::lasso_in;
 use crate::answers::long_lasso;
-
-const A: [u16; 19] = [2, 2, 4, 1, 1, 2, 4, 0, 0, 2, 1, 0, 3, 0, 1, 0, 0, 1, 0];
-
-const B: [u16; 19] = [2, 2, 4, 1, 1, 2, 3, 0, 0, 2, 1, 1, 0, 0, 0, 4, 1, 1, 0];
+use crate::shapes::A;
+use crate::shapes::B;
 
 fn long_over_a() {
     let ones = [1; 4096];

@@ -1,5 +1,11 @@
-// Tables too large to be written out, filled by loops.
+// Document 01's patterns A and B, and tables too large to be written out, filled by loops.
 ghost use Prim.Native.Nat.{_<_};
+
+// From some place on only 0.
+pub(crate) const A: [u16; 19] = [2, 2, 4, 1, 1, 2, 4, 0, 0, 2, 1, 0, 3, 0, 1, 0, 0, 1, 0];
+
+// 1 without end.
+pub(crate) const B: [u16; 19] = [2, 2, 4, 1, 1, 2, 3, 0, 0, 2, 1, 1, 0, 0, 0, 4, 1, 1, 0];
 
 fn put(table: &mut [u16], at: usize, word: usize) {
     if at < table.len() {

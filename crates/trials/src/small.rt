@@ -1,15 +1,16 @@
 // Lassos over small tables of different shapes. A lasso is named by its prefix and, in brackets, its loop.
 use crate::answers::lasso;
+use crate::shapes::A;
+use crate::shapes::B;
 
-// Document 01's pattern A: from some place on only 0.
+// From some place on only 0.
 fn pattern_a() {
-    let table = [2, 2, 4, 1, 1, 2, 4, 0, 0, 2, 1, 0, 3, 0, 1, 0, 0, 1, 0];
-    lasso(b"A, (0)", &table, &[], &[0]);
-    lasso(b"A, (1)", &table, &[], &[1]);
-    lasso(b"A, 1 (0)", &table, &[1], &[0]);
-    lasso(b"A, 0 (1)", &table, &[0], &[1]);
-    lasso(b"A, (0 1)", &table, &[], &[0, 1]);
-    lasso(b"A, 1 1 1 (0 0)", &table, &[1, 1, 1], &[0, 0]);
+    lasso(b"A, (0)", &A, &[], &[0]);
+    lasso(b"A, (1)", &A, &[], &[1]);
+    lasso(b"A, 1 (0)", &A, &[1], &[0]);
+    lasso(b"A, 0 (1)", &A, &[0], &[1]);
+    lasso(b"A, (0 1)", &A, &[], &[0, 1]);
+    lasso(b"A, 1 1 1 (0 0)", &A, &[1, 1, 1], &[0, 0]);
 }
 
 // The table that document 01 gives for A's complement.
@@ -23,15 +24,14 @@ fn complement_of_a() {
     lasso(b"complement of A, 1 1 1 (0 0)", &table, &[1, 1, 1], &[0, 0]);
 }
 
-// Document 01's pattern B: 1 without end. With 1 on the prefix only, the accepting state is passed there and never again.
+// 1 without end. With 1 on the prefix only, the accepting state is passed there and never again.
 fn pattern_b() {
-    let table = [2, 2, 4, 1, 1, 2, 3, 0, 0, 2, 1, 1, 0, 0, 0, 4, 1, 1, 0];
-    lasso(b"B, (0)", &table, &[], &[0]);
-    lasso(b"B, (1)", &table, &[], &[1]);
-    lasso(b"B, (0 1)", &table, &[], &[0, 1]);
-    lasso(b"B, 1 (0)", &table, &[1], &[0]);
-    lasso(b"B, 1 1 1 (0)", &table, &[1, 1, 1], &[0]);
-    lasso(b"B, 0 (0 0 1)", &table, &[0], &[0, 0, 1]);
+    lasso(b"B, (0)", &B, &[], &[0]);
+    lasso(b"B, (1)", &B, &[], &[1]);
+    lasso(b"B, (0 1)", &B, &[], &[0, 1]);
+    lasso(b"B, 1 (0)", &B, &[1], &[0]);
+    lasso(b"B, 1 1 1 (0)", &B, &[1, 1, 1], &[0]);
+    lasso(b"B, 0 (0 0 1)", &B, &[0], &[0, 0, 1]);
 }
 
 // An accepting state with a loop, in which no run starts.
