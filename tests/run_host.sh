@@ -23,6 +23,7 @@ run_tests() {
     "$1/test_calls"
     "$1/test_rooms"
     "$1/test_limits"
+    "$1/test_records"
     host/test_bench.sh "$1/tubochre-bench"
 }
 
