@@ -41,6 +41,7 @@ host: $(OUT)/tubochre-bench $(TESTS)
 
 bench: $(OUT)/bench
 	$(OUT)/bench
+	bench/instructions.sh $(OUT)/bench
 
 $(OUT)/tubochre-bench: host/bench.c $(ARCHIVE)
 $(OUT)/test_header: host/test_header.c

@@ -1,12 +1,16 @@
 /* The library's calls beside an unverified reference written for speed, in one process, on the same inputs.
  *
- *     bench [--quick]
+ *     bench [--quick] [check] [build] [growth] [stack]
+ *     bench count LETTERS
  *
  * For each row both are run once to warm up, and what they answer and leave is compared. Then they take turns, and the
  * medians of the processor's time are printed. What is timed is whole calls: the library reads its table, works, and
  * clears what its contract says it clears (unused words of a build, all work words of a decision); the reference
  * allocates and frees its own tables, clears the unused words of a build, and clears one of its five work blocks before
- * a decision and none after it. */
+ * a decision and none after it.
+ *
+ * `count` makes one decision only, with a loop of so many letters on the table of the growth rows, for a tool that
+ * counts its instructions (instructions.sh). */
 #define _GNU_SOURCE
 #include "draw.h"
 #include "fast.h"
@@ -18,9 +22,10 @@
 #include <stdio.h>
 #include <stdlib.h>
 #include <string.h>
+#include <sys/mman.h>
 #include <time.h>
 
-enum { ROUNDS_MOST = 201, ROUNDS_FEWEST = 5 };
+enum { ROUNDS_MOST = 201, ROUNDS_FEWEST = 3 };
 
 static const size_t most_lent = (size_t)1400 * 1000 * 1000; /* larger rows are left out, and said to be */
 
@@ -35,6 +40,20 @@ static void *memory(size_t bytes)
         fputs("bench: out of memory\n", stderr);
         exit(2);
     }
+    return p;
+}
+
+/* On large pages where the system has them: otherwise the cost of finding pages would grow with the work words. */
+static void *large_memory(size_t bytes)
+{
+    const size_t page = (size_t)2 << 20, room = (bytes / page + 1) * page;
+    void *const p = aligned_alloc(page, room);
+    if (p == NULL) {
+        fputs("bench: out of memory\n", stderr);
+        exit(2);
+    }
+    if (madvise(p, room, MADV_HUGEPAGE) != 0)
+        fputs("bench: no large pages\n", stderr);
     return p;
 }
 
@@ -327,7 +346,24 @@ static void fill_loop(uint8_t *loop, size_t len, uint32_t letters)
 /* What a decision of the library took, and how much there was to do. */
 struct cost {
     double seconds, units; /* units: records times positions; 0 where the row was left out */
+    double ratio;          /* beside the reference */
 };
+
+/* What it takes to clear the library's work words once before a decision and once after it. */
+static double clearing(struct input *in, size_t bytes)
+{
+    double times[5];
+    int i;
+    for (i = 0; i < 5; i++) {
+        const double start = now();
+        memset(in->work, 0, bytes);
+        in->answer = in->work[0];
+        memset(in->work, 0, bytes);
+        in->answer = in->work[0];
+        times[i] = now() - start;
+    }
+    return median(times, 5);
+}
 
 static struct cost lasso_row(const char *table_name, const uint16_t *table, size_t len, size_t loop_len)
 {
@@ -337,7 +373,7 @@ static struct cost lasso_row(const char *table_name, const uint16_t *table, size
     struct times times;
     char name[80];
     uint32_t by_library;
-    struct cost cost = {0, 0};
+    struct cost cost = {0, 0, 0};
     snprintf(name, sizeof name, "%s, loop of %zu", table_name, loop_len);
     if (lent > most_lent || (quick && lent > most_lent / 100)) {
         printf("%-44s left out: it would be lent %zu bytes\n", name, lent);
@@ -349,7 +385,7 @@ static struct cost lasso_row(const char *table_name, const uint16_t *table, size
     in.len = len;
     in.prefix = in.loop = loop;
     in.loop_len = loop_len;
-    in.work = memory(fast_work_words(table[0], 0, loop_len) * sizeof *in.work);
+    in.work = large_memory(fast_work_words(table[0], 0, loop_len) * sizeof *in.work);
     lasso_by_library(&in);
     by_library = in.answer;
     lasso_by_reference(&in);
@@ -357,9 +393,10 @@ static struct cost lasso_row(const char *table_name, const uint16_t *table, size
     times = take_turns(lasso_by_library, lasso_by_reference, &in);
     cost.seconds = times.library;
     cost.units = (double)table[2] * (double)loop_len;
+    cost.ratio = times.library / times.reference;
     print_times(name, times);
-    printf("%.2f ns a record and position, %s, %zu bytes lent\n", cost.seconds * 1e9 / cost.units,
-           by_library == TUBOCHRE_TAKEN ? "taken" : "not taken", lent);
+    printf("%6.2f ns a unit, %s, %zu bytes lent, %.1f us to clear them\n", cost.seconds * 1e9 / cost.units,
+           by_library == TUBOCHRE_TAKEN ? "taken" : "not taken", lent, clearing(&in, lent) * 1e6);
     free(in.work);
     return cost;
 }
@@ -387,29 +424,33 @@ static void widen(struct spread *s, double unit)
         s->most = unit;
 }
 
-static void print_spread(const char *what, struct spread s)
+static void print_spread(const char *what, struct spread s, double scale)
 {
-    printf("    %s: %.2f to %.2f ns a unit, %s 30 percent\n", what, s.least * 1e9, s.most * 1e9,
+    printf("    %s: %.2f to %.2f, %s 30 percent\n", what, s.least * scale, s.most * scale,
            s.most <= 1.3 * s.least ? "within" : "NOT within");
 }
 
 /* Each call also reads its whole table once, however long the lasso is. So units are shown over whole calls, and over
- * what each row has more than the row before it. */
+ * what each row has more than the row before it. More work words miss the caches more often, in any search: the ratios
+ * beside the reference, whose search is linear too, are free of that. */
 static void print_growth(const char *what, const struct cost *cost, int count)
 {
-    struct spread whole = {0, 0}, added = {0, 0};
+    struct spread whole = {0, 0}, added = {0, 0}, ratio = {0, 0};
     int i;
     for (i = 0; i < count && cost[i].units > 0; i++) {
         widen(&whole, cost[i].seconds / cost[i].units);
+        widen(&ratio, cost[i].ratio);
         if (i > 0)
             widen(&added, (cost[i].seconds - cost[i - 1].seconds) / (cost[i].units - cost[i - 1].units));
     }
     printf("%s, %d times doubled:\n", what, i - 1);
-    print_spread("whole calls", whole);
-    print_spread("added work", added);
+    print_spread("whole calls, ns a unit", whole, 1e9);
+    print_spread("added work, ns a unit", added, 1e9);
+    print_spread("ratio beside the reference", ratio, 1);
 }
 
-/* `reach`: how far a state's edges lead. All over the table they miss the processor's caches where it is large. */
+/* `reach`: how far a state's edges lead: to itself and its next ("own"), or all over the table ("scattered"), which
+ * misses the processor's caches more often. */
 static void growth_by_loop(const char *edges, uint32_t reach)
 {
     const uint32_t states = 10000;
@@ -436,8 +477,8 @@ static void growth_by_table(void)
         const uint32_t states = 625U << i;
         const size_t len = tubochre_table_words(states, 3 * states);
         uint16_t *const table = memory(len * sizeof *table);
-        barren_table(table, states, 50);
-        snprintf(name, sizeof name, "%" PRIu32 " states, %" PRIu32 " near edges", states, 3 * states);
+        barren_table(table, states, 1);
+        snprintf(name, sizeof name, "%" PRIu32 " states, %" PRIu32 " own edges", states, 3 * states);
         cost[i] = lasso_row(name, table, len, 16);
         free(table);
     }
@@ -489,53 +530,102 @@ static void stack_rows(void)
 
 /* ---- The whole. */
 
+/* Patterns for builds, and for decisions on their complements: rings of p and r states, or forks by a seed. */
+static const struct built_case {
+    const char *name;
+    int rings, large; /* large: left out by --quick */
+    uint32_t p, r;    /* rings */
+    uint32_t seed, states;
+} cases[] = {
+    {"rings, 1,024 states", 1, 0, 1, 10, 0, 0},  {"forks, 1,044 states", 0, 0, 0, 0, 0, 14},
+    {"rings, 10,240 states", 1, 0, 5, 11, 0, 0}, {"forks, 9,757 states", 0, 0, 0, 0, 17, 14},
+    {"forks, 28,906 states", 0, 1, 0, 0, 17, 13}, {"rings, 57,344 states", 1, 1, 7, 13, 0, 0},
+};
+
+enum { CASES = sizeof cases / sizeof cases[0] };
+
 static void build_and_lasso_rows(void)
 {
     static struct drawn_table t;
-    struct complement kept[6];
+    struct complement kept[CASES];
+    int i, count = CASES;
+    while (quick && cases[count - 1].large)
+        count--;
     print_heading("build (reference with a hash table, or a scan)", "");
-    ring_of(&t, 1, 10);
-    kept[0] = build_row("rings", &t);
-    forking_pattern(&t, 0, 3, 14);
-    kept[1] = build_row("forks", &t);
-    ring_of(&t, 5, 11);
-    kept[2] = build_row("rings", &t);
-    forking_pattern(&t, 17, 3, 14);
-    kept[3] = build_row("forks", &t);
-    if (quick) {
-        puts("--quick leaves out the builds of 28,906 and of 57,344 states");
-    } else {
-        forking_pattern(&t, 17, 3, 13);
-        kept[4] = build_row("forks", &t);
-        ring_of(&t, 7, 13);
-        kept[5] = build_row("rings", &t);
+    for (i = 0; i < count; i++) {
+        if (cases[i].rings)
+            ring_of(&t, cases[i].p, cases[i].r);
+        else
+            forking_pattern(&t, cases[i].seed, 3, cases[i].states);
+        kept[i] = build_row(cases[i].rings ? "rings" : "forks", &t);
     }
-    print_heading("lasso on these complements", "");
-    lasso_rows("rings, 1,024 states", &kept[0]);
-    lasso_rows("forks, 1,044 states", &kept[1]);
-    lasso_rows("rings, 10,240 states", &kept[2]);
-    lasso_rows("forks, 9,757 states", &kept[3]);
-    if (!quick) {
-        lasso_rows("forks, 28,906 states", &kept[4]);
-        lasso_rows("rings, 57,344 states", &kept[5]);
+    print_heading("lasso on these complements", "a unit: a record at a position");
+    for (i = 0; i < count; i++)
+        lasso_rows(cases[i].name, &kept[i]);
+    if (count < CASES)
+        printf("--quick leaves out the %d largest complements\n", CASES - count);
+}
+
+static void growth_rows(void)
+{
+    print_heading("lasso, no accepting cycle: growth", "a unit: a record at a position");
+    growth_by_loop("own", 1);
+    growth_by_loop("scattered", 10000);
+    growth_by_table();
+}
+
+/* One decision on the table of growth_by_loop, and nothing else. */
+static int count_one(const char *letters)
+{
+    static const uint8_t loop[TUBOCHRE_LASSO_PART_MOST];
+    const uint32_t states = 10000;
+    const size_t len = tubochre_table_words(states, 3 * states), loop_len = strtoul(letters, NULL, 10);
+    const size_t work_len = tubochre_work_words(states, 0, loop_len);
+    uint16_t *const table = memory(len * sizeof *table);
+    uint32_t *const work = memory(work_len * sizeof *work);
+    struct tubochre_decision d;
+    if (loop_len == 0 || loop_len > sizeof loop) {
+        fputs("bench: a loop has 1 to 4096 letters\n", stderr);
+        return 2;
     }
+    barren_table(table, states, 1);
+    d = tubochre_lasso(table, len, loop, 0, loop, loop_len, work, work_len);
+    free(table);
+    free(work);
+    return d.taken == TUBOCHRE_NOT_TAKEN ? 0 : 1;
+}
+
+static const struct part {
+    const char *name;
+    void (*run)(void);
+} parts[] = {{"check", check_rows}, {"build", build_and_lasso_rows}, {"growth", growth_rows}, {"stack", stack_rows}};
+
+enum { PARTS = sizeof parts / sizeof parts[0] };
+
+static int part_of(const char *name)
+{
+    int i;
+    for (i = 0; i < PARTS; i++)
+        if (strcmp(name, parts[i].name) == 0)
+            return i;
+    fputs("usage: bench [--quick] [check] [build] [growth] [stack]\n       bench count LETTERS\n", stderr);
+    exit(2);
 }
 
 int main(int argc, char **argv)
 {
-    quick = argc == 2 && strcmp(argv[1], "--quick") == 0;
-    if (argc > 2 || (argc == 2 && !quick)) {
-        fputs("usage: bench [--quick]\n", stderr);
-        return 2;
-    }
+    int wanted[PARTS] = {0}, some = 0, i;
+    if (argc == 3 && strcmp(argv[1], "count") == 0)
+        return count_one(argv[2]);
+    for (i = 1; i < argc; i++)
+        if (strcmp(argv[i], "--quick") == 0)
+            quick = 1;
+        else
+            some = wanted[part_of(argv[i])] = 1;
     printf("Medians of whole calls, by turns in one process, after a warm-up. Reference: compiler %s.\n", __VERSION__);
-    puts("Timed with the library: clearing unused words after a build, and all work words after a decision.");
-    check_rows();
-    build_and_lasso_rows();
-    print_heading("lasso, no accepting cycle: growth", "");
-    growth_by_loop("near", 50);
-    growth_by_loop("scattered", 10000);
-    growth_by_table();
-    stack_rows();
+    puts("Timed with the library: clearing unused words after a build, and all work words around a decision.");
+    for (i = 0; i < PARTS; i++)
+        if (wanted[i] || !some)
+            parts[i].run();
     return 0;
 }
