@@ -46,10 +46,10 @@ meet-requires c κs =
     choose-asks (c .before .before .before .before .loop .inv .1) (array-moves (c .before .before .before .before .before .before .before .before .before .before .before .args .masks) (c .before .before .before .before .before .before .before .before .before .before .before .args .shape)) (c .before .before .before .before .before .before .before .before .before .before .before .pre)
 
 same-length : tie.Need-same-length Inv-loop μ-loop
-same-length c = (c .before .before .before .before .before .meet .kept .0) ∙ (c .before .before .before .before .before .before .before .before .before .before .loop .inv .1 .words-size)
+same-length c = c .before .before .before .before .before .meet .kept .0 ∙ (c .before .before .before .before .before .before .before .before .before .before .loop .inv .1 .words-size)
 
 same-length-2 : tie.Need-same-length-2 Inv-loop μ-loop
-same-length-2 c = (c .before .before .before .before .before .meet .kept .1 .0) ∙ (c .before .before .before .before .before .before .before .before .before .before .loop .inv .1 .sets-size)
+same-length-2 c = c .before .before .before .before .before .meet .kept .1 .0 ∙ (c .before .before .before .before .before .before .before .before .before .before .loop .inv .1 .sets-size)
 
 returns-2 : tie.Need-returns-2 Inv-loop μ-loop
 returns-2 c =
@@ -69,10 +69,10 @@ loop-again c = (
 )
 
 same-length-3 : tie.Need-same-length-3 Inv-loop μ-loop
-same-length-3 c = (c .before .loop .inv .1 .words-size)
+same-length-3 c = c .before .loop .inv .1 .words-size
 
 same-length-4 : tie.Need-same-length-4 Inv-loop μ-loop
-same-length-4 c = (c .before .loop .inv .1 .sets-size)
+same-length-4 c = c .before .loop .inv .1 .sets-size
 
 returns-3 : tie.Need-returns-3 Inv-loop μ-loop
 returns-3 c =

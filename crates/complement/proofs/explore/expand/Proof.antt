@@ -25,10 +25,10 @@ add-successors-requires : tie.Need-add-successors-requires Inv-loop μ-loop
 add-successors-requires c κs = spell-asks (c .before .before .before .loop .inv .1) (c .before .before .loop-test .taken) (c .before .before .before .before .before .before .before .before .pre)
 
 same-length : tie.Need-same-length Inv-loop μ-loop
-same-length c = (c .before .before .before .before .before .add-successors .kept .1 .1 .0) ∙ (c .before .before .before .before .before .before .before .before .before .loop .inv .1 .reaching .words-size)
+same-length c = c .before .before .before .before .before .add-successors .kept .1 .1 .0 ∙ (c .before .before .before .before .before .before .before .before .before .loop .inv .1 .reaching .words-size)
 
 same-length-2 : tie.Need-same-length-2 Inv-loop μ-loop
-same-length-2 c = (c .before .before .before .before .before .add-successors .kept .1 .1 .1 .0) ∙ (c .before .before .before .before .before .before .before .before .before .loop .inv .1 .reaching .sets-size)
+same-length-2 c = c .before .before .before .before .before .add-successors .kept .1 .1 .1 .0 ∙ (c .before .before .before .before .before .before .before .before .before .loop .inv .1 .reaching .sets-size)
 
 returns : tie.Need-returns Inv-loop μ-loop
 returns c =
@@ -48,10 +48,10 @@ loop-again c = (
 )
 
 same-length-3 : tie.Need-same-length-3 Inv-loop μ-loop
-same-length-3 c = (c .before .loop .inv .1 .reaching .words-size)
+same-length-3 c = c .before .loop .inv .1 .reaching .words-size
 
 same-length-4 : tie.Need-same-length-4 Inv-loop μ-loop
-same-length-4 c = (c .before .loop .inv .1 .reaching .sets-size)
+same-length-4 c = c .before .loop .inv .1 .reaching .sets-size
 
 returns-2 : tie.Need-returns-2 Inv-loop μ-loop
 returns-2 c =

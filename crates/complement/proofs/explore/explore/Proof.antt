@@ -18,10 +18,10 @@ abbrev μ-loop : tie.MeasureT-loop
 μ-loop masks shape words₀ sets₀ found₀ number₀ words sets found number = 65535 - number
 
 store-initials-requires : tie.Need-store-initials-requires Inv-loop μ-loop
-store-initials-requires c κs = (c .before .before .before .pre .sets-clear)
+store-initials-requires c κs = c .before .before .before .pre .sets-clear
 
 same-length : tie.Need-same-length Inv-loop μ-loop
-same-length c = (c .before .before .before .store-initials .kept .1 .0)
+same-length c = c .before .before .before .store-initials .kept .1 .0
 
 returns : tie.Need-returns Inv-loop μ-loop
 returns c =
@@ -43,10 +43,10 @@ expand-requires c κs =
     expand-asks (c .before .before .before .before .before .before .before .before .before .before .before .before .pre .table) (read .passed) (read .masked) (read .shaped) ((c .before .before .before .before .loop .inv .2) (c .before .before .before .before .before .before .before .before .before .before .before .before .pre .table) read) (c .before .before .if2 .taken)
 
 same-length-2 : tie.Need-same-length-2 Inv-loop μ-loop
-same-length-2 c = (c .before .before .before .before .before .expand .kept .1 .1 .0) ∙ (c .before .before .before .before .before .before .before .before .before .before .loop .inv .0)
+same-length-2 c = c .before .before .before .before .before .expand .kept .1 .1 .0 ∙ (c .before .before .before .before .before .before .before .before .before .before .loop .inv .0)
 
 same-length-3 : tie.Need-same-length-3 Inv-loop μ-loop
-same-length-3 c = (c .before .before .before .before .before .expand .kept .1 .1 .1 .0) ∙ (c .before .before .before .before .before .before .before .before .before .before .loop .inv .1) ∙ (c .before .before .before .before .before .before .before .before .before .before .before .before .before .before .store-initials .kept .1 .0)
+same-length-3 c = c .before .before .before .before .before .expand .kept .1 .1 .1 .0 ∙ (c .before .before .before .before .before .before .before .before .before .before .loop .inv .1) ∙ (c .before .before .before .before .before .before .before .before .before .before .before .before .before .before .store-initials .kept .1 .0)
 
 returns-2 : tie.Need-returns-2 Inv-loop μ-loop
 returns-2 c =
@@ -74,10 +74,10 @@ loop-again c = (
 )
 
 same-length-4 : tie.Need-same-length-4 Inv-loop μ-loop
-same-length-4 c = (c .before .before .loop .inv .0)
+same-length-4 c = c .before .before .loop .inv .0
 
 same-length-5 : tie.Need-same-length-5 Inv-loop μ-loop
-same-length-5 c = (c .before .before .loop .inv .1) ∙ (c .before .before .before .before .before .before .store-initials .kept .1 .0)
+same-length-5 c = c .before .before .loop .inv .1 ∙ (c .before .before .before .before .before .before .store-initials .kept .1 .0)
 
 returns-3 : tie.Need-returns-3 Inv-loop μ-loop
 returns-3 c =

@@ -46,7 +46,7 @@ loop-again c = (
 )
 
 same-length : tie.Need-same-length Inv-loop μ-loop
-same-length c = (c .before .loop .inv .1)
+same-length c = c .before .loop .inv .1
 
 returns : tie.Need-returns Inv-loop μ-loop
 returns c = flags-end (c .before .before .before .before .args .sets .now) (c .before .before .before .before .args .initial) (c .before .loop .state) (c .before .before .before .before .args .states) (c .before .before .before .before .args .words .now) (c .before .loop .inv .2) (c .before .loop .inv .0) (c .loop-test .left)
