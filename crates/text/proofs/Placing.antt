@@ -35,18 +35,19 @@ set-behind (x ∷ xs) l i j a h =
 pub sets-last : (xs : List ℕ) (a : ℕ) (l : List ℕ) (i : ℕ) → sets l i (xs ++ (a ∷ [])) ≡ sets (set l (i + length xs) a) i xs
 sets-last xs a l i = sets-append xs (a ∷ []) l i ∙ sym (set-behind xs l i (i + length xs) a (omega arith))
 
+put-made :
+    {before : List ℕ} {at most : ℕ} {bytes after : List ℕ} {end : ℕ} → after ≡ sets before at bytes → end ≡ at + length bytes →
+    end ≤ at + most → end ≤ length after → Put before at most bytes after end
+put-made {after = after} {end = end} t e n i =
+    record { text = t; ends = e; near = n; inside = i; whole = sym (length-take-le end after i) }
+
 -- one text behind another
 pub then-put :
     {o o′ o″ : List ℕ} {at a b mid end : ℕ} {xs ys : List ℕ} → Put o at a xs o′ mid → Put o′ mid b ys o″ end →
     Put o at (a + b) (xs ++ ys) o″ end
 then-put {o} {xs = xs} {ys = ys} p q =
     let e = p .ends in let f = q .ends in let n = p .near in let m = q .near in
-    record {
-      text = q .text ∙ rw (p .text, p .ends) (sym (sets-append xs ys o _));
-      ends = simp length-append (omega arith);
-      near = omega arith;
-      inside = q .inside;
-    }
+    put-made (q .text ∙ rw (p .text, p .ends) (sym (sets-append xs ys o _))) (simp length-append (omega arith)) (omega arith) (q .inside)
 
 -- a buffer keeps its length
 pub same-length : {o o′ xs : List ℕ} {at a end : ℕ} → Put o at a xs o′ end → length o′ ≡ length o
@@ -79,12 +80,7 @@ pub copied-end :
 copied-end {xs} {o} {at} {i} h l p =
     let w = p .within in
     let n = copied-length p in
-    record {
-      text = rw (take-all i xs l) at (p .copied);
-      ends = omega arith;
-      near = omega arith;
-      inside = omega arith;
-    }
+    put-made (rw (take-all i xs l) at (p .copied)) (omega arith) (omega arith) (omega arith)
 
 -- THE LOOP OF `put_number`: the digits before place i are still to come
 pub record Writing (n : ℕ) (o : List ℕ) (at end i left : ℕ) (o-now : List ℕ) : Type 0 where
@@ -134,12 +130,7 @@ writing-end {n} {count} {o} {at} {i} {left} {o′} c h l p =
     let a = p .above in
     let z : i - at ≡ 0 = omega arith in
     let e = c .counted in let f = c .few in let s = p .same in
-    record {
-      text = rw z at (p .left-over);
-      ends = omega arith;
-      near = omega arith;
-      inside = omega arith;
-    }
+    put-made (rw z at (p .left-over)) (omega arith) (omega arith) (omega arith)
 
 -- a number and the byte behind it
 pub field-put :
@@ -147,12 +138,7 @@ pub field-put :
     Put o at 11 (decimal n ++ (b ∷ [])) (set o′ end b) (end + 1)
 field-put n b {end} {o} {o′} {at} h p =
     let s = same-length p in let e = p .ends in let f = p .near in
-    record {
-      text = rw (sets-append (decimal n) (b ∷ []) o at, p .text, p .ends);
-      ends = simp length-append (omega arith);
-      near = omega arith;
-      inside = rw (length-set o′ end b) (omega arith);
-    }
+    put-made (rw (sets-append (decimal n) (b ∷ []) o at, p .text, p .ends)) (simp length-append (omega arith)) (omega arith) (rw (length-set o′ end b) (omega arith))
 
 -- THE LOOP OF `put_line`: the fields from i on are still to come
 pub record Lining (fields o : List ℕ) (at i place : ℕ) (o-now : List ℕ) : Type 0 where
@@ -212,16 +198,11 @@ lining-end {fields} {o} {at} {i} {place} {place′} {o′} {o″} h l p q =
     let m : line (drop i fields) ≡ decimal (getD fields (length fields - 1) 0) ++ (10 ∷ []) = rw (← j) (line-one fields i (omega arith)) in
     let e = q .ends in let f = q .near in let g = p .near in let s = same-length q in let t = p .same in
     let n : place + length (decimal (getD fields (length fields - 1) 0) ++ (10 ∷ [])) ≡ at + length (line fields) = rw m at (p .ends) in
-    record {
-      text = q .text ∙ (rw m at (p .left-over));
-      ends = omega arith;
-      near = omega arith;
-      inside = omega arith;
-    }
+    put-made (q .text ∙ (rw m at (p .left-over))) (omega arith) (omega arith) (omega arith)
 
 -- room for more
 pub wider : {o o′ xs : List ℕ} {at a end : ℕ} (b : ℕ) → a ≤ b → Put o at a xs o′ end → Put o at b xs o′ end
-wider b l p = let n = p .near in record { text = p .text; ends = p .ends; near = omega arith; inside = p .inside }
+wider b l p = let n = p .near in put-made (p .text) (p .ends) (omega arith) (p .inside)
 
 -- THE LINES
 pub refused-put :

@@ -57,8 +57,14 @@ unfolding ended
 ended-between s e = cc
 
 -- and a reading is that of what it holds
-counts : {r : Reading} {w : List ℕ} → Ready r w → length (take (r .count) w) ≡ r .count
+pub counts : {r : Reading} {w : List ℕ} → Ready r w → length (take (r .count) w) ≡ r .count
 counts {r} {w} a = length-take-le (r .count) w (omega arith)
+
+-- before the first byte
+pub ready-start : {r : Reading} (w : List ℕ) → r ≡ reading-of (between []) → most-numbers ≤ length w → Ready r w
+unfolding reading-of between
+ready-start w e l =
+    rw e (record { room = l; counted = omega arith; small = omega arith; placed = λ q. absurd (clash q refl) })
 
 pub unchanged : {r : Reading} {w : List ℕ} → Ready r w → Became (scan-of r w) w r w
 unfolding scan-of reading-of stored

@@ -8,7 +8,7 @@ use Prim.Native.Nat.{ℕ, zero, suc, _+_, _*_, _-_, _≤_, _<_}
 use native.Mathlib.Nat.{add-zero}
 use native.Mathlib.Omega.{arith}
 use lib.Dec.{ltb, eqb}
-use lib.ListN.{length, getD, take}
+use lib.ListN.{length, getD, take, length-append, length-replicate}
 use Rattle.basics.specs.Buffers.{filled}
 use Rattle.basics.specs.Rows.{rows}
 use Rattle.basics.proofs.Booleans.{either, eq-eqb, ne-eqb, ltb-lt, ltb-ge}
@@ -164,6 +164,16 @@ module _ {t : List ℕ} {r : Counts} {o o-now s s-now : List ℕ} (says : Build-
 
   orderly : Orderly (complement-automaton t) (complement t .edges)
   orderly = complement-orderly t (build-passed says accepted)
+
+  -- there are sets for each state
+  pub sets-there : length s-now ≡ length s → 4 * r .states ≤ length s-now
+  unfolding sets-words quadruple-words filled
+  sets-there same =
+      let n = build-states says accepted in
+      let f : ℕ → List ℕ = λ i. quadruple-words (state-at (system-of t) (complement t .states) i) in
+      let long = rows-length 4 (length (complement t .states)) f (λ i l. refl) in
+      let e = simp length-append at (ap length sets-are) in
+      let z = length-replicate {A = ℕ} (length s - length (sets-words t)) 0 in omega arith
 
   -- each record has a source
   pub sourced : Sourced o-now (r .states) (r .edges)

@@ -6,7 +6,7 @@ use Prim.Native.Nat.{ℕ, zero, suc, _+_, _/_, _%_, _≤_}
 use Prim.Native.Char.{code}
 use Prim.Native.String.{String, [] as no-more, _∷_ as _then_}
 use lib.Dec.{ltb}
-use lib.ListN.{length}
+use lib.ListN.{length, take}
 use lib.Seq.{sets}
 
 -- DIGITS: the digits of a number with at most so many, the last of them behind the others
@@ -34,12 +34,14 @@ refused-line r = ascii "refused " ++ line (r ∷ [])
 unfoldable pub counts-line : (states edges : ℕ) → List ℕ
 counts-line n m = ascii "states " ++ (decimal n ++ (ascii " edges " ++ line (m ∷ [])))
 
--- IN A LENT BUFFER: bytes from one place on, so many at most, and the place behind them; all else is as it was
+-- IN A LENT BUFFER: bytes from one place on, so many at most, and the place behind them; all else is as it was. The last field follows
+-- from the one before it: with both, `&line[..end]` asks nothing of a caller.
 pub record Put (before : List ℕ) (at most : ℕ) (bytes after : List ℕ) (end : ℕ) : Type 0 where
   pub text : after ≡ sets before at bytes
   pub ends : end ≡ at + length bytes
   pub near : end ≤ at + most
   pub inside : end ≤ length after
+  pub whole : end ≡ length (take end after)
 
 -- how many digits a number of 32 bits has
 pub record Places (n count : ℕ) : Type 0 where
