@@ -117,13 +117,13 @@ struct tubochre_decision tubochre_lasso(const uint16_t *table, size_t table_len,
                                         size_t prefix_len, const uint8_t *loop, size_t loop_len, uint32_t *work,
                                         size_t work_len);
 
-/* One state of a complement: four sets of pattern states, state q adding 2^q. */
+/* One state of a complement: its four sets of pattern states, in which state q adds 2^q. */
 struct tubochre_quadruple {
     uint32_t N, C, S, B;
 };
 
-/* Fills records from the sets words of a build, one for each four words; records beyond the last full one become zero, and words beyond
- * the last record are not read. It stands in an archive of its own, librecords.a. */
+/* Fills records from the sets words of a build, one for each full four words. Records beyond those become zero, and
+ * words beyond the last record are not read. It refuses nothing. It stands in an archive of its own, librecords.a. */
 void tubochre_records(struct tubochre_quadruple *records, size_t records_len, const uint32_t *sets, size_t sets_len);
 
 /* What a refusal number means, as a sentence without a full stop. */

@@ -1,9 +1,10 @@
 #!/usr/bin/env bash
 # Builds the archive from the proved crates and runs every test in C on it and on the listing program. It fails where
-# any of them fails, and says what it does not run. ARCHIVE and LISTING may name others to try the tests themselves.
+# any of them fails, and says what it does not run. ARCHIVE, RECORDS and LISTING may name others, to try the tests.
 set -euo pipefail
 cd "$(dirname "$0")/.."
 archive=${ARCHIVE:-target/staticlib/libtubochre.a}
+records=${RECORDS:-target/staticlib/librecords.a}
 listing=${LISTING:-target/bin/listing}
 out=${OUT:-target/host}
 
@@ -13,7 +14,7 @@ say() { printf '== %s\n' "$*"; }
 build() {
     local folder=$1
     shift
-    make -s host "$folder/bench" OUT="$folder" ARCHIVE="$archive" CFLAGS="$*"
+    make -s host "$folder/bench" OUT="$folder" ARCHIVE="$archive" RECORDS="$records" CFLAGS="$*"
 }
 
 # run_tests FOLDER: the tests that need no arguments, and the bench program
@@ -31,12 +32,12 @@ run_tests() {
 try_install() {
     local prefix flags
     prefix=$(realpath "$out")/installed
-    make -s install PREFIX="$prefix" ARCHIVE="$archive"
+    make -s install PREFIX="$prefix" ARCHIVE="$archive" RECORDS="$records"
     if command -v pkg-config >/dev/null; then
         flags=$(PKG_CONFIG_PATH="$prefix/lib/pkgconfig" pkg-config --cflags --libs tubochre)
     else
         say 'pkg-config is not here: its file is not tried'
-        flags="-I$prefix/include -L$prefix/lib -ltubochre"
+        flags="-I$prefix/include -L$prefix/lib -ltubochre -lrecords"
     fi
     # shellcheck disable=SC2086 # the flags are words
     cc -std=c11 -Wall -Wextra -Wpedantic -Werror host/example.c $flags -o "$prefix/example"
@@ -70,7 +71,7 @@ run_tests "$out-sanitized"
 
 if command -v valgrind >/dev/null; then
     say 'the same under valgrind, the comparison shorter'
-    for test in "$out/test_calls" "$out/test_rooms" "$out/compare --trials 60"; do
+    for test in "$out/test_calls" "$out/test_rooms" "$out/test_records" "$out/compare --trials 60"; do
         # shellcheck disable=SC2086 # a program and its arguments
         valgrind -q --error-exitcode=1 --leak-check=full $test
     done
