@@ -1,5 +1,6 @@
 // Lists the complement of a pattern. Reads the pattern's words as decimal numbers from standard input, and prints the states and
 // the edges of what the build made of it, or the number of the refusal.
+use complement::Counts;
 use complement::build_complement;
 use libc::STDERR_FILENO;
 use libc::STDIN_FILENO;
@@ -11,10 +12,13 @@ use text::first_source;
 use text::refused_line;
 use text::source_behind;
 use text::state_line;
+ghost use mathlib.Core.Path.{_≡_};
 ghost use Prim.Native.Nat.{_+_, _*_, _≤_, _<_};
 ghost use lib.ListN.{length};
 ghost use Rattle.tables.specs.Access.{Record-asks};
-ghost use Rattle.text.specs.Built.{Sourced};
+ghost use Rattle.complement.specs.Build.{room-of};
+ghost use Rattle.text.specs.Built.{Sourced, To-print};
+ghost use Rattle.text.specs.Listing.{listing-room};
 ghost use Rattle.text.specs.Reading.{Ready};
 
 // READING
@@ -125,11 +129,19 @@ fn print_edges(words: &[u16], states: usize, edges: usize) -> bool
 
 // LISTING
 
+// The build, with the room that a listing has.
+fn build(table: &[u16], words: &mut [u16], sets: &mut [u32]) -> Counts
+    requires { ⌜ room-of (now words) (now sets) ≡ listing-room ⌝ }
+    ensures { λ r. ⌜ To-print (now (table .entry)) r (now (words .exit)) (now (sets .exit)) ⌝ }
+{
+    build_complement(table, words, sets)
+}
+
 // Builds the complement of a table with room for 1,024 states and 16,384 table words, and prints it or the refusal.
 fn list(table: &[u16]) -> bool {
     let mut words = [0u16; 16384];
     let mut sets = [0u32; 4096];
-    let counts = build_complement(table, &mut words, &mut sets);
+    let counts = build(table, &mut words, &mut sets);
     if counts.number != 0 {
         return print_refusal(counts.number);
     }

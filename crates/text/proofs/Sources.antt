@@ -1,14 +1,13 @@
 -- Laws of the sources of records in a table whose chains run through consecutive records. Assumes nothing.
-use mathlib.Core.Path.{_≡_, refl, sym, _∙_, ap}
-use mathlib.Core.Bool.{Bool, true, false, cond}
+use mathlib.Core.Path.{_≡_, sym, _∙_, ap}
+use mathlib.Core.Bool.{Bool, true, false}
 use mathlib.Core.List.{List}
-use Prim.Native.Nat.{ℕ, zero, suc, _+_, _-_, _≤_, _<_}
+use Prim.Native.Nat.{ℕ, suc, _+_, _-_, _≤_, _<_}
 use native.Mathlib.Numerals.{add-one}
 use native.Mathlib.Omega.{arith}
 use lib.Dec.{eqb}
-use lib.ListN.{length}
 use Rattle.basics.proofs.Booleans.{eq-eqb, ne-eqb}
-use Rattle.tables.specs.Table.{n-of, head-of, next-of}
+use Rattle.tables.specs.Table.{head-of, next-of}
 use Rattle.text.specs.Built.{with-chain, first-source, source-behind, States-ask}
 
 -- by the head of the first of them

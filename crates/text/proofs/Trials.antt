@@ -12,7 +12,7 @@ use Rattle.basics.specs.Bounded.{each, any, count}
 use Rattle.basics.specs.Buffers.{or-else}
 use Rattle.basics.specs.Rows.{rows}
 use Rattle.sets.specs.Sets.{has, size, without, set-of, union, subsets}
-use Rattle.automata.specs.System.{an-edge, built, number-of, with-state, with-states, add-edge, add-all, by-letters, expand, state-at, explore-from, begin, explore, edge-at, listed, numbered, Built}
+use Rattle.automata.specs.System.{an-edge, built, number-of, with-state, with-states, add-edge, add-all, by-letters, expand, state-at, explore-from, begin, explore, edge-at, listed, numbered}
 use Rattle.tables.specs.Table.{pattern-range, wide-range, n-of, k-of, m-of, flags-of, head-of, record-at, letter-of, target-of, next-of, is-initial, is-accepting, chain-has, edge, meaning, flags-good, records-good, named, heads-good, nexts-good, chains-good, table-refusal}
 use Rattle.ncsb.specs.Successors.{quadruple, same, accepting, targets, initial-free, initial-for, initials, next-N, entering, staying-safe, staying, leaving, tracked, dead-end, blocked, free, next-B, successor-for, successors, ncsb}
 use Rattle.patterns.specs.Check.{check-refusal}

@@ -1,7 +1,7 @@
 -- What the program prints, line by line, of the build's answer and of what it left is the listing of the input. Assumes nothing.
 use mathlib.Core.Path.{_≡_, refl, sym, _∙_, ap}
-use mathlib.Core.Bool.{Bool, true, false, cond}
-use mathlib.Core.List.{List, [], _++_}
+use mathlib.Core.Bool.{true, false, cond}
+use mathlib.Core.List.{List, []}
 use mathlib.Core.Logic.{inl, inr}
 use mathlib.Core.Option.{Option, none, some}
 use Prim.Native.Nat.{ℕ, zero, suc, _+_, _*_, _-_, _≤_, _<_}
@@ -14,10 +14,9 @@ use Rattle.basics.specs.Rows.{rows}
 use Rattle.basics.proofs.Booleans.{either, eq-eqb, ne-eqb, ltb-lt, ltb-ge}
 use Rattle.basics.proofs.Rows.{rows-at, rows-same, rows-length}
 use Rattle.automata.specs.Automaton.{Automaton}
-use Rattle.automata.specs.System.{Edge, Built, an-edge, edge-at, state-at, numbered}
+use Rattle.automata.specs.System.{Edge, an-edge, edge-at, state-at, numbered}
 use Rattle.tables.specs.Table.{n-of, flags-of, head-of, record-at, letter-of, target-of, next-of, wide-range}
 use Rattle.ncsb.specs.Successors.{quadruple}
-use Rattle.ncsb.specs.declared.Quadruple.{Quadruple}
 use Rattle.layout.specs.Chained.{first-record, next-record, flags-word}
 use Rattle.layout.specs.Orderly.{Orderly}
 use Rattle.layout.proofs.Filled.{filled-at}
@@ -27,11 +26,11 @@ use Rattle.complement.specs.Build.{room-of, build-refusal, as-counts, after-bui
 use Rattle.complement.specs.Complement.{system-of, complement, complement-automaton, complement-words, sets-words, quadruple-words, record-width}
 use Rattle.complement.specs.Records.{quadruple-at}
 use Rattle.complement.specs.declared.Counts.{Counts}
-use Rattle.complement.proofs.Second.{Fits, complement-orderly, build-accepted, build-states, build-edges, build-passed, build-fits}
-use Rattle.text.specs.Built.{with-chain, first-source, source-behind, source-of, built-state, built-edge, built-text, printed, States-ask, Sourced}
-use Rattle.text.specs.Lines.{counts-line, refused-line}
+use Rattle.complement.proofs.Second.{complement-orderly, build-accepted, build-states, build-edges, build-passed, build-fits}
+use Rattle.text.specs.Built.{with-chain, first-source, source-behind, source-of, built-state, built-edge, built-text, printed, Sourced, To-print}
+use Rattle.text.specs.Lines.{refused-line}
 use Rattle.text.specs.Listing.{listing-room, state-line, edge-line, accepted-text, answered, listing}
-use Rattle.text.specs.Reading.{Scan, between, ended, scan, numbers-of, read-numbers, reading-of, stored, scan-of, Became}
+use Rattle.text.specs.Reading.{Scan, between, ended, scan, numbers-of, read-numbers, reading-of, scan-of, Became}
 use Rattle.text.specs.declared.reading.Reading.{Reading}
 use Rattle.text.proofs.Scanning.{held}
 use Rattle.text.proofs.Sources.{chain-here, chain-later}
@@ -268,3 +267,19 @@ pub listing-right :
     room-of o s ≡ listing-room → printed c o-now s-now ≡ listing input
 listing-right input {w = w} {r = r} b e says room =
     let p = rw room at (printed-right says) in let l = rw e at (listing-read input b) in p ∙ sym l
+
+-- so the build with the listing's room leaves what is to be printed
+pub to-print :
+    {t : List ℕ} {r : Counts} {o o-now s s-now : List ℕ} → Build-says t r o o-now s s-now → room-of o s ≡ listing-room →
+    length s-now ≡ length s → To-print t r o-now s-now
+to-print says room same =
+    record {
+      answers = rw room at (printed-right says);
+      states = λ accepted. (sourced says accepted .asks .few, sets-there says accepted same);
+      edges = λ accepted. sourced says accepted;
+    }
+
+-- the room of arrays
+pub room-for : (o s : List ℕ) → length o ≡ 16384 → length s ≡ 4096 → room-of o s ≡ listing-room
+unfolding room-of listing-room record-width
+room-for o s e f = rw (e, f)

@@ -8,10 +8,11 @@ use lib.ListN.{length}
 use Rattle.basics.specs.Rows.{rows}
 use Rattle.automata.specs.System.{an-edge}
 use Rattle.tables.specs.Table.{n-of, flags-of, head-of, letter-of, target-of, next-of}
+use Rattle.complement.specs.Build.{build-refusal}
 use Rattle.complement.specs.Records.{quadruple-at}
 use Rattle.complement.specs.declared.Counts.{Counts}
 use Rattle.text.specs.Lines.{counts-line, refused-line}
-use Rattle.text.specs.Listing.{state-line, edge-line}
+use Rattle.text.specs.Listing.{listing-room, state-line, edge-line, answered}
 
 -- SOURCES. A build's chains run through consecutive records, so the sources of its records rise.
 -- the first state from i on that has a chain, among so many; the state behind them where none has
@@ -63,3 +64,10 @@ pub record Sourced (words : List ℕ) (states edges : ℕ) : Type 0 where
   pub asks : States-ask words states
   pub few : edges < 65536
   pub source : (r : ℕ) → r < edges → source-of words r < states
+
+-- WHAT IS TO BE PRINTED for a table: the answer to it, with the listing's room; where the build was accepted, there are sets for each state
+-- and a source for each edge
+pub record To-print (table : List ℕ) (r : Counts) (words sets : List ℕ) : Type 0 where
+  pub answers : printed r words sets ≡ answered (build-refusal table listing-room) table
+  pub states : r .number ≡ 0 → (r .states < 65536) × (4 * r .states ≤ length sets)
+  pub edges : r .number ≡ 0 → Sourced words (r .states) (r .edges)

@@ -1,10 +1,9 @@
 -- The listing program: its whole output as a function of its whole input (document 01, "The listing program"). Assumes nothing: these are definitions.
 use mathlib.Core.List.{List, [], _∷_, _++_}
-use mathlib.Core.Option.{Option, none, some}
+use mathlib.Core.Option.{none, some}
 use Prim.Native.Nat.{ℕ, zero, suc}
 use lib.ListN.{length}
 use Rattle.basics.specs.Rows.{rows}
-use Rattle.automata.specs.Automaton.{Automaton}
 use Rattle.automata.specs.System.{Edge, Built, System, state-at, edge-at, numbered}
 use Rattle.ncsb.specs.declared.Quadruple.{Quadruple}
 use Rattle.layout.specs.Chained.{flags-word}

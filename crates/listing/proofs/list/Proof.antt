@@ -1,17 +1,20 @@
 -- `list` is safe and ends: what an accepted build left has sets for each state and a source for each edge. Assumes nothing.
-use Rattle.text.proofs.Whole.{sourced, sets-there}
+use Prim.Native.Nat.{ℕ}
+use lib.ListN.{replicate, length-replicate}
+use Rattle.text.proofs.Whole.{room-for}
 use borrow.Author.Needs.{needs}
 use Rattle.listing.proofs.list.Statement.{statement}
 use Rattle.listing.proofs.list.Tie as tie
 
-slice-aggregate-build-complement : tie.Need-slice-aggregate-build-complement
-slice-aggregate-build-complement c = search needs
+slice-aggregate-build : tie.Need-slice-aggregate-build
+slice-aggregate-build c = search needs
 
-slice-aggregate-build-complement-2 : tie.Need-slice-aggregate-build-complement-2
-slice-aggregate-build-complement-2 c = search needs
+slice-aggregate-build-2 : tie.Need-slice-aggregate-build-2
+slice-aggregate-build-2 c = search needs
 
-build-complement-requires : tie.Need-build-complement-requires
-build-complement-requires c κs = search needs
+build-requires : tie.Need-build-requires
+build-requires c κs =
+    room-for (replicate 16384 0) (replicate 4096 0) (length-replicate {A = ℕ} 16384 0) (length-replicate {A = ℕ} 4096 0)
 
 print-refusal-requires : tie.Need-print-refusal-requires
 print-refusal-requires c κs = search needs
@@ -35,10 +38,7 @@ slice-aggregate-print-states-2 : tie.Need-slice-aggregate-print-states-2
 slice-aggregate-print-states-2 c = search needs
 
 print-states-requires : tie.Need-print-states-requires
-print-states-requires c κs =
-    let says = c .before .before .before .before .before .before .before .before .before .build-complement .ensures in
-    let accepted = c .before .before .before .before .before .if1 .left in
-    (sourced says accepted .asks .few, sets-there says accepted (c .before .before .before .before .before .before .before .before .before .build-complement .kept .1 .1 .0))
+print-states-requires c κs = c .before .before .before .before .before .before .before .before .before .build .ensures .states (c .before .before .before .before .before .if1 .left)
 
 returns-3 : tie.Need-returns-3
 returns-3 c = search needs
@@ -50,7 +50,7 @@ cast-print-edges : tie.Need-cast-print-edges
 cast-print-edges c = search needs
 
 print-edges-requires : tie.Need-print-edges-requires
-print-edges-requires c κs = sourced (c .before .before .before .before .before .before .before .before .before .before .before .before .before .build-complement .ensures) (c .before .before .before .before .before .before .before .before .before .if1 .left)
+print-edges-requires c κs = c .before .before .before .before .before .before .before .before .before .before .before .before .before .build .ensures .edges (c .before .before .before .before .before .before .before .before .before .if1 .left)
 
 returns-4 : tie.Need-returns-4
 returns-4 c = search needs
@@ -59,9 +59,9 @@ pub list-spec : {M : Type 1} → statement M
 list-spec =
     tie.close
     (tie.spec
-    slice-aggregate-build-complement
-    slice-aggregate-build-complement-2
-    build-complement-requires
+    slice-aggregate-build
+    slice-aggregate-build-2
+    build-requires
     print-refusal-requires
     returns
     cast-states

@@ -1,5 +1,5 @@
-use mathlib.Core.Path.{_∙_}
 -- `put_line` writes the fields one after the other. The invariant: the fields from `i` on are still to come. Assumes nothing.
+use mathlib.Core.Path.{_∙_}
 use Prim.Native.Nat.{_-_}
 use native.Mathlib.Omega.{arith}
 use Rattle.text.proofs.Placing.{same-length as same-length-of, Lining, lining-start, lining-room, lining-turn, lining-end}
