@@ -1,4 +1,5 @@
 // Each trial is one line of output: its name and the answer.
+use crate::written::lassos_over;
 use complement::Counts;
 use complement::build_complement;
 use lassos::Decision;
@@ -22,8 +23,7 @@ fn print_checked(name: &[u8], answer: Checked) {
     }
 }
 
-fn print_decision(name: &[u8], answer: Decision) {
-    io::write_all(1, name);
+pub(crate) fn print_decision(answer: Decision) {
     match answer {
         Decision::Taken => {
             io::write_all(1, b": taken\n");
@@ -55,13 +55,8 @@ pub(crate) fn check(name: &[u8], table: &[u16]) {
 
 // Decides a lasso in work words that the caller lends.
 pub(crate) fn lasso_in(name: &[u8], table: &[u16], prefix: &[u8], cycle: &[u8], work: &mut [u32]) {
-    print_decision(name, decide_lasso(table, prefix, cycle, work));
-}
-
-// Decides a lasso over a small table: room for 4 states and 64 letters.
-pub(crate) fn lasso(name: &[u8], table: &[u16], prefix: &[u8], cycle: &[u8]) {
-    let mut work = [7u32; 1024];
-    lasso_in(name, table, prefix, cycle, &mut work);
+    io::write_all(1, name);
+    print_decision(decide_lasso(table, prefix, cycle, work));
 }
 
 // Decides a lasso over a table of two states: room for 8,192 letters.
@@ -90,13 +85,13 @@ pub(crate) fn build(name: &[u8], table: &[u16], length: usize, room: usize) {
     }
 }
 
-// Builds a pattern's complement, and decides a lasso over it.
-pub(crate) fn complement_lasso(name: &[u8], table: &[u16], prefix: &[u8], cycle: &[u8]) {
+// Builds a pattern's complement, and decides lassos over it.
+pub(crate) fn lassos_over_complement(name: &[u8], table: &[u16], lassos: &[u8]) {
     let mut words = [7u16; 64];
     let mut sets = [7u32; 64];
     let counts = build_complement(table, &mut words, &mut sets);
     let used = 3 + 2 * counts.states as usize + 3 * counts.edges as usize;
     if used <= 64 {
-        lasso(name, &words[0..used], prefix, cycle);
+        lassos_over(name, &words[0..used], lassos);
     }
 }

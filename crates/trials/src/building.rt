@@ -1,6 +1,6 @@
 // The complement build: room that is just enough, what is refused with less, and lassos over what was built.
 use crate::answers::build;
-use crate::answers::complement_lasso;
+use crate::answers::lassos_over_complement;
 use crate::shapes::A;
 use crate::shapes::B;
 
@@ -39,18 +39,14 @@ fn odd_rooms() {
     );
 }
 
-fn complement_of_b() {
-    complement_lasso(b"complement of B, (0)", &B, &[], &[0]);
-    complement_lasso(b"complement of B, (1)", &B, &[], &[1]);
-    complement_lasso(b"complement of B, (0 1)", &B, &[], &[0, 1]);
-    complement_lasso(b"complement of B, 1 (0)", &B, &[1], &[0]);
-    complement_lasso(b"complement of B, 1 1 1 (0)", &B, &[1, 1, 1], &[0]);
-    complement_lasso(b"complement of B, 0 (0 0 1)", &B, &[0], &[0, 0, 1]);
+fn complements() {
+    lassos_over_complement(b"complement of A", &A, b"(0),(1),1(0),0(1),(01),111(00)");
+    lassos_over_complement(b"complement of B", &B, b"(0),(1),(01),1(0),111(0),0(001)");
 }
 
 pub(crate) fn build_all() {
     rooms_for_a();
     rooms_for_b();
     odd_rooms();
-    complement_of_b();
+    complements();
 }

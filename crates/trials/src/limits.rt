@@ -1,9 +1,9 @@
 // Lassos at the limits, and each refusal of the lasso decision.
-use crate::answers::lasso;
 use crate::answers::lasso_in;
 use crate::answers::long_lasso;
 use crate::shapes::A;
 use crate::shapes::B;
+use crate::written::lassos_over;
 
 fn long_over_a() {
     let ones = [1; 4096];
@@ -61,47 +61,28 @@ fn too_long() {
     long_lasso(b"A, a prefix of 4097", &A, &zeros, &[0]);
 }
 
+// An empty loop, and letters of k in the loop and in the prefix.
 fn refused_parts() {
-    lasso(b"A, a loop of one letter", &A, &[], &[0]);
-    lasso(b"A, an empty loop", &A, &[], &[]);
-    lasso(
-        b"A, a prefix of one letter and an empty loop",
-        &A,
-        &[1],
-        &[],
-    );
-    lasso(b"A, a letter of k in the loop", &A, &[], &[0, 2]);
-    lasso(b"A, a letter of k in the prefix", &A, &[2], &[0]);
-    lasso(b"A, letter 255", &A, &[], &[255]);
+    lassos_over(b"A", &A, b"(0),(),1(),(02),2(0),1(f)");
 }
 
 // Where two refusals are met, the one that is checked first is answered.
 fn first_refusals() {
     let twos = [2; 4097];
     let own_next = [1, 1, 1, 3, 1, 0, 0, 1];
-    lasso(
-        b"a next equal to its own number, and an empty loop",
-        &own_next,
-        &[],
-        &[],
-    );
-    lasso(b"A, a prefix of 4097 and an empty loop", &A, &twos, &[]);
-    lasso(b"A, a loop of 4097 letters of k", &A, &[], &twos);
-    lasso_in(
-        b"A, a letter of k and no work words",
-        &A,
-        &[],
-        &[2],
-        &mut [],
-    );
+    lassos_over(b"a next equal to its own number", &own_next, b"(),(1)");
+    lassos_over(b"A", &A, b"2()");
+    long_lasso(b"A, a prefix of 4097 and an empty loop", &A, &twos, &[]);
+    long_lasso(b"A, a loop of 4097 letters of k", &A, &[], &twos);
+    lasso_in(b"A, (2), no work words", &A, &[], &[2], &mut []);
 }
 
 fn work_words() {
     let mut exact = [7; 24];
-    lasso_in(b"A, 1 1 (0), 24 work words", &A, &[1, 1], &[0], &mut exact);
+    lasso_in(b"A, 11(0), 24 work words", &A, &[1, 1], &[0], &mut exact);
     let mut short = [7; 23];
-    lasso_in(b"A, 1 1 (0), 23 work words", &A, &[1, 1], &[0], &mut short);
-    lasso_in(b"A, 1 1 (0), no work words", &A, &[1, 1], &[0], &mut []);
+    lasso_in(b"A, 11(0), 23 work words", &A, &[1, 1], &[0], &mut short);
+    lasso_in(b"A, 11(0), no work words", &A, &[1, 1], &[0], &mut []);
 }
 
 pub(crate) fn decide_at_limits() {

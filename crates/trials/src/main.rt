@@ -7,6 +7,7 @@ mod limits;
 mod shapes;
 mod small;
 mod wide;
+mod written;
 
 fn main() {
     checking::check_all();
