@@ -58,6 +58,14 @@ or-false-r false c p = p
 pub or-false : {b c : Bool} → b ≡ false → c ≡ false → (b || c) ≡ false
 or-false p q = cc
 
+pub or-none : (b : Bool) → (b || false) ≡ b
+or-none true = refl
+or-none false = refl
+
+pub or-assoc : (a b c : Bool) → ((a || b) || c) ≡ (a || (b || c))
+or-assoc true b c = refl
+or-assoc false b c = refl
+
 pub not-true : {b : Bool} → b ≡ true → not b ≡ false
 not-true p = cc
 

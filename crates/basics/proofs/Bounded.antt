@@ -6,7 +6,7 @@ use Prim.Native.Nat.{ℕ, zero, suc, _+_, _-_, _≤_, _<_}
 use native.Mathlib.Omega.{arith}
 use lib.Dec.{ltb, leb, eqb}
 use Rattle.basics.specs.Bounded.{each, any, count}
-use Rattle.basics.proofs.Booleans.{either, clash, and-l, and-r, and-make, or-l, or-r, or-true, or-false, or-false-l, or-false-r, eqb-eq, eq-eqb, ltb-lt, ltb-ge, eqb-ne}
+use Rattle.basics.proofs.Booleans.{either, clash, and-l, and-r, and-make, or-l, or-r, or-true, or-none, or-assoc, or-false, or-false-l, or-false-r, eqb-eq, eq-eqb, ltb-lt, ltb-ge, eqb-ne}
 
 -- what holds of each number below the limit
 pub each-all : (k : ℕ) (f : ℕ → Bool) → each k f ≡ true → (i : ℕ) → i < k → f i ≡ true
@@ -64,6 +64,13 @@ any-find k f h = go (search-to k f)
 
 pub any-no : (k : ℕ) (f : ℕ → Bool) → any k f ≡ false → (i : ℕ) → i < k → f i ≡ false
 any-no k f h i l = elim (either (f i)) [ inl e ↦ absurd (clash (any-make k f i l e) h) | inr e ↦ e ]
+
+-- the first number apart
+pub any-front : (k : ℕ) (f : ℕ → Bool) → any (suc k) f ≡ (f 0 || any k (λ i. f (suc i)))
+unfolding any
+any-front zero f = sym (or-none (f 0))
+any-front (suc k) f =
+    ap (λ (b : Bool). b || f (suc k)) (any-front k f) ∙ or-assoc (f 0) (any k (λ i. f (suc i))) (f (suc k))
 
 -- tests that agree below the limit
 pub each-same : (k : ℕ) (f g : ℕ → Bool) → ((i : ℕ) → i < k → f i ≡ g i) → each k f ≡ each k g

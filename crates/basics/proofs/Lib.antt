@@ -1,3 +1,5 @@
 pub mod Booleans
 pub mod Bounded
+pub mod Clears
+pub mod Counting
 pub mod Rows

@@ -17,7 +17,7 @@ use Rattle.complement.specs.Found.{counted-to, Shows, Ends}
 use Rattle.complement.specs.Records.{capacity}
 use Rattle.complement.specs.declared.Counts.{Counts}
 use Rattle.complement.specs.declared.explore.Progress.{Progress}
-use Rattle.complement.proofs.Clears.{zeros-same}
+use Rattle.basics.proofs.Clears.{zeros-same}
 use Rattle.complement.proofs.Reaching.{ends-within, ends-beyond}
 
 -- NUMBERS: more states than fit; and the test of 12, whether the count of edges stopped or not

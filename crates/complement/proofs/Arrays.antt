@@ -10,7 +10,7 @@ use native.Mathlib.Omega.{arith}
 use lib.Bits.{bitAnd, bitOr, or-lt, and-le-l}
 use lib.Dec.{eqb}
 use Rattle.basics.specs.Bounded.{any}
-use Rattle.basics.proofs.Booleans.{either, eqb-eq, eqb-ne, and-false-l}
+use Rattle.basics.proofs.Booleans.{and-false-l, either, eqb-eq, eqb-ne, or-none}
 use Rattle.basics.proofs.Bounded.{any-same}
 use Rattle.automata.specs.Automaton.{Automaton}
 use Rattle.sets.specs.Sets.{has, without, union, subsets}
@@ -20,10 +20,6 @@ use Rattle.ncsb.specs.Step.{Small}
 use Rattle.ncsb.specs.Successors.{targets, initial-for, initial-free, initials, next-N, entering, staying-safe, staying, leaving, tracked, dead-end, blocked, free, next-B, successor-for, successors}
 use Rattle.ncsb.specs.declared.Quadruple.{Quadruple}
 use Rattle.ncsb.proofs.Targets.{targets-small}
-
-or-none : (b : Bool) → (b || false) ≡ b
-or-none true = refl
-or-none false = refl
 
 -- STATES BEYOND those that a set may have change nothing
 union-same : (k s : ℕ) (row other : ℕ → ℕ) → ((q : ℕ) → row q ≡ other q) → union k s row ≡ union k s other

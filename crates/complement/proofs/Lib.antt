@@ -2,7 +2,6 @@ pub mod Agreeing
 pub mod Answers
 pub mod Arrays
 pub mod Choices
-pub mod Clears
 pub mod Finishing
 pub mod Flagged
 pub mod Kept

@@ -22,7 +22,7 @@ use Rattle.lassos.specs.Refusals.{lasso-refusal}
 use Rattle.lassos.specs.Search.{colour, Search}
 use Rattle.lassos.specs.Steps.{Given, Explore-asks, Searched, found, nothing}
 use Rattle.lassos.specs.declared.Decision.the-variants.{Taken, NotTaken, Refused}
-use Rattle.lassos.proofs.Clears.{zeros-same, zeros-length, zeros-at}
+use Rattle.basics.proofs.Clears.{zeros-same, zeros-length, zeros-at}
 use Rattle.lassos.proofs.Colours.{coloured-le}
 use Rattle.lassos.proofs.Given.{size-is}
 use Rattle.lassos.proofs.Parts.{Accepted, accepted}

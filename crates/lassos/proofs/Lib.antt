@@ -1,6 +1,5 @@
 pub mod Answers
 pub mod Chains
-pub mod Clears
 pub mod Colours
 pub mod Decides
 pub mod Descends

@@ -15,7 +15,7 @@ use Rattle.automata.specs.Automaton.{Automaton}
 use Rattle.automata.specs.System.{Edge, edge-at}
 use Rattle.layout.specs.Chained.{first-record, next-record}
 use Rattle.layout.specs.Orderly.{Orderly}
-use Rattle.layout.proofs.Counting.{count-only}
+use Rattle.basics.proofs.Counting.{count-only}
 
 -- x is the number of the first edge with source i, where numbers begin at s; or zero, and there is none
 pub data First (s i : ℕ) (es : List Edge) (x : ℕ) : Type 0 where

@@ -1,4 +1,3 @@
-pub mod Counting
 pub mod Filled
 pub mod Firsts
 pub mod Indexed

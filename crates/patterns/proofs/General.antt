@@ -1,4 +1,4 @@
--- General laws that know nothing of patterns: of disjunction, of bounded tests, of lists and of powers of two. Assumes nothing.
+-- General laws that know nothing of patterns: of bounded tests, of lists and of powers of two. Assumes nothing.
 use mathlib.Core.Path.{_≡_, refl, ap}
 use mathlib.Core.Bool.{Bool, true, false, _||_}
 use mathlib.Core.Logic.{inl, inr}
@@ -11,14 +11,6 @@ use lib.ListN.{length, getD, replicate, length-replicate, getD-replicate, List·
 use Rattle.basics.specs.Bounded.{any}
 use Rattle.basics.proofs.Booleans.{either, ltb-lt, ltb-ge}
 use Rattle.automata.specs.Decision.{tabulate}
-
-pub or-assoc : (a b c : Bool) → ((a || b) || c) ≡ (a || (b || c))
-or-assoc true b c = refl
-or-assoc false b c = refl
-
-pub or-none : (a : Bool) → (a || false) ≡ a
-or-none true = refl
-or-none false = refl
 
 -- one number more
 pub any-zero : (f : ℕ → Bool) → any 0 f ≡ false

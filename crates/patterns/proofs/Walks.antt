@@ -10,7 +10,7 @@ use lib.Pow.{pow-pos, pow-lt}
 use lib.Bits.{bitOr, or-lt}
 use lib.ListN.{length, getD, set, replicate, length-set, length-replicate}
 use lib.Seq.{getD-set-same, getD-set-other, ext-getD}
-use Rattle.basics.proofs.Booleans.{either, eqb-eq, eqb-ne, eq-eqb, ne-eqb, lt-ltb}
+use Rattle.basics.proofs.Booleans.{either, eq-eqb, eqb-eq, eqb-ne, lt-ltb, ne-eqb, or-assoc, or-none}
 use Rattle.automata.specs.Decision.{tabulate}
 use Rattle.automata.proofs.Graphs.{tabulate-at}
 use Rattle.sets.specs.Sets.{has}
@@ -20,7 +20,7 @@ use Rattle.tables.specs.Table.{pattern-range, n-of, m-of, head-of, letter-of, t
 use Rattle.tables.proofs.Laws.{Valid, valid, next-later, chain-ends, chain-step, meaning-closed}
 use Rattle.patterns.specs.Pattern.{targets-of, moves}
 use Rattle.patterns.specs.Masks.{row-of, Row-asks}
-use Rattle.patterns.proofs.General.{or-assoc, or-none, zeros-at, tabulate-length, shifted}
+use Rattle.patterns.proofs.General.{zeros-at, tabulate-length, shifted}
 use Rattle.patterns.proofs.Split.{has-targets}
 
 -- the sets so far, with what the chain from record `at` on still has, are the state's edges

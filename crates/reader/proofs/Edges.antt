@@ -7,26 +7,13 @@ use mathlib.Core.Logic.{inl, inr}
 use Prim.Native.Nat.{ℕ, zero, suc, _+_, _≤_, _<_}
 use Rattle.basics.specs.Bounded.{any}
 use Rattle.basics.proofs.Booleans.{either, ne-eqb}
+use Rattle.basics.proofs.Bounded.{any-front}
 use Rattle.tables.specs.Table.{Limits, n-of, m-of, head-of, chain-has, edge, table-refusal}
 use Rattle.tables.proofs.Laws.{Valid, valid}
 use Rattle.reader.specs.declared.Reading.the-variants.{End}
 use Rattle.reader.specs.Chain.{is-record, either-reading, reading-at, record-after, first-record, chain-length, edges-of, record-nth, reads}
 use Rattle.reader.proofs.Chain_laws.{record-yes, record-from, record-to, after-record, first-head, read-end}
 use Rattle.reader.proofs.Counting.{length-more, length-none}
-
--- a test below a limit, from the front
-or-assoc : (a b c : Bool) → ((a || b) || c) ≡ (a || (b || c))
-or-assoc true b c = refl
-or-assoc false b c = refl
-
-any-front : (k : ℕ) (f : ℕ → Bool) → any (suc k) f ≡ (f 0 || any k (λ i. f (suc i)))
-unfolding any
-any-front zero f = or-none (f 0)
-  where
-    or-none : (b : Bool) → (false || b) ≡ (b || false)
-    or-none true = refl
-    or-none false = refl
-any-front (suc k) f = ap (λ (b : Bool). b || f (suc k)) (any-front k f) ∙ or-assoc (f 0) (any k (λ i. f (suc i))) (f (suc k))
 
 -- ALONG A CHAIN
 module _ (t : List ℕ) where

@@ -1,4 +1,3 @@
-pub mod Counting
 pub mod Grid
 pub mod Lowest
 pub mod Members

@@ -11,7 +11,7 @@ use lib.Dec.{eqb, eqb·suc-zero, eqb·suc-suc}
 use lib.Pow.{pow-pos}
 use Rattle.basics.proofs.Booleans.{either, and-l, and-false-r, not-true, eqb-self, ne-eqb}
 use Rattle.sets.specs.Sets.{has, size}
-use Rattle.sets.proofs.Counting.{count-one}
+use Rattle.basics.proofs.Counting.{count-one}
 use Rattle.sets.proofs.Size.{size-none}
 use Rattle.sets.proofs.Members.{has-half, has-lt, first-in, first-out, first-made, first-unmade}
 

@@ -12,7 +12,7 @@ use Rattle.basics.specs.Bounded.{count}
 use Rattle.basics.proofs.Booleans.{either, lt-ltb}
 use Rattle.basics.proofs.Bounded.{count-same, count-le, count-mono, count-less}
 use Rattle.sets.specs.Sets.{has, size, without, set-of}
-use Rattle.sets.proofs.Counting.{count-front, count-none, count-hit, count-longer, count-past, count-split}
+use Rattle.basics.proofs.Counting.{count-front, count-none, count-hit, count-longer, count-past, count-split}
 use Rattle.sets.proofs.Members.{has-half, has-zero, has-and, has-without, has-out, has-set-of, empty, first-in, first-out}
 
 -- the lowest digit, and the size of the half

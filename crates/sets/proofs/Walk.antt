@@ -11,7 +11,7 @@ use lib.Dec.{eqb}
 use lib.ListN.{getD}
 use lib.Pow.{pow-lt, pow-pos}
 use Rattle.basics.specs.Bounded.{any}
-use Rattle.basics.proofs.Booleans.{either, and-l, and-make, and-r, eqb-eq, not-false, or-l, or-r, or-true, same-truth}
+use Rattle.basics.proofs.Booleans.{and-l, and-make, and-r, either, eqb-eq, not-false, or-assoc as or-assoc-bool, or-l, or-r, or-true, same-truth}
 use Rattle.basics.proofs.Bounded.{any-find, any-make}
 use Rattle.sets.specs.Sets.{has, size, subsets, union, without}
 use Rattle.sets.proofs.Lowest.{Lowest, lowest, lowest-less, lowest-lt, lowest-part}
@@ -19,10 +19,6 @@ use Rattle.sets.proofs.Members.{ext, ext-all, first-in, first-made, fir
 use Rattle.sets.proofs.Subsets.{spread, spread-lt, spread-mod, spread-turn, spread-zero, subsets-nth}
 
 -- join is associative
-or-assoc-bool : (a b c : Bool) → (a || b || c) ≡ (a || (b || c))
-or-assoc-bool true b c = refl
-or-assoc-bool false b c = refl
-
 pub or-assoc : (a b c : ℕ) → bitOr (bitOr a b) c ≡ bitOr a (bitOr b c)
 or-assoc a b c =
     ext-all (bitOr (bitOr a b) c) (bitOr a (bitOr b c))

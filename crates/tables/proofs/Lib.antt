@@ -1,5 +1,4 @@
 pub mod Checks
-pub mod Counts
 pub mod Laws
 pub mod Marking
 pub mod Refusals

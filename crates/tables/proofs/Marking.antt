@@ -15,7 +15,7 @@ use Rattle.basics.proofs.Bounded.{each-all, each-same}
 use Rattle.tables.specs.Marks.{Mark, nothing, first, again, Marks-ask, Marked, Marks, all, twice}
 use Rattle.tables.specs.Table.{n-of, m-of, head-of, next-of, heads-good, nexts-good, named}
 use Rattle.tables.proofs.Checks.{next-good}
-use Rattle.tables.proofs.Counts.{count-hit}
+use Rattle.basics.proofs.Counting.{count-hit}
 use Rattle.tables.proofs.Scans.{scan-fails}
 
 -- no link yet
@@ -84,7 +84,7 @@ module _ {link : ℕ → ℕ} {i m a : ℕ} {before seen after : List ℕ} {b : 
   marked-twice k l inside h =
       let g = rw read at (mark-again one (true-not b h)) in
       let earlier = s .adds (link i) (g .0) inside in
-      let more = count-hit (λ j. eqb (link j) (link i)) i k l (eq-eqb {m = link i} refl) in
+      let more = count-hit i k (λ j. eqb (link j) (link i)) l (eq-eqb {m = link i} refl) in
       twice (link i) (g .0) inside (omega arith)
 
 -- all links

@@ -4,9 +4,10 @@ use mathlib.Core.Logic.{inl, inr}
 use mathlib.Core.List.{List}
 use Prim.Native.Nat.{ℕ}
 use lib.Dec.{eqb}
-use lib.ListN.{length, replicate, length-replicate}
+use lib.ListN.{length}
 use Rattle.basics.specs.Buffers.{zeros}
 use Rattle.basics.proofs.Booleans.{either, eqb-eq, eqb-ne}
+use Rattle.basics.proofs.Clears.{zeros-length, zeros-same}
 use Rattle.patterns.specs.Check.{check-refusal, as-checked}
 use Rattle.patterns.specs.declared.Checked.the-variants.{Passed}
 use Rattle.complement.specs.Build.{Build-says, used}
@@ -17,13 +18,8 @@ use Rattle.tubochre.specs.Demand.{Third-demand}
 use Rattle.tubochre.specs.declared.Trial.{Trial}
 use Rattle.tubochre.proofs.Demand.{third-demand}
 
-zeros-length : (w : List ℕ) → length (zeros w) ≡ length w
-unfolding zeros
-zeros-length w = length-replicate (length w) 0
-
 zeros-again : (w : List ℕ) → zeros (zeros w) ≡ zeros w
-unfolding zeros
-zeros-again w = let e = zeros-length w in ap (λ (n : ℕ). replicate {A = ℕ} n 0) e
+zeros-again w = zeros-same w (zeros w) (zeros-length w)
 
 module _
     {t u v o o-now s s-now w between w-now : List ℕ}

@@ -2,7 +2,7 @@
 use Prim.Native.Nat.{_-_}
 use native.Mathlib.Omega.{arith}
 use lib.ListN.{length}
-use Rattle.lassos.proofs.Clears.{Clearing, clearing-start, clearing-length, clearing-turn, clearing-end}
+use Rattle.basics.proofs.Clears.{Clearing, clearing-start, clearing-length, clearing-turn, clearing-end}
 use Rattle.lassos.proofs.clear.Statement.{statement}
 use Rattle.lassos.proofs.clear.Tie as tie
 

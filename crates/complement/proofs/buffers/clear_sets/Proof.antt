@@ -2,7 +2,7 @@
 use Prim.Native.Nat.{_-_}
 use native.Mathlib.Omega.{arith}
 use lib.ListN.{length}
-use Rattle.complement.proofs.Clears.{Clearing, clearing-start, clearing-length, clearing-turn, clearing-end}
+use Rattle.basics.proofs.Clears.{Clearing, clearing-start, clearing-length, clearing-turn, clearing-end}
 use Rattle.complement.proofs.buffers.clear_sets.Statement.{statement}
 use Rattle.complement.proofs.buffers.clear_sets.Tie as tie
 
