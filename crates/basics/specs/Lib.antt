@@ -1,3 +1,4 @@
 pub mod Bounded
 pub mod Buffers
+pub mod Packed
 pub mod Rows
