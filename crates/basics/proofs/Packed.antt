@@ -70,7 +70,7 @@ module _ (b : ℕ) (some : 1 ≤ b) where
         rw (sum, pow-suc b k) (digits-lt more (mod-lt a some))
 
   -- ENTRIES, so many to a word
-  module _ (k : ℕ) (many : 1 ≤ k) where
+  module _ (k : ℕ) where
     pub packed-lt : (w : List ℕ) (x : ℕ) → packed b k w x < b
     unfolding packed
     packed-lt w x = digit-lt (getD w (x / k) 0) (x % k)
