@@ -18,8 +18,8 @@ source-next w p e f = rw (add-one, ← e) (f ∙ rw add-one)
 -- record p + 1 is one of them
 pub record-asked : {w : List ℕ} {n m p : ℕ} → Sourced w n m → p < m → Record-asks w n (p + 1)
 record-asked a l =
-    let few = a .few in
-    record { counted = a .asks .counted; few = a .asks .few; from-one = omega arith; small = omega arith }
+    let e = a .records in
+    record { counted = a .asks .counted; from-one = omega arith; number-to = omega arith; sized = a .asks .sized }
 
 pub source-small : {w : List ℕ} {n m : ℕ} (p : ℕ) {s : ℕ} → Sourced w n m → p < m → s ≡ source-of w p → s < 65536
-source-small p a l e = let b = a .source p l in let few = a .asks .few in omega arith
+source-small p a l e = let b = a .source p l in let few = a .few in omega arith

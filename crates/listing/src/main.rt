@@ -15,9 +15,9 @@ use text::state_line;
 ghost use mathlib.Core.Path.{_≡_};
 ghost use Prim.Native.Nat.{_+_, _*_, _≤_, _<_};
 ghost use lib.ListN.{length};
-ghost use Rattle.tables.specs.Access.{Record-asks};
+ghost use Rattle.tables.specs.Access.{State-asks, Record-asks};
 ghost use Rattle.complement.specs.Build.{room-of};
-ghost use Rattle.text.specs.Built.{Sourced, To-print};
+ghost use Rattle.text.specs.Built.{States-ask, Sourced, To-print};
 ghost use Rattle.text.specs.Listing.{listing-room};
 ghost use Rattle.text.specs.Reading.{Ready};
 
@@ -80,6 +80,7 @@ fn print_counts(states: u32, edges: u32) -> bool {
 }
 
 fn print_state(words: &[u16], sets: &[u32], state: usize) -> bool
+    requires { ⌜ State-asks (now words) state ⌝ }
     requires { ⌜ state < 65536 ⌝ }
     requires { ⌜ 4 * state + 4 ≤ length (now sets) ⌝ }
 {
@@ -89,6 +90,7 @@ fn print_state(words: &[u16], sets: &[u32], state: usize) -> bool
 }
 
 fn print_states(words: &[u16], sets: &[u32], states: usize) -> bool
+    requires { ⌜ States-ask (now words) states ⌝ }
     requires { ⌜ states < 65536 ⌝ }
     requires { ⌜ 4 * states ≤ length (now sets) ⌝ }
 {

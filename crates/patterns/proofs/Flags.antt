@@ -11,8 +11,9 @@ use lib.Bits.{bitOr, or-shifted-r}
 use Rattle.basics.proofs.Booleans.{and-make, and-false-r, lt-ltb, eq-eqb, ne-eqb, le-leb, gt-leb}
 use Rattle.sets.specs.Sets.{set-of}
 use Rattle.sets.proofs.Members.{set-of-lt}
+use Rattle.tables.specs.Access.{State-asks}
 use Rattle.tables.specs.Table.{pattern-range, table-refusal, n-of, flags-of, is-initial, is-accepting, meaning}
-use Rattle.tables.proofs.Laws.{valid}
+use Rattle.tables.proofs.Laws.{valid, state-asked}
 use Rattle.patterns.specs.Pattern.{initial-states, accepting-states}
 use Rattle.patterns.proofs.General.{shifted}
 
@@ -60,6 +61,9 @@ module _ (t : List ℕ) (pattern : table-refusal pattern-range t ≡ 0) (states 
 
   pub gathered-small : state < states → state < 32
   gathered-small l = let n = few in omega arith
+
+  pub gathered-reads : state < states → State-asks t state
+  gathered-reads l = state-asked pattern-range t pattern (omega arith)
 
   module _ (set flags : ℕ) (read : flags ≡ flags-of t state) (l : state < states) where
     below : ltb state (n-of t) ≡ true

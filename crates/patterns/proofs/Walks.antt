@@ -15,9 +15,9 @@ use Rattle.automata.specs.Decision.{tabulate}
 use Rattle.automata.proofs.Graphs.{tabulate-at}
 use Rattle.sets.specs.Sets.{has}
 use Rattle.sets.proofs.Members.{has-zero, has-or, has-single, ext, set-of-lt}
-use Rattle.tables.specs.Access.{Record-asks}
+use Rattle.tables.specs.Access.{State-asks, Record-asks}
 use Rattle.tables.specs.Table.{pattern-range, n-of, m-of, head-of, letter-of, target-of, next-of, chain-has, edge, meaning}
-use Rattle.tables.proofs.Laws.{Valid, valid, next-later, chain-ends, chain-step, meaning-closed}
+use Rattle.tables.proofs.Laws.{Valid, valid, state-asked, record-asked, next-later, chain-ends, chain-step, meaning-closed}
 use Rattle.patterns.specs.Pattern.{targets-of, moves}
 use Rattle.patterns.specs.Masks.{row-of, Row-asks}
 use Rattle.patterns.proofs.General.{zeros-at, tabulate-length, shifted}
@@ -45,17 +45,12 @@ module _ (t : List ℕ) (states s : ℕ) (asks : Row-asks t states s) where
   inside : s < n-of t
   inside = omega arith
 
-  pub walk-state : s < 65536
-  walk-state = let a = inside in let b = few in omega arith
+  -- what reading the state, and a record of its chain, asks and answers
+  pub walk-state : State-asks t s
+  walk-state = state-asked pattern-range t (asks .pattern) inside
 
-  -- what reading a record of the chain asks and answers
   pub walk-record : (row : List ℕ) (at : ℕ) → (at ≡ 0 → ⊥) → Walked t s row at → Record-asks t states at
-  unfolding pattern-range
-  walk-record row at some w =
-      let m = v .records-to in
-      let n = few in
-      let link = w .link in
-      record { counted = asks .counted; few = omega arith; from-one = omega arith; small = omega arith }
+  walk-record row at some w = record-asked pattern-range t (asks .pattern) (asks .counted) (omega arith) (w .link)
 
   pub walk-letter : (row : List ℕ) (at l : ℕ) → (at ≡ 0 → ⊥) → Walked t s row at → l ≡ letter-of t at → l < 16
   walk-letter row at l some w e = let a = v .letter at (omega arith) (w .link) in let k = v .letters-to in omega arith

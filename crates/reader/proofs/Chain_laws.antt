@@ -2,11 +2,12 @@
 use mathlib.Core.Path.{_≡_, refl, sym, _∙_}
 use mathlib.Core.Bool.{true, false}
 use mathlib.Core.List.{List}
-use Prim.Native.Nat.{ℕ, _≤_, _<_}
+use Prim.Native.Nat.{ℕ, _+_, _*_, _≤_, _<_}
 use lib.Dec.{leb}
+use lib.ListN.{getD}
 use Rattle.basics.proofs.Booleans.{and-make, and-l, and-r, and-false-l, and-false-r, leb-le, le-leb, gt-leb, lt-ltb, ge-ltb}
 use Rattle.tables.specs.Access.{Word}
-use Rattle.tables.specs.Table.{n-of, m-of, head-of, letter-of, target-of, next-of}
+use Rattle.tables.specs.Table.{n-of, m-of, head-of, record-at, letter-of, target-of, next-of}
 use Rattle.reader.specs.declared.Reading.the-variants.{Edge, End}
 use Rattle.reader.specs.Chain.{is-record, either-reading, reading-at, record-after, first-record}
 
@@ -40,7 +41,8 @@ pub first-head : (t : List ℕ) (q : ℕ) → q < n-of t → first-record t q �
 unfolding first-record
 first-head t q l = rw (lt-ltb l) refl
 
--- AS THE CODE READS THEM: n and m are the words that say how many states and records there are, c, q and x words of a record or of a state
+-- AS THE CODE READS THEM: n and m are the words that say how many states and records there are, p is where a record's words begin,
+-- and c, q and x are words of a record or of a state
 pub read-record : (t : List ℕ) (r : ℕ) {m : ℕ} → Word m (m-of t) → 1 ≤ r → r ≤ m → is-record t r ≡ true
 read-record t r w low high = record-yes t r low (rw (w .is) at high)
 
@@ -48,18 +50,23 @@ pub read-high : (t : List ℕ) (r : ℕ) {m : ℕ} → Word m (m-of t) → m < r
 unfolding is-record
 read-high t r w high = and-false-r (leb 1 r) (gt-leb (rw (w .is) at high))
 
-pub read-edge : (t : List ℕ) (r : ℕ) {c q : ℕ} → is-record t r ≡ true → Word c (letter-of t r) → Word q (target-of t r) → Edge c q ≡ reading-at t r
-unfolding reading-at either-reading
-read-edge t r e c q = rw (e, c .is, q .is) refl
+pub read-edge :
+    (t : List ℕ) (r : ℕ) {p c q : ℕ} → is-record t r ≡ true → p ≡ record-at t r → Word c (getD t p 0) → Word q (getD t (p + 1) 0) →
+    Edge c q ≡ reading-at t r
+unfolding reading-at either-reading letter-of target-of
+read-edge t r e place c q = rw (e, c .is, q .is, place) refl
 
 pub read-end : (t : List ℕ) (r : ℕ) → is-record t r ≡ false → End ≡ reading-at t r
 unfolding reading-at either-reading
 read-end t r e = rw e refl
 
-pub read-next : (t : List ℕ) (r : ℕ) {x : ℕ} → is-record t r ≡ true → Word x (next-of t r) → x ≡ record-after t r
-read-next t r e x = x .is ∙ sym (after-record t r e)
+pub read-next :
+    (t : List ℕ) (r : ℕ) {p x : ℕ} → is-record t r ≡ true → p ≡ record-at t r → Word x (getD t (p + 2) 0) → x ≡ record-after t r
+unfolding next-of
+read-next t r e place x = x .is ∙ rw place (sym (after-record t r e))
 
-pub read-head : (t : List ℕ) (q : ℕ) {n x : ℕ} → Word n (n-of t) → q < n → Word x (head-of t q) → x ≡ first-record t q
+pub read-head : (t : List ℕ) (q : ℕ) {n x : ℕ} → Word n (n-of t) → q < n → Word x (getD t (4 + 2 * q) 0) → x ≡ first-record t q
+unfolding head-of
 read-head t q w l x = x .is ∙ sym (first-head t q (rw (w .is) at l))
 
 pub read-none : (t : List ℕ) (q : ℕ) {n : ℕ} → Word n (n-of t) → n ≤ q → 0 ≡ first-record t q

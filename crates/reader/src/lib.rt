@@ -3,13 +3,12 @@
 // The first three are thin: the work is done on the slice and the number, by `first_record`, `edge_at` and `record_after`.
 // Every function answers on every slice: damaged links lead to the end.
 ghost use mathlib.Core.Path.{_≡_};
+ghost use Prim.Native.Nat.{_*_, _≤_, _<_};
+ghost use Rattle.tables.specs.Table.{record-at};
 ghost use Rattle.reader.specs.Chain.{reading-at, record-after, first-record, goes-on, edges-of};
-use tables::head_of;
-use tables::letter_of;
-use tables::next_of;
 use tables::records_of;
 use tables::states_of;
-use tables::target_of;
+use tables::word;
 
 // What stands at a record number: an edge, or the end of the chain.
 pub enum Reading {
@@ -30,10 +29,18 @@ pub fn first_record(table: &[u16], state: usize) -> usize
     ensures { λ r. ⌜ r ≡ first-record (now (table .entry)) state ⌝ }
 {
     if state < states_of(table) {
-        head_of(table, state)
+        word(table, 4 + 2 * state)
     } else {
         0
     }
+}
+
+// Where a record's words begin. They may lie past the end of the slice: so they are read as words, which are zero there.
+fn record_place(table: &[u16], number: usize) -> usize
+    requires { ⌜ (1 ≤ number) × (number < 65536) ⌝ }
+    ensures { λ r. ⌜ (r ≡ record-at (now (table .entry)) number) × (r < 5 * 65536) ⌝ }
+{
+    3 + 2 * states_of(table) + 3 * (number - 1)
 }
 
 // The edge of a record, or the end where there is no such record.
@@ -46,10 +53,10 @@ pub fn edge_at(table: &[u16], number: usize) -> Reading
     if number > records_of(table) {
         return Reading::End;
     }
-    let n = states_of(table);
+    let place = record_place(table, number);
     Reading::Edge {
-        letter: letter_of(table, n, number),
-        target: target_of(table, n, number),
+        letter: word(table, place),
+        target: word(table, place + 1),
     }
 }
 
@@ -63,7 +70,7 @@ pub fn record_after(table: &[u16], number: usize) -> usize
     if number > records_of(table) {
         return 0;
     }
-    next_of(table, states_of(table), number)
+    word(table, record_place(table, number) + 2)
 }
 
 // A walk goes on at an edge, for as many turns as there are records; so it ends where damaged links lead round.

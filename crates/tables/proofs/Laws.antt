@@ -12,6 +12,7 @@ use Rattle.basics.specs.Bounded.{each}
 use Rattle.basics.proofs.Booleans.{either, clash, and-l, and-r, and-make, or-l, or-r, or-true, true-not, false-not, eqb-eq, eq-eqb, eqb-ne, ne-eqb, ltb-lt, ltb-ge, lt-ltb, ge-ltb, leb-le, le-leb}
 use Rattle.basics.proofs.Bounded.{each-all, each-make}
 use Rattle.automata.specs.Automaton.{Closed}
+use Rattle.tables.specs.Access.{State-asks, Record-asks}
 use Rattle.tables.specs.Table.{Limits, pattern-range, wide-range, n-of, k-of, m-of, flags-of, head-of, record-at, letter-of, target-of, next-of, is-initial, chain-has, edge, meaning, flags-good, records-good, named, heads-good, nexts-good, chains-good, table-refusal}
 
 -- VALID TABLES: the plain facts behind refusals 2 to 9
@@ -31,7 +32,7 @@ pub record Valid (r : Limits) (t : List ℕ) : Type 0 where
   pub once : (x : ℕ) → 1 ≤ x → x ≤ m-of t → named t x ≡ 1
 
 -- a check that passes, and the checks after it
-passed : (b : Bool) (k : ℕ) (others : ℕ) → cond b (suc k) others ≡ 0 → (b ≡ false) × (others ≡ 0)
+pub passed : (b : Bool) (k : ℕ) (others : ℕ) → cond b (suc k) others ≡ 0 → (b ≡ false) × (others ≡ 0)
 passed true k others h = absurd (omega arith)
 passed false k others h = (refl, h)
 
@@ -170,6 +171,16 @@ passes-wider r s t ls lr h = valid-passes s t (valid-wider r s t ls lr (valid r 
 pub pattern-is-wide : (t : List ℕ) → table-refusal pattern-range t ≡ 0 → table-refusal wide-range t ≡ 0
 unfolding pattern-range wide-range
 pattern-is-wide t = passes-wider pattern-range wide-range t (omega arith) (omega arith)
+
+-- what reading a state or a record of a table that passes asks
+module _ (r : Limits) (t : List ℕ) (passes : table-refusal r t ≡ 0) where
+  pub state-asked : {q : ℕ} → q < n-of t → State-asks t q
+  state-asked l = let whole = valid r t passes .whole in record { inside = l; sized = omega arith }
+
+  pub record-asked : {states x : ℕ} → states ≡ n-of t → 1 ≤ x → x ≤ m-of t → Record-asks t states x
+  record-asked e o l =
+      let whole = valid r t passes .whole in
+      record { counted = e; from-one = o; number-to = l; sized = omega arith }
 
 -- zero ends a chain, with any fuel
 pub chain-ends : (fuel : ℕ) (t : List ℕ) (c q : ℕ) → chain-has fuel t 0 c q ≡ false

@@ -3,11 +3,14 @@ use mathlib.Core.Path.{_≡_, refl}
 use mathlib.Core.Bool.{Bool, true, false, _&&_, not, cond}
 use mathlib.Core.List.{List}
 use Prim.Native.Nat.{ℕ, _+_, _*_, _≤_, _<_}
+use native.Mathlib.Omega.{arith}
 use lib.Dec.{ltb, leb, eqb}
 use lib.ListN.{length}
-use Rattle.basics.proofs.Booleans.{and-make, and-false-l, and-false-r, true-not, false-not, le-leb, gt-leb, lt-ltb, ge-ltb, eq-eqb, ne-eqb}
+use Rattle.basics.proofs.Booleans.{and-make, and-false-l, and-false-r, true-not, false-not, le-leb, gt-leb, lt-ltb, ge-ltb, eq-eqb, eqb-eq, ne-eqb}
+use Rattle.tables.specs.Access.{Sized}
 use Rattle.tables.specs.Sizes.{sizes-refusal}
 use Rattle.tables.specs.Table.{Limits, n-of, k-of, m-of, flags-good, records-good, chains-good, table-refusal}
+use Rattle.tables.proofs.Laws.{passed}
 
 -- refusals 2 to 6 first, then the others
 by-parts :
@@ -20,6 +23,10 @@ by-parts false false true d e others = refl
 by-parts false false false true e others = refl
 by-parts false false false false true others = refl
 by-parts false false false false false others = refl
+
+-- where none of five is met, the last is not
+last-passes : (a b c d e : Bool) → _≡_ {A = ℕ} (cond a 2 (cond b 3 (cond c 4 (cond d 5 (cond e 6 0))))) 0 → e ≡ false
+last-passes a b c d e h = passed e 5 0 (passed d 4 _ (passed c 3 _ (passed b 2 _ (passed a 1 _ h .1) .1) .1) .1) .0
 
 module _ (r : Limits) (t : List ℕ) where
   pub table-by-parts :
@@ -91,6 +98,20 @@ module _ (r : Limits) (t : List ℕ) where
               let c = and-make (le-leb k-from) (le-leb k-to) in
               let d = ge-ltb m-to in
               let e = eq-eqb l in cc
+
+  -- where none of them is met, the table's words are all there
+  pub sizes-sized : sizes-refusal r t ≡ 0 → Sized t
+  unfolding sizes-refusal
+  sizes-sized h =
+      let six =
+      last-passes
+      (ltb (length t) 3)
+      (not (leb 1 (n-of t) && leb (n-of t) (r .states)))
+      (not (leb 1 (k-of t) && leb (k-of t) 16))
+      (ltb (r .records) (m-of t))
+      (not (eqb (length t) (3 + 2 * n-of t + 3 * m-of t)))
+      h in
+      let whole = eqb-eq (length t) (3 + 2 * n-of t + 3 * m-of t) (false-not _ six) in omega arith
 
   -- REFUSALS 7 TO 9 after them, as the checks are answered
   module _ {x : ℕ} (sizes : x ≡ sizes-refusal r t) where

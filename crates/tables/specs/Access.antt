@@ -1,20 +1,30 @@
 -- What the reading functions ask and answer. Assumes nothing: these are definitions.
 use mathlib.Core.Path.{_≡_}
 use mathlib.Core.List.{List}
-use Prim.Native.Nat.{ℕ, _≤_, _<_}
-use Rattle.tables.specs.Table.{Limits, n-of}
+use Prim.Native.Nat.{ℕ, _+_, _*_, _≤_, _<_}
+use lib.ListN.{length}
+use Rattle.tables.specs.Table.{Limits, n-of, m-of}
 
 -- the answer is this word of the table, and it has 16 bits
 pub record Word (answer word : ℕ) : Type 0 where
   pub is : answer ≡ word
   pub small : answer < 65536
 
--- the table's state count is handed on, and the record number is one that a word can hold; records are numbered from 1
+-- all the words that n and m call for are there
+abbrev pub Sized : (table : List ℕ) → Type 0
+Sized t = 3 + 2 * n-of t + 3 * m-of t ≤ length t
+
+-- one of the table's states
+pub record State-asks (table : List ℕ) (state : ℕ) : Type 0 where
+  pub inside : state < n-of table
+  pub sized : Sized table
+
+-- the table's state count is handed on, with the number of one of its records; they are numbered from 1
 pub record Record-asks (table : List ℕ) (states number : ℕ) : Type 0 where
   pub counted : states ≡ n-of table
-  pub few : states < 65536
   pub from-one : 1 ≤ number
-  pub small : number < 65536
+  pub number-to : number ≤ m-of table
+  pub sized : Sized table
 
 -- a range, from its two numbers
 abbrev pub limits : (states records : ℕ) → Limits

@@ -5,7 +5,7 @@ ghost use Prim.Native.Nat.{suc, _<_};
 ghost use lib.Dec.{eqb, leb, ltb};
 ghost use lib.ListN.{getD, length};
 ghost use Rattle.basics.specs.Bounded.{each};
-ghost use Rattle.tables.specs.Access.{Word, Record-asks, limits};
+ghost use Rattle.tables.specs.Access.{Word, Sized, State-asks, Record-asks, limits};
 ghost use Rattle.tables.specs.Marks.{Mark, Marks-ask, Marks};
 ghost use Rattle.tables.specs.Sizes.{sizes-refusal};
 ghost use Rattle.tables.specs.Table.{n-of, k-of, m-of, flags-of, head-of, letter-of, target-of, next-of, flags-good, records-good, heads-good, nexts-good, named, chains-good, table-refusal};
@@ -46,18 +46,18 @@ pub fn records_of(table: &[u16]) -> usize
 
 // The flags of a state: 1 initial, 2 accepting, 3 both.
 pub fn flags_of(table: &[u16], state: usize) -> usize
-    requires { ⌜ state < 65536 ⌝ }
+    requires { ⌜ State-asks (now table) state ⌝ }
     ensures { λ r. ⌜ Word r (flags-of (now (table .entry)) state) ⌝ }
 {
-    word(table, 3 + 2 * state)
+    table[3 + 2 * state] as usize
 }
 
 // The first record of a state's chain; zero where it has none.
 pub fn head_of(table: &[u16], state: usize) -> usize
-    requires { ⌜ state < 65536 ⌝ }
+    requires { ⌜ State-asks (now table) state ⌝ }
     ensures { λ r. ⌜ Word r (head-of (now (table .entry)) state) ⌝ }
 {
-    word(table, 4 + 2 * state)
+    table[4 + 2 * state] as usize
 }
 
 // The letter of a record. The state count is handed on, so that a walk along a chain reads it once.
@@ -65,7 +65,7 @@ pub fn letter_of(table: &[u16], states: usize, number: usize) -> usize
     requires { ⌜ Record-asks (now table) states number ⌝ }
     ensures { λ r. ⌜ Word r (letter-of (now (table .entry)) number) ⌝ }
 {
-    word(table, 3 + 2 * states + 3 * (number - 1))
+    table[3 + 2 * states + 3 * (number - 1)] as usize
 }
 
 // The state that a record's edge leads to.
@@ -73,7 +73,7 @@ pub fn target_of(table: &[u16], states: usize, number: usize) -> usize
     requires { ⌜ Record-asks (now table) states number ⌝ }
     ensures { λ r. ⌜ Word r (target-of (now (table .entry)) number) ⌝ }
 {
-    word(table, 3 + 2 * states + 3 * (number - 1) + 1)
+    table[3 + 2 * states + 3 * (number - 1) + 1] as usize
 }
 
 // The record after this one in its chain; zero ends the chain.
@@ -81,13 +81,14 @@ pub fn next_of(table: &[u16], states: usize, number: usize) -> usize
     requires { ⌜ Record-asks (now table) states number ⌝ }
     ensures { λ r. ⌜ Word r (next-of (now (table .entry)) number) ⌝ }
 {
-    word(table, 3 + 2 * states + 3 * (number - 1) + 2)
+    table[3 + 2 * states + 3 * (number - 1) + 2] as usize
 }
 
 // REFUSALS 2 TO 9. Each check is one pass over the table.
 
 // 7: every flags word is at most 3.
 fn flags_good(table: &[u16]) -> bool
+    requires { ⌜ Sized (now table) ⌝ }
     ensures { λ r. ⌜ r ≡ flags-good (now (table .entry)) ⌝ }
 {
     let n = states_of(table);
@@ -103,6 +104,7 @@ fn flags_good(table: &[u16]) -> bool
 
 // 8: every record's letter and target are in range.
 fn records_good(table: &[u16]) -> bool
+    requires { ⌜ Sized (now table) ⌝ }
     ensures { λ r. ⌜ r ≡ records-good (now (table .entry)) ⌝ }
 {
     let n = states_of(table);
@@ -123,6 +125,7 @@ fn records_good(table: &[u16]) -> bool
 
 // 9, heads: each is zero or the number of a record.
 fn heads_good(table: &[u16]) -> bool
+    requires { ⌜ Sized (now table) ⌝ }
     ensures { λ r. ⌜ r ≡ heads-good (now (table .entry)) ⌝ }
 {
     let n = states_of(table);
@@ -152,6 +155,7 @@ fn next_good(next: usize, number: usize, m: usize) -> bool
 
 // 9, nexts: each is zero or the number of a later record.
 fn nexts_good(table: &[u16]) -> bool
+    requires { ⌜ Sized (now table) ⌝ }
     ensures { λ r. ⌜ r ≡ nexts-good (now (table .entry)) ⌝ }
 {
     let n = states_of(table);
@@ -183,6 +187,7 @@ fn mark(seen: &mut [u8], link: usize) -> bool
 
 // Marks what the heads name. False where a record is named a second time.
 fn mark_heads(table: &[u16], seen: &mut [u8]) -> bool
+    requires { ⌜ Sized (now table) ⌝ }
     requires { ⌜ Marks-ask (head-of (now table)) (n-of (now table)) (m-of (now table)) (now seen) ⌝ }
     ensures { λ r. ⌜ Marks (head-of (now (table .entry))) (n-of (now (table .entry))) (m-of (now (table .entry)))
         (now (seen .entry)) (now (seen .exit)) r ⌝ }
@@ -200,6 +205,7 @@ fn mark_heads(table: &[u16], seen: &mut [u8]) -> bool
 
 // Marks what the nexts name. False where a record is named a second time.
 fn mark_nexts(table: &[u16], seen: &mut [u8]) -> bool
+    requires { ⌜ Sized (now table) ⌝ }
     requires { ⌜ Marks-ask (λ i. next-of (now table) (suc i)) (m-of (now table)) (m-of (now table)) (now seen) ⌝ }
     ensures { λ r. ⌜ Marks (λ i. next-of (now (table .entry)) (suc i)) (m-of (now (table .entry))) (m-of (now (table .entry)))
         (now (seen .entry)) (now (seen .exit)) r ⌝ }
@@ -233,6 +239,7 @@ fn all_marked(seen: &[u8], m: usize) -> bool
 
 // 9, names: every record is named exactly once. A flag for each record says whether it was named already, so one pass over the links is enough.
 fn named_once(table: &[u16]) -> bool
+    requires { ⌜ Sized (now table) ⌝ }
     requires { ⌜ (heads-good (now table) ≡ true) × (nexts-good (now table) ≡ true) ⌝ }
     ensures { λ r. ⌜ r ≡ each (m-of (now (table .entry))) (λ i. eqb (named (now (table .entry)) (suc i)) 1) ⌝ }
 {
@@ -248,6 +255,7 @@ fn named_once(table: &[u16]) -> bool
 
 // 9: links in range and forward, each record named exactly once.
 fn chains_good(table: &[u16]) -> bool
+    requires { ⌜ Sized (now table) ⌝ }
     ensures { λ r. ⌜ r ≡ chains-good (now (table .entry)) ⌝ }
 {
     if !heads_good(table) {

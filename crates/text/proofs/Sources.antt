@@ -7,6 +7,7 @@ use native.Mathlib.Numerals.{add-one}
 use native.Mathlib.Omega.{arith}
 use lib.Dec.{eqb}
 use Rattle.basics.proofs.Booleans.{eq-eqb, ne-eqb}
+use Rattle.tables.specs.Access.{State-asks}
 use Rattle.tables.specs.Table.{head-of, next-of}
 use Rattle.text.specs.Built.{with-chain, first-source, source-behind, States-ask}
 
@@ -19,6 +20,10 @@ chain-here w k i h =
 pub chain-later : (w : List ℕ) (k i : ℕ) → head-of w i ≡ 0 → with-chain w (suc k) i ≡ with-chain w k (suc i)
 unfolding with-chain
 chain-later w k i h = ap (λ (b : Bool). elim b [ true ↦ with-chain w k (suc i) | false ↦ i ]) (eq-eqb h)
+
+-- what reading a state's head asks
+pub source-reads : {w : List ℕ} {n i : ℕ} → States-ask w n → i < n → State-asks w i
+source-reads a l = let e = a .counted in record { inside = omega arith; sized = a .sized }
 
 -- THE LOOP OF `first_source`: what is looked for lies from `state` on
 module _ {w : List ℕ} {n : ℕ} (a : States-ask w n) (from : ℕ) where

@@ -15,13 +15,15 @@ use Rattle.basics.proofs.Booleans.{either, eq-eqb, ne-eqb, ltb-lt, ltb-ge}
 use Rattle.basics.proofs.Rows.{rows-at, rows-same, rows-length}
 use Rattle.automata.specs.Automaton.{Automaton}
 use Rattle.automata.specs.System.{Edge, an-edge, edge-at, state-at, numbered}
-use Rattle.tables.specs.Table.{n-of, flags-of, head-of, record-at, letter-of, target-of, next-of, wide-range}
+use Rattle.tables.specs.Access.{Sized}
+use Rattle.tables.specs.Table.{n-of, m-of, flags-of, head-of, record-at, letter-of, target-of, next-of, wide-range}
 use Rattle.ncsb.specs.Successors.{quadruple}
 use Rattle.layout.specs.Chained.{first-record, next-record, flags-word}
 use Rattle.layout.specs.Orderly.{Orderly}
 use Rattle.layout.proofs.Filled.{filled-at}
 use Rattle.layout.proofs.Firsts.{First, first-is, absent, first-at, Next, next-is, ends, goes-on, rising}
 use Rattle.layout.proofs.Indexed.{Indexed, filled-indexed}
+use Rattle.layout.proofs.Words.{chained-length}
 use Rattle.complement.specs.Build.{room-of, build-refusal, as-counts, after-build, Build-says}
 use Rattle.complement.specs.Complement.{system-of, complement, complement-automaton, complement-words, sets-words, quadruple-words, record-width}
 use Rattle.complement.specs.Records.{quadruple-at}
@@ -56,6 +58,10 @@ module _ {a : Automaton} {es : List Edge} (o : Orderly a es) {w : List ℕ} (x :
   states-are : n-of w ≡ a .states
   unfolding n-of
   states-are = x .states
+
+  records-are : m-of w ≡ length es
+  unfolding m-of
+  records-are = x .records
 
   head-is : (i : ℕ) → i < a .states → head-of w i ≡ first-record 1 i es
   unfolding head-of
@@ -174,6 +180,15 @@ module _ {t : List ℕ} {r : Counts} {o o-now s s-now : List ℕ} (says : Build-
       let e = simp length-append at (ap length sets-are) in
       let z = length-replicate {A = ℕ} (length s - length (sets-words t)) 0 in omega arith
 
+  -- the words are all there
+  sized : Sized o-now
+  unfolding filled complement-words
+  sized =
+      let n = states-are orderly indexed in
+      let m = records-are orderly indexed in
+      let long = chained-length (complement-automaton t) (complement t .edges) in
+      let e = simp length-append at (ap length words-are) in omega arith
+
   -- each record has a source
   pub sourced : Sourced o-now (r .states) (r .edges)
   unfolding complement-automaton numbered wide-range
@@ -183,8 +198,9 @@ module _ {t : List ℕ} {r : Counts} {o o-now s s-now : List ℕ} (says : Build-
       let f = build-fits says accepted in
       let k = states-are orderly indexed in
       record {
-        asks = record { counted = n ∙ sym k; few = let e = f .states in omega arith };
-        few = let e = f .edges in omega arith;
+        asks = record { counted = n ∙ sym k; sized = sized };
+        few = let e = f .states in omega arith;
+        records = m ∙ sym (records-are orderly indexed);
         source =
             λ i l.
             let e = source-right orderly indexed i (omega arith) in let b = orderly .source i (omega arith) in omega arith;
@@ -275,7 +291,7 @@ pub to-print :
 to-print says room same =
     record {
       answers = rw room at (printed-right says);
-      states = λ accepted. (sourced says accepted .asks .few, sets-there says accepted same);
+      states = λ accepted. (sourced says accepted .few, sets-there says accepted same);
       edges = λ accepted. sourced says accepted;
     }
 

@@ -7,7 +7,8 @@ use lib.Dec.{eqb}
 use lib.ListN.{length}
 use Rattle.basics.specs.Rows.{rows}
 use Rattle.automata.specs.System.{an-edge}
-use Rattle.tables.specs.Table.{n-of, flags-of, head-of, letter-of, target-of, next-of}
+use Rattle.tables.specs.Access.{Sized, State-asks}
+use Rattle.tables.specs.Table.{n-of, m-of, flags-of, head-of, letter-of, target-of, next-of}
 use Rattle.complement.specs.Build.{build-refusal}
 use Rattle.complement.specs.Records.{quadruple-at}
 use Rattle.complement.specs.declared.Counts.{Counts}
@@ -48,21 +49,23 @@ unfoldable pub printed : Counts → (words sets : List ℕ) → List ℕ
 printed r w s =
     cond (eqb (r .number) 0) (built-text (r .states) (r .edges) w s) (refused-line (r .number))
 
--- WHAT THE FUNCTIONS ASK: a state whose sets are there
-pub record State-asks (sets : List ℕ) (state : ℕ) (line : List ℕ) : Type 0 where
+-- WHAT THE FUNCTIONS ASK: a state of the table whose sets are there
+pub record Line-asks (words sets : List ℕ) (state : ℕ) (line : List ℕ) : Type 0 where
+  pub reads : State-asks words state
   pub small : state < 65536
   pub sets-there : 4 * state + 4 ≤ length sets
   pub room : 80 ≤ length line
 
--- the table's state count
+-- the table's state count, and all its words
 pub record States-ask (words : List ℕ) (states : ℕ) : Type 0 where
   pub counted : states ≡ n-of words
-  pub few : states < 65536
+  pub sized : Sized words
 
--- so many records, each with a source
+-- all records, each with a source
 pub record Sourced (words : List ℕ) (states edges : ℕ) : Type 0 where
   pub asks : States-ask words states
-  pub few : edges < 65536
+  pub few : states < 65536
+  pub records : edges ≡ m-of words
   pub source : (r : ℕ) → r < edges → source-of words r < states
 
 -- WHAT IS TO BE PRINTED for a table: the answer to it, with the listing's room; where the build was accepted, there are sets for each state

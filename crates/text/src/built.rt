@@ -10,11 +10,11 @@ ghost use Prim.Native.Nat.{_≤_, _<_};
 ghost use lib.ListN.{length};
 ghost use Rattle.tables.specs.Access.{Record-asks};
 ghost use Rattle.text.specs.Lines.{Put};
-ghost use Rattle.text.specs.Built.{State-asks, States-ask, first-source, source-behind, built-state, built-edge};
+ghost use Rattle.text.specs.Built.{Line-asks, States-ask, first-source, source-behind, built-state, built-edge};
 
 // A state: its number, N, C, S, B and flags.
 pub fn state_line(words: &[u16], sets: &[u32], state: usize, line: &mut [u8]) -> usize
-    requires { ⌜ State-asks (now sets) state (now line) ⌝ }
+    requires { ⌜ Line-asks (now words) (now sets) state (now line) ⌝ }
     ensures { λ r. ⌜ Put (now (line .entry)) 0 80 (built-state (now (words .entry)) (now (sets .entry)) state) (now (line .exit)) r ⌝ }
 {
     let at = 4 * state;

@@ -38,7 +38,9 @@ slice-aggregate-print-states-2 : tie.Need-slice-aggregate-print-states-2
 slice-aggregate-print-states-2 c = search needs
 
 print-states-requires : tie.Need-print-states-requires
-print-states-requires c κs = c .before .before .before .before .before .before .before .before .before .build .ensures .states (c .before .before .before .before .before .if1 .left)
+print-states-requires c κs =
+    let left = c .before .before .before .before .before .before .before .before .before .build .ensures in
+    let accepted = c .before .before .before .before .before .if1 .left in (left .edges accepted .asks, left .states accepted)
 
 returns-3 : tie.Need-returns-3
 returns-3 c = search needs

@@ -2,6 +2,7 @@
 use mathlib.Core.Path.{_≡_}
 use Prim.Native.Nat.{_-_}
 use native.Mathlib.Omega.{arith}
+use borrow.Author.Needs.{needs}
 use Rattle.text.specs.Built.{source-of}
 use Rattle.listing.proofs.Edges.{source-first, source-next, record-asked, source-small}
 use Rattle.listing.proofs.print_edges.Statement.{statement}
@@ -20,7 +21,7 @@ loop-holds : tie.Need-loop-holds Inv-loop μ-loop
 loop-holds c = source-first _ (c .first-source .ensures)
 
 add-print-edge : tie.Need-add-print-edge Inv-loop μ-loop
-add-print-edge c = let f = c .before .before .before .before .pre .few in record { fits = omega (arith, c .loop-test .taken) }
+add-print-edge c = search needs
 
 print-edge-requires : tie.Need-print-edge-requires Inv-loop μ-loop
 print-edge-requires c κs = (record-asked (c .before .before .before .before .pre) (c .loop-test .taken), source-small (c .before .loop .printed) (c .before .before .before .before .pre) (c .loop-test .taken) (c .before .loop .inv))
@@ -29,13 +30,13 @@ returns : tie.Need-returns Inv-loop μ-loop
 returns c = tt
 
 add-source-behind : tie.Need-add-source-behind Inv-loop μ-loop
-add-source-behind c = let f = c .before .before .before .before .before .before .pre .few in record { fits = omega (arith, c .before .before .loop-test .taken) }
+add-source-behind c = search needs
 
 source-behind-requires : tie.Need-source-behind-requires Inv-loop μ-loop
 source-behind-requires c κs = (record-asked (c .before .before .before .before .before .before .pre) (c .before .before .loop-test .taken), source-small (c .before .before .before .loop .printed) (c .before .before .before .before .before .before .pre) (c .before .before .loop-test .taken) (c .before .before .before .loop .inv))
 
 add-printed : tie.Need-add-printed Inv-loop μ-loop
-add-printed c = let f = c .before .before .before .before .before .before .before .pre .few in record { fits = omega (arith, c .before .before .before .loop-test .taken) }
+add-printed c = search needs
 
 loop-less : tie.Need-loop-less Inv-loop μ-loop
 loop-less c = omega (arith, c .before .before .before .loop-test .taken)

@@ -1,6 +1,7 @@
 -- `print_states` is safe and ends. Nothing has to hold from turn to turn. Assumes nothing.
 use Prim.Native.Nat.{_-_}
 use native.Mathlib.Omega.{arith}
+use Rattle.text.proofs.Sources.{source-reads}
 use Rattle.listing.proofs.print_states.Statement.{statement}
 use Rattle.listing.proofs.print_states.Tie as tie
 
@@ -14,7 +15,7 @@ loop-holds : tie.Need-loop-holds Inv-loop μ-loop
 loop-holds c = tt
 
 print-state-requires : tie.Need-print-state-requires Inv-loop μ-loop
-print-state-requires c κs = let f = c .before .before .before .before .pre .0 in let g = c .before .before .before .before .pre .1 in let l = c .loop-test .taken in (omega arith, omega arith)
+print-state-requires c κs = (source-reads (c .before .before .before .before .pre .0) (c .loop-test .taken), (omega arith, omega arith))
 
 returns : tie.Need-returns Inv-loop μ-loop
 returns c = tt

@@ -3,7 +3,7 @@ use mathlib.Core.Logic.{⊎-elim}
 use Prim.Native.Nat.{_-_}
 use native.Mathlib.Omega.{arith}
 use Rattle.tables.specs.Table.{meaning, n-of}
-use Rattle.patterns.proofs.Flags.{Gathered, gathered-start, gathered-small, initial-in, initial-out, initial-end}
+use Rattle.patterns.proofs.Flags.{Gathered, gathered-start, gathered-small, gathered-reads, initial-in, initial-out, initial-end}
 use Rattle.patterns.proofs.initial_states.Statement.{statement}
 use Rattle.patterns.proofs.initial_states.Tie as tie
 
@@ -20,7 +20,8 @@ loop-holds : tie.Need-loop-holds Inv-loop μ-loop
 loop-holds c = gathered-start _ _
 
 flags-of-requires : tie.Need-flags-of-requires Inv-loop μ-loop
-flags-of-requires c κs = omega (arith, c .before .before .states-of .ensures .small)
+flags-of-requires c κs =
+    gathered-reads _ (c .before .before .before .before .pre) _ _ (c .before .before .states-of .ensures .is) (c .loop-test .taken)
 
 shl-set : tie.Need-shl-set Inv-loop μ-loop
 shl-set c =

@@ -1,6 +1,5 @@
 -- `reader::first_record` meets its contract: a state that is there has its head. Assumes nothing.
 use borrow.Author.Needs.{needs}
-use native.Mathlib.Omega.{arith}
 use Rattle.reader.proofs.Chain_laws.{read-head, read-none}
 use Rattle.reader.proofs.first_record.Statement.{statement}
 use Rattle.reader.proofs.first_record.Tie as tie
@@ -8,14 +7,21 @@ use Rattle.reader.proofs.first_record.Tie as tie
 states-of-requires : tie.Need-states-of-requires
 states-of-requires c κs = search needs
 
-head-of-requires : tie.Need-head-of-requires
-head-of-requires c κs = omega (arith, c .before .states-of .ensures .small)
+mul-word : tie.Need-mul-word
+mul-word c = search needs
+
+add-word : tie.Need-add-word
+add-word c = search needs
+
+word-requires : tie.Need-word-requires
+word-requires c κs = search needs
 
 returns : tie.Need-returns
-returns c = read-head _ _ (c .before .before .states-of .ensures) (c .before .if1 .taken) (c .head-of .ensures)
+returns c = read-head _ _ (c .before .before .states-of .ensures) (c .before .if1 .taken) (c .word .ensures)
 
 returns-2 : tie.Need-returns-2
 returns-2 c = read-none _ _ (c .before .states-of .ensures) (c .if1 .left)
 
 pub first-record-spec : {M : Type 1} → statement M
-first-record-spec = tie.close (tie.spec states-of-requires head-of-requires returns returns-2)
+first-record-spec =
+    tie.close (tie.spec states-of-requires mul-word add-word word-requires returns returns-2)

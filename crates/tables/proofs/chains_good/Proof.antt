@@ -20,7 +20,7 @@ returns-2 : tie.Need-returns-2
 returns-2 c = nexts-bad (now (c .before .before .before .before .before .args .table)) (c .before .before .before .heads-good .ensures) (c .before .nexts-good .ensures) (c .before .before .if1 .left) (c .if2 .taken)
 
 named-once-requires : tie.Need-named-once-requires
-named-once-requires c κs = (sym (c .before .before .before .heads-good .ensures) ∙ false-not _ (c .before .before .if1 .left), sym (c .before .nexts-good .ensures) ∙ false-not _ (c .if2 .left))
+named-once-requires c κs = (c .before .before .before .before .before .pre, (sym (c .before .before .before .heads-good .ensures) ∙ false-not _ (c .before .before .if1 .left), sym (c .before .nexts-good .ensures) ∙ false-not _ (c .if2 .left)))
 
 returns-3 : tie.Need-returns-3
 returns-3 c =

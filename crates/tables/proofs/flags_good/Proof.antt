@@ -23,7 +23,7 @@ loop-holds : tie.Need-loop-holds Inv-loop μ-loop
 loop-holds c = scan-start
 
 flags-of-requires : tie.Need-flags-of-requires Inv-loop μ-loop
-flags-of-requires c κs = omega arith
+flags-of-requires c κs = record { inside = omega arith; sized = omega arith }
 
 returns : tie.Need-returns Inv-loop μ-loop
 unfolding flags-good

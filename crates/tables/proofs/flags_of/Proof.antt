@@ -1,21 +1,32 @@
 -- `tables::flags_of` meets its contract: it reads the first of a state's two words. Assumes nothing.
 use borrow.Author.Needs.{needs}
+use mathlib.Core.Path.{refl}
+use native.Mathlib.Omega.{arith}
+use Prim.Native.Nat.{_+_, _*_}
 use Rattle.tables.specs.Table.{flags-of}
 use Rattle.tables.proofs.flags_of.Statement.{statement}
 use Rattle.tables.proofs.flags_of.Tie as tie
 
-mul-word : tie.Need-mul-word
-mul-word c = search needs
+mul-result : tie.Need-mul-result
+mul-result c = search needs
 
-add-word : tie.Need-add-word
-add-word c = search needs
+add-result : tie.Need-add-result
+add-result c = search needs
 
-word-requires : tie.Need-word-requires
-word-requires c κs = search needs
+mul-result-2 : tie.Need-mul-result-2
+mul-result-2 c = search needs
+
+shared-slice-read-result : tie.Need-shared-slice-read-result
+shared-slice-read-result c = search needs
+
+cast-result : tie.Need-cast-result
+cast-result c = omega (arith, c .shared-slice-known .given (3 + 2 * c .before .args .state))
 
 returns : tie.Need-returns
 unfolding flags-of
-returns c = c .word .ensures
+returns c = record { is = refl; small = omega (arith, c .shared-slice-known .given (3 + 2 * c .before .args .state)) }
 
 pub flags-of-spec : {M : Type 1} → statement M
-flags-of-spec = tie.close (tie.spec mul-word add-word word-requires returns)
+flags-of-spec =
+    tie.close
+    (tie.spec mul-result add-result mul-result-2 shared-slice-read-result cast-result returns)

@@ -1,21 +1,32 @@
 -- `tables::head_of` meets its contract: it reads the second of a state's two words. Assumes nothing.
 use borrow.Author.Needs.{needs}
+use mathlib.Core.Path.{refl}
+use native.Mathlib.Omega.{arith}
+use Prim.Native.Nat.{_+_, _*_}
 use Rattle.tables.specs.Table.{head-of}
 use Rattle.tables.proofs.head_of.Statement.{statement}
 use Rattle.tables.proofs.head_of.Tie as tie
 
-mul-word : tie.Need-mul-word
-mul-word c = search needs
+mul-result : tie.Need-mul-result
+mul-result c = search needs
 
-add-word : tie.Need-add-word
-add-word c = search needs
+add-result : tie.Need-add-result
+add-result c = search needs
 
-word-requires : tie.Need-word-requires
-word-requires c κs = search needs
+mul-result-2 : tie.Need-mul-result-2
+mul-result-2 c = search needs
+
+shared-slice-read-result : tie.Need-shared-slice-read-result
+shared-slice-read-result c = search needs
+
+cast-result : tie.Need-cast-result
+cast-result c = omega (arith, c .shared-slice-known .given (4 + 2 * c .before .args .state))
 
 returns : tie.Need-returns
 unfolding head-of
-returns c = c .word .ensures
+returns c = record { is = refl; small = omega (arith, c .shared-slice-known .given (4 + 2 * c .before .args .state)) }
 
 pub head-of-spec : {M : Type 1} → statement M
-head-of-spec = tie.close (tie.spec mul-word add-word word-requires returns)
+head-of-spec =
+    tie.close
+    (tie.spec mul-result add-result mul-result-2 shared-slice-read-result cast-result returns)

@@ -25,7 +25,7 @@ loop-holds : tie.Need-loop-holds Inv-loop μ-loop
 loop-holds c = scan-start
 
 head-of-requires : tie.Need-head-of-requires Inv-loop μ-loop
-head-of-requires c κs = omega arith
+head-of-requires c κs = record { inside = omega arith; sized = omega arith }
 
 returns : tie.Need-returns Inv-loop μ-loop
 unfolding heads-good

@@ -19,13 +19,13 @@ states-of-requires : tie.Need-states-of-requires Inv-loop μ-loop
 states-of-requires c κs = search needs
 
 loop-holds : tie.Need-loop-holds Inv-loop μ-loop
-loop-holds c = (omega arith, marked-start _ _ _ (c .before .before .before .pre .once))
+loop-holds c = (omega arith, marked-start _ _ _ (c .before .before .before .pre .1 .once))
 
 head-of-requires : tie.Need-head-of-requires Inv-loop μ-loop
-head-of-requires c κs = omega arith
+head-of-requires c κs = record { inside = omega arith; sized = omega arith }
 
 mark-requires : tie.Need-mark-requires Inv-loop μ-loop
-mark-requires c κs = omega (arith, c .before .before .before .before .before .before .before .pre .long, c .before .before .before .loop .inv .1 .kept)
+mark-requires c κs = omega (arith, c .before .before .before .before .before .before .before .pre .1 .long, c .before .before .before .loop .inv .1 .kept)
 
 same-length : tie.Need-same-length Inv-loop μ-loop
 same-length c = c .before .before .before .mark .kept .0 ∙ c .before .before .before .before .before .before .before .loop .inv .1 .kept
@@ -33,7 +33,7 @@ same-length c = c .before .before .before .mark .kept .0 ∙ c .before .before .
 returns : tie.Need-returns Inv-loop μ-loop
 returns c =
     marked-twice (c .before .before .before .before .before .before .before .loop .inv .1) (c .before .before .before .before .head-of .ensures .is) (c .before .before .before .mark .ensures) _ (omega arith)
-    (c .before .before .before .before .before .before .before .before .before .before .before .pre .inside _ (omega arith)) (c .if1 .taken)
+    (c .before .before .before .before .before .before .before .before .before .before .before .pre .1 .inside _ (omega arith)) (c .if1 .taken)
 
 add-q : tie.Need-add-q Inv-loop μ-loop
 add-q c = omega arith

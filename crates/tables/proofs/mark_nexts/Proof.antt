@@ -23,16 +23,16 @@ records-of-requires : tie.Need-records-of-requires Inv-loop μ-loop
 records-of-requires c κs = search needs
 
 loop-holds : tie.Need-loop-holds Inv-loop μ-loop
-loop-holds c = (omega arith, marked-start _ _ _ (c .before .before .before .before .pre .once))
+loop-holds c = (omega arith, marked-start _ _ _ (c .before .before .before .before .pre .1 .once))
 
 add-next-of : tie.Need-add-next-of Inv-loop μ-loop
 add-next-of c = omega arith
 
 next-of-requires : tie.Need-next-of-requires Inv-loop μ-loop
-next-of-requires c κs = record { counted = c .before .before .before .before .states-of .ensures .is; few = omega arith; from-one = omega arith; small = omega arith }
+next-of-requires c κs = record { counted = c .before .before .before .before .states-of .ensures .is; from-one = omega arith; number-to = omega arith; sized = omega arith }
 
 mark-requires : tie.Need-mark-requires Inv-loop μ-loop
-mark-requires c κs = omega (arith, c .before .before .before .before .before .before .before .before .pre .long, c .before .before .before .loop .inv .1 .kept)
+mark-requires c κs = omega (arith, c .before .before .before .before .before .before .before .before .pre .1 .long, c .before .before .before .loop .inv .1 .kept)
 
 same-length : tie.Need-same-length Inv-loop μ-loop
 same-length c = c .before .before .before .mark .kept .0 ∙ c .before .before .before .before .before .before .before .loop .inv .1 .kept
@@ -40,7 +40,7 @@ same-length c = c .before .before .before .mark .kept .0 ∙ c .before .before .
 returns : tie.Need-returns Inv-loop μ-loop
 returns c =
     marked-twice (c .before .before .before .before .before .before .before .loop .inv .1) (rw add-one at (c .before .before .before .before .next-of .ensures .is)) (c .before .before .before .mark .ensures) _ (omega arith)
-    (c .before .before .before .before .before .before .before .before .before .before .before .before .pre .inside _ (omega arith)) (c .if1 .taken)
+    (c .before .before .before .before .before .before .before .before .before .before .before .before .pre .1 .inside _ (omega arith)) (c .if1 .taken)
 
 add-i : tie.Need-add-i Inv-loop μ-loop
 add-i c = omega arith

@@ -10,7 +10,7 @@ slice-aggregate-mark-heads : tie.Need-slice-aggregate-mark-heads
 slice-aggregate-mark-heads c = search needs
 
 mark-heads-requires : tie.Need-mark-heads-requires
-mark-heads-requires c κs = heads-ask (now (c .before .before .args .table)) 65536 (omega arith) (c .before .before .pre .0)
+mark-heads-requires c κs = (c .before .before .pre .0, heads-ask (now (c .before .before .args .table)) 65536 (omega arith) (c .before .before .pre .1 .0))
 
 returns : tie.Need-returns
 returns c = heads-twice (now (c .before .before .before .before .before .args .table)) 65536 (c .before .before .mark-heads .ensures) (c .if1 .taken)
@@ -19,7 +19,7 @@ slice-aggregate-mark-nexts : tie.Need-slice-aggregate-mark-nexts
 slice-aggregate-mark-nexts c = search needs
 
 mark-nexts-requires : tie.Need-mark-nexts-requires
-mark-nexts-requires c κs = nexts-ask (now (c .before .before .before .before .before .before .args .table)) 65536 (c .before .before .before .mark-heads .ensures) (c .before .if1 .left) (omega arith) (c .before .before .before .before .before .before .pre .1)
+mark-nexts-requires c κs = (c .before .before .before .before .before .before .pre .0, nexts-ask (now (c .before .before .before .before .before .before .args .table)) 65536 (c .before .before .before .mark-heads .ensures) (c .before .if1 .left) (omega arith) (c .before .before .before .before .before .before .pre .1 .1))
 
 returns-2 : tie.Need-returns-2
 returns-2 c = nexts-twice (now (c .before .before .before .before .before .before .before .before .before .args .table)) 65536 (c .before .before .before .before .before .before .mark-heads .ensures) (c .before .before .before .before .if1 .left) (c .before .before .mark-nexts .ensures) (c .if2 .taken)

@@ -28,7 +28,7 @@ add-next-of : tie.Need-add-next-of Inv-loop μ-loop
 add-next-of c = omega arith
 
 next-of-requires : tie.Need-next-of-requires Inv-loop μ-loop
-next-of-requires c κs = record { counted = c .before .before .before .states-of .ensures .is; few = omega arith; from-one = omega arith; small = omega arith }
+next-of-requires c κs = record { counted = c .before .before .before .states-of .ensures .is; from-one = omega arith; number-to = omega arith; sized = omega arith }
 
 add-next-good : tie.Need-add-next-good Inv-loop μ-loop
 add-next-good c = omega arith

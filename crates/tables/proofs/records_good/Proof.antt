@@ -31,7 +31,7 @@ add-letter-of : tie.Need-add-letter-of Inv-loop μ-loop
 add-letter-of c = omega arith
 
 letter-of-requires : tie.Need-letter-of-requires Inv-loop μ-loop
-letter-of-requires c κs = record { counted = c .before .before .before .before .states-of .ensures .is; few = omega arith; from-one = omega arith; small = omega arith }
+letter-of-requires c κs = record { counted = c .before .before .before .before .states-of .ensures .is; from-one = omega arith; number-to = omega arith; sized = omega arith }
 
 returns : tie.Need-returns Inv-loop μ-loop
 returns c =
@@ -42,7 +42,7 @@ add-target-of : tie.Need-add-target-of Inv-loop μ-loop
 add-target-of c = omega arith
 
 target-of-requires : tie.Need-target-of-requires Inv-loop μ-loop
-target-of-requires c κs = record { counted = c .before .before .before .before .before .before .states-of .ensures .is; few = omega arith; from-one = omega arith; small = omega arith }
+target-of-requires c κs = record { counted = c .before .before .before .before .before .before .states-of .ensures .is; from-one = omega arith; number-to = omega arith; sized = omega arith }
 
 returns-2 : tie.Need-returns-2 Inv-loop μ-loop
 returns-2 c =

@@ -2,8 +2,9 @@
 use mathlib.Core.Path.{_≡_}
 use Prim.Native.Nat.{_-_}
 use native.Mathlib.Omega.{arith}
+use borrow.Author.Needs.{needs}
 use Rattle.text.specs.Built.{with-chain, first-source}
-use Rattle.text.proofs.Sources.{source-start, source-found, source-turn, source-end}
+use Rattle.text.proofs.Sources.{source-reads, source-start, source-found, source-turn, source-end}
 use Rattle.text.proofs.built.first_source.Statement.{statement}
 use Rattle.text.proofs.built.first_source.Tie as tie
 
@@ -17,13 +18,13 @@ loop-holds : tie.Need-loop-holds Inv-loop μ-loop
 loop-holds c = source-start (c .before .pre) (c .before .args .from)
 
 head-of-requires : tie.Need-head-of-requires Inv-loop μ-loop
-head-of-requires c κs = let f = c .before .before .before .pre .few in omega (arith, c .loop-test .taken)
+head-of-requires c κs = source-reads (c .before .before .before .pre) (c .loop-test .taken)
 
 returns : tie.Need-returns Inv-loop μ-loop
 returns c = source-found (c .before .before .before .before .before .pre) (c .before .before .before .before .before .args .from) (c .before .before .loop-test .taken) (c .before .head-of .ensures .is) (c .if1 .taken) (c .before .before .before .loop .inv)
 
 add-state : tie.Need-add-state Inv-loop μ-loop
-add-state c = let f = c .before .before .before .before .before .pre .few in record { fits = omega (arith, c .before .before .loop-test .taken) }
+add-state c = search needs
 
 loop-less : tie.Need-loop-less Inv-loop μ-loop
 loop-less c = omega (arith, c .before .before .loop-test .taken)
