@@ -4,23 +4,18 @@ use mathlib.Core.Path.{_≡_, refl, sym, _∙_, ap}
 use mathlib.Core.Bool.{true, false}
 use mathlib.Core.List.{List, [], map}
 use Prim.Native.Nat.{ℕ, _^_, _≤_, _<_}
-use native.Mathlib.Nat.{mod-eq-of-lt}
 use native.Mathlib.Omega.{arith}
 use lib.ListN.{length, getD, length-map}
 use lib.Pow.{pow-mono}
 use Rattle.sets.specs.Sets.{size, subsets}
 use Rattle.sets.proofs.Size.{size-le}
 use Rattle.sets.proofs.Subsets.{subsets-length}
-use Rattle.ncsb.specs.Array.{from-array, chosen, nth-initial, asks, blocked-by, nth-successor}
-use Rattle.ncsb.specs.Successors.{quadruple, initial-for, initial-free, initials, next-B, dead-end, blocked, free, successor-for, successors}
+use Rattle.ncsb.specs.Array.{from-array, nth-initial, asks, blocked-by, nth-successor}
+use Rattle.ncsb.specs.Successors.{quadruple, initial-for, initial-free, initials, blocked, free, successor-for, successors}
 use Rattle.ncsb.specs.declared.Asked.{Asked}
 use Rattle.ncsb.specs.declared.Quadruple.{Quadruple}
+use Rattle.ncsb.proofs.Array.{blocked-asked, nth-initial-at, nth-successor-at}
 use Rattle.ncsb.proofs.Lists.{getD-map}
-
--- a choice below the number of parts is that part
-chosen-at : (s j : ℕ) → j < 2 ^ size 32 s → chosen s j ≡ getD (subsets 32 s) j 0
-unfolding chosen
-chosen-at s j l = rw (mod-eq-of-lt l) refl
 
 pub choices-fit : (s : ℕ) → 2 ^ size 32 s ≤ 2 ^ 32
 choices-fit s = pow-mono (size-le 32 s)
@@ -28,9 +23,9 @@ choices-fit s = pow-mono (size-le 32 s)
 module _ (m : List (List ℕ)) (f q2 : ℕ) (x : Quadruple) (c : ℕ) where
   -- what stops the step
   pub blocked-same :
-      {a : Asked} → a ≡ asks (from-array m 0 f q2) x c → blocked-by (from-array m 0 f 0) x c a ≡ blocked (from-array m 0 f q2) x c
-  unfolding blocked-by asks blocked dead-end from-array
-  blocked-same e = rw e refl
+      {a : Asked} → a ≡ asks (from-array m 0 f q2) x c → blocked-by f a ≡ blocked (from-array m 0 f q2) x c
+  unfolding from-array
+  blocked-same e = rw e (blocked-asked (from-array m 0 f q2) x c)
 
   pub none-blocked : blocked (from-array m 0 f q2) x c ≡ true → successors (from-array m 0 f q2) x c ≡ []
   unfolding successors
@@ -51,13 +46,6 @@ module _ (m : List (List ℕ)) (f q2 : ℕ) (x : Quadruple) (c : ℕ) where
       ap length (some-free b) ∙ length-map (subsets 32 (free (from-array m 0 f q2) x c)) (successor-for (from-array m 0 f q2) x c)
       ∙ subsets-length 32 (free (from-array m 0 f q2) x c) ∙ rw e refl
 
-  by-choice :
-      (j : ℕ) →
-      nth-successor x (asks (from-array m 0 f q2) x c) j
-      ≡ successor-for (from-array m 0 f q2) x c (chosen (free (from-array m 0 f q2) x c) j)
-  unfolding nth-successor asks successor-for next-B
-  by-choice j = refl
-
   pub choice-successor :
       {a : Asked} → a ≡ asks (from-array m 0 f q2) x c → blocked (from-array m 0 f q2) x c ≡ false →
       (j : ℕ) → j < 2 ^ size 32 (a .free) →
@@ -67,8 +55,7 @@ module _ (m : List (List ℕ)) (f q2 : ℕ) (x : Quadruple) (c : ℕ) where
       let parts = subsets 32 (free (from-array m 0 f q2) x c) in
       let l′ : j < 2 ^ size 32 (free (from-array m 0 f q2) x c) = rw e at l in
       let long = subsets-length 32 (free (from-array m 0 f q2) x c) in
-      ap (λ (a : Asked). nth-successor x a j) e ∙ by-choice j
-      ∙ ap (successor-for (from-array m 0 f q2) x c) (chosen-at (free (from-array m 0 f q2) x c) j l′)
+      ap (λ (a : Asked). nth-successor x a j) e ∙ nth-successor-at (from-array m 0 f q2) x c j l′
       ∙ sym (getD-map (successor-for (from-array m 0 f q2) x c) parts 0 (quadruple 0 0 0 0) j (omega arith))
       ∙ ap (λ (ys : List Quadruple). getD ys j (quadruple 0 0 0 0)) (sym (some-free b))
 
@@ -83,9 +70,9 @@ module _ (i f q2 : ℕ) where
   pub choice-initial :
       (j : ℕ) → j < 2 ^ size 32 (initial-free (from-array [] i f q2)) →
       nth-initial (from-array [] i f q2) j ≡ getD (initials (from-array [] i f q2)) j (quadruple 0 0 0 0)
-  unfolding nth-initial initials from-array
+  unfolding initials from-array
   choice-initial j l =
       let long = subsets-length 32 (initial-free (from-array [] i f q2)) in
-      ap (initial-for (from-array [] i f q2)) (chosen-at (initial-free (from-array [] i f q2)) j l)
+      nth-initial-at (from-array [] i f q2) j l
       ∙ sym
       (getD-map (initial-for (from-array [] i f q2)) (subsets 32 (initial-free (from-array [] i f q2))) 0 (quadruple 0 0 0 0) j (omega arith))

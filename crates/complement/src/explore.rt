@@ -111,7 +111,7 @@ fn add_successors(
         (now (words .entry)) (now (sets .entry)) found (now (words .exit)) (now (sets .exit)) r ⌝ }
 {
     let asked = x.on_letter(masks, shape.marks, shape.inner, letter);
-    if x.blocked(masks, shape.marks, letter, asked) {
+    if x.blocked(shape.marks, asked) {
         return found;
     }
     let choices = asked.choices();

@@ -2,7 +2,7 @@
 ghost use mathlib.Core.Path.{_≡_};
 ghost use mathlib.Core.List.{[]};
 ghost use Prim.Native.Nat.{_^_};
-ghost use Rattle.sets.specs.Sets.{size};
+ghost use Rattle.sets.specs.Sets.{size, Narrow};
 ghost use Rattle.ncsb.specs.Array.{from-array, nth-initial, asks, blocked-by, nth-successor};
 ghost use Rattle.ncsb.specs.Successors.{accepting, dead-end};
 
@@ -27,6 +27,8 @@ pub struct Asked {
     pub safe: u32,
     // the targets that may go to either
     pub free: u32,
+    // some state of C without F has no target
+    pub ends: bool,
     // d2 of B
     pub followed: u32,
 }
@@ -59,10 +61,10 @@ impl Quadruple {
         ensures { λ r. ⌜ r ≡ asks (from-array moves 0 marks inner) self letter ⌝ }
     {
         // Tracing the reachable states: N' is d1 of N; C' and S' together are dt of N joined with d2 of C and S.
-        let reached = sets::targets(moves, letter, self.N);
-        let leaving = sets::targets(moves, letter, self.C & marks);
-        let staying = sets::targets(moves, letter, sets::without(self.C, marks));
-        let safe = sets::targets(moves, letter, self.S);
+        let reached = sets::targets(&moves, letter, self.N);
+        let leaving = sets::targets(&moves, letter, self.C & marks);
+        let staying = sets::targets(&moves, letter, sets::without(self.C, marks));
+        let safe = sets::targets(&moves, letter, self.S);
         let moving = (reached & inner) | leaving;
         // Safe runs stay safe, and only runs that leave an accepting state or enter Q2 can become safe.
         let bound = marks | (safe | staying);
@@ -72,13 +74,15 @@ impl Quadruple {
             staying,
             safe,
             free: sets::without(moving, bound),
-            followed: sets::targets(moves, letter, self.B),
+            ends: self.dead_end(&moves, marks, letter),
+            followed: sets::targets(&moves, letter, self.B),
         }
     }
 
     // Some state of C without F has no target on the letter: the run that ends there was safe already.
-    pub fn dead_end(self, moves: [[u32; 16]; 32], marks: u32, letter: usize) -> bool
-        ensures { λ r. ⌜ r ≡ dead-end (from-array moves 0 marks 0) self letter ⌝ }
+    fn dead_end(self, moves: &[[u32; 16]; 32], marks: u32, letter: usize) -> bool
+        requires { ⌜ Narrow (now moves) ⌝ }
+        ensures { λ r. ⌜ r ≡ dead-end (from-array (now (moves .entry)) 0 marks 0) self letter ⌝ }
     {
         let mut left = sets::without(self.C, marks);
         if 16 <= letter {
@@ -94,11 +98,11 @@ impl Quadruple {
         false
     }
 
-    // No quadruple follows: a run is not both safe and in C or F, and none in C without F ends.
-    pub fn blocked(self, moves: [[u32; 16]; 32], marks: u32, letter: usize, asked: Asked) -> bool
-        ensures { λ r. ⌜ r ≡ blocked-by (from-array moves 0 marks 0) self letter asked ⌝ }
+    // No quadruple follows: a run is not both safe and in C or F, and none in C without F ends. What the letter asks says it all.
+    pub fn blocked(self, marks: u32, asked: Asked) -> bool
+        ensures { λ r. ⌜ r ≡ blocked-by marks asked ⌝ }
     {
-        if self.dead_end(moves, marks, letter) {
+        if asked.ends {
             return true;
         }
         if asked.safe & marks != 0 {

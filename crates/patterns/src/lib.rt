@@ -11,7 +11,7 @@ use tables::target_of;
 ghost use mathlib.Core.Path.{_≡_};
 ghost use mathlib.Core.Bool.{_&&_};
 ghost use Prim.Native.Nat.{_≤_, _<_};
-ghost use Rattle.sets.specs.Sets.{has};
+ghost use Rattle.sets.specs.Sets.{has, Narrow};
 ghost use Rattle.tables.specs.Table.{pattern-range, table-refusal, meaning};
 ghost use Rattle.patterns.specs.Check.{check-refusal, as-checked};
 ghost use Rattle.patterns.specs.Masks.{row-of, masks-of, joined, joined-in, Row-asks};
@@ -102,8 +102,9 @@ pub fn accepting_states(table: &[u16]) -> u32
 }
 
 // One round of the closure: the set joined with its targets on each letter.
-fn grown(masks: [[u32; 16]; 32], letters: usize, set: u32) -> u32
-    ensures { λ r. ⌜ r ≡ joined letters masks set ⌝ }
+fn grown(masks: &[[u32; 16]; 32], letters: usize, set: u32) -> u32
+    requires { ⌜ Narrow (now masks) ⌝ }
+    ensures { λ r. ⌜ r ≡ joined letters (now (masks .entry)) set ⌝ }
 {
     let mut all = set;
     let mut letter = 0;
@@ -121,7 +122,7 @@ fn closure(masks: [[u32; 16]; 32], letters: usize, rounds: usize, set: u32) -> u
     let mut reached = set;
     let mut round = 0;
     while round < rounds {
-        let next = grown(masks, letters, reached);
+        let next = grown(&masks, letters, reached);
         if next == reached {
             return reached;
         }

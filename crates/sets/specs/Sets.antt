@@ -2,9 +2,10 @@
 -- Meet and join of two sets are the numbers' bitAnd and bitOr.
 use mathlib.Core.Bool.{Bool, true, false, cond}
 use mathlib.Core.List.{List, [], _∷_, _++_, map}
-use Prim.Native.Nat.{ℕ, zero, suc, _+_, _-_, _/_, _%_, _^_}
+use Prim.Native.Nat.{ℕ, zero, suc, _+_, _-_, _/_, _%_, _^_, _≤_}
 use lib.Dec.{eqb}
 use lib.Bits.{bitAnd, bitOr}
+use lib.ListN.{length, getD}
 use Rattle.basics.specs.Bounded.{count}
 
 -- state q is in the set
@@ -33,3 +34,7 @@ union (suc q) s row = let r = union q s row in cond (has s q) (bitOr r (row q)) 
 unfoldable pub subsets : (limit set : ℕ) → List ℕ
 subsets zero s = 0 ∷ []
 subsets (suc q) s = let r = subsets q s in cond (has s q) (r ++ map (λ x. 2 ^ q + x) r) r
+
+-- no row of a table by state and by letter is longer than the 16 letters
+pub record Narrow (table : List (List ℕ)) : Type 0 where
+  pub width : (q : ℕ) → length (getD table q []) ≤ 16

@@ -4,7 +4,7 @@ ghost use mathlib.Core.Path.{_≡_};
 ghost use mathlib.Core.List.{[]};
 ghost use Prim.Native.Nat.{ℕ, _%_, _^_};
 ghost use lib.ListN.{length, getD};
-ghost use Rattle.sets.specs.Sets.{size, subsets, union, without};
+ghost use Rattle.sets.specs.Sets.{size, subsets, union, without, Narrow};
 
 // What is in a and not in b.
 pub fn without(a: u32, b: u32) -> u32
@@ -15,8 +15,10 @@ pub fn without(a: u32, b: u32) -> u32
 
 // The targets of the members of a set on a letter, by a table of target sets for each state and letter.
 // The members are walked from the lowest one up. There are 16 letters: a larger one has no target.
-pub fn targets(moves: [[u32; 16]; 32], letter: usize, set: u32) -> u32
-    ensures { λ r. ⌜ r ≡ union 32 set (λ q. getD (getD moves q []) letter 0) ⌝ }
+// The table is lent: a function that indexes an array given by value first copies all of it.
+pub fn targets(moves: &[[u32; 16]; 32], letter: usize, set: u32) -> u32
+    requires { ⌜ Narrow (now moves) ⌝ }
+    ensures { λ r. ⌜ r ≡ union 32 set (λ q. getD (getD (now (moves .entry)) q []) letter 0) ⌝ }
 {
     if letter >= 16 {
         return 0;

@@ -2,26 +2,28 @@
 use mathlib.Core.Path.{_≡_}
 use Prim.Native.Nat.{_-_, _≤_}
 use native.Mathlib.Omega.{arith}
+use Rattle.sets.proofs.Grid.{narrow}
 use Rattle.patterns.specs.Masks.{joined-in}
 use Rattle.patterns.proofs.Rounds.{rounds-start, round-turn, rounds-end, rounds-stop}
 use Rattle.patterns.proofs.closure.Statement.{statement}
 use Rattle.patterns.proofs.closure.Tie as tie
 
 abbrev Inv-loop : tie.InvT-loop
-Inv-loop masks letters rounds set reached₀ round₀ reached round = (round ≤ rounds) × (reached ≡ joined-in round letters masks set)
+Inv-loop letters rounds set masks reached₀ round₀ reached round = (round ≤ rounds) × (reached ≡ joined-in round letters masks set)
 
 abbrev μ-loop : tie.MeasureT-loop
-μ-loop masks letters rounds set reached₀ round₀ reached round = rounds - round
+μ-loop letters rounds set masks reached₀ round₀ reached round = rounds - round
 
 loop-holds : tie.Need-loop-holds Inv-loop μ-loop
 loop-holds c = (omega arith, rounds-start _ _ _)
 
 grown-requires : tie.Need-grown-requires Inv-loop μ-loop
-grown-requires c κs = tt
+grown-requires c κs =
+    let start = c .before .before .before in narrow (start .args .t1) _ (start .good .0)
 
 returns : tie.Need-returns Inv-loop μ-loop
 returns c =
-    rounds-stop _ _ _ _ _ _ _ (c .before .before .before .loop .inv .0) (c .before .before .before .loop .inv .1)
+    rounds-stop _ _ _ _ _ _ _ (c .before .before .before .before .loop .inv .0) (c .before .before .before .before .loop .inv .1)
     (c .before .grown .ensures) (c .if1 .taken)
 
 add-round : tie.Need-add-round Inv-loop μ-loop
@@ -31,7 +33,7 @@ loop-less : tie.Need-loop-less Inv-loop μ-loop
 loop-less c = omega arith
 
 loop-again : tie.Need-loop-again Inv-loop μ-loop
-loop-again c = (omega arith, round-turn _ _ _ _ _ _ (c .before .before .before .loop .inv .1) (c .before .grown .ensures))
+loop-again c = (omega arith, round-turn _ _ _ _ _ _ (c .before .before .before .before .loop .inv .1) (c .before .grown .ensures))
 
 returns-2 : tie.Need-returns-2 Inv-loop μ-loop
 returns-2 c = rounds-end _ _ _ _ _ _ (c .before .loop .inv .0) (c .loop-test .left) (c .before .loop .inv .1)

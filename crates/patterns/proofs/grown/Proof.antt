@@ -17,7 +17,7 @@ loop-holds : tie.Need-loop-holds Inv-loop μ-loop
 loop-holds c = (omega arith, joined-start _ (c .args .letters) _)
 
 targets-requires : tie.Need-targets-requires Inv-loop μ-loop
-targets-requires c κs = tt
+targets-requires c κs = c .before .before .pre
 
 add-letter : tie.Need-add-letter Inv-loop μ-loop
 add-letter c = omega arith

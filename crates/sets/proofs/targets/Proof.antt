@@ -6,28 +6,29 @@ use Prim.Native.Nat.{_^_, _<_}
 use native.Mathlib.Omega.{arith}
 use lib.Bits.{bitOr}
 use lib.ListN.{getD}
+use denote.Ref.{now}
 use Rattle.sets.specs.Sets.{union}
-use Rattle.sets.proofs.Grid.{grid, no-letter}
+use Rattle.sets.proofs.Grid.{no-letter}
 use Rattle.sets.proofs.Lowest.{lowest-lt}
 use Rattle.sets.proofs.Walk.{clear-less, clear-lt, join-end, join-turn, union-none}
 use Rattle.sets.proofs.targets.Statement.{statement}
 use Rattle.sets.proofs.targets.Tie as tie
 
 abbrev Inv-loop : tie.InvT-loop
-Inv-loop letter set moves left₀ all₀ left all =
+Inv-loop moves letter set left₀ all₀ left all =
     (left < 2 ^ 32)
     × (bitOr all (union 32 left (λ q. getD (getD moves q []) letter 0))
     ≡ union 32 set (λ q. getD (getD moves q []) letter 0))
 
 abbrev μ-loop : tie.MeasureT-loop
-μ-loop letter set moves left₀ all₀ left all = left
+μ-loop moves letter set left₀ all₀ left all = left
 
 returns : tie.Need-returns Inv-loop μ-loop
 returns c =
     let start = c .before in
     sym
-    (union-none 32 (start .args .set) (λ q. getD (getD (start .args .t1) q []) (start .args .letter) 0)
-    (λ q. no-letter (grid (start .args .t1) _ (start .good .0)) q (start .args .letter) (c .if1 .taken)))
+    (union-none 32 (start .args .set) (λ q. getD (getD (now (start .args .moves)) q []) (start .args .letter) 0)
+    (λ q. no-letter (start .pre) q (start .args .letter) (c .if1 .taken)))
 
 loop-holds : tie.Need-loop-holds Inv-loop μ-loop
 loop-holds c = (c .before .fits .set .fits, refl)
@@ -61,8 +62,8 @@ loop-again c =
     let at = c .before .before .loop in
     let args = c .before .before .before .before .args in (
       clear-lt 32 (at .left) (at .inv .0),
-      join-turn 32 (λ q. getD (getD (args .t1) q []) (args .letter) 0) (at .all) (at .left)
-          (union 32 (args .set) (λ q. getD (getD (args .t1) q []) (args .letter) 0)) (at .inv .0) (c .before .loop-test .taken)
+      join-turn 32 (λ q. getD (getD (now (args .moves)) q []) (args .letter) 0) (at .all) (at .left)
+          (union 32 (args .set) (λ q. getD (getD (now (args .moves)) q []) (args .letter) 0)) (at .inv .0) (c .before .loop-test .taken)
           (at .inv .1),
     )
 
@@ -70,8 +71,8 @@ returns-2 : tie.Need-returns-2 Inv-loop μ-loop
 returns-2 c =
     let at = c .before .loop in
     let args = c .before .before .before .args in
-    join-end 32 (λ q. getD (getD (args .t1) q []) (args .letter) 0) (at .all) (at .left)
-    (union 32 (args .set) (λ q. getD (getD (args .t1) q []) (args .letter) 0)) (c .loop-test .left) (at .inv .1)
+    join-end 32 (λ q. getD (getD (now (args .moves)) q []) (args .letter) 0) (at .all) (at .left)
+    (union 32 (args .set) (λ q. getD (getD (now (args .moves)) q []) (args .letter) 0)) (c .loop-test .left) (at .inv .1)
 
 pub targets-spec : {M : Type 1} → statement M
 targets-spec =

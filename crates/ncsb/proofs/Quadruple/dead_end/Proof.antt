@@ -7,9 +7,10 @@ use Prim.Native.Nat.{ℕ, _^_, _<_}
 use native.Mathlib.Omega.{arith}
 use lib.Dec.{eqb}
 use lib.ListN.{getD}
+use denote.Ref.{now}
 use Rattle.basics.proofs.Booleans.{eq-eqb, ne-eqb}
 use Rattle.sets.specs.Sets.{without}
-use Rattle.sets.proofs.Grid.{grid, no-letter}
+use Rattle.sets.proofs.Grid.{no-letter}
 use Rattle.sets.proofs.Lowest.{lowest-lt}
 use Rattle.sets.proofs.Members.{without-lt}
 use Rattle.sets.proofs.Walk.{clear-less, clear-lt}
@@ -31,11 +32,11 @@ unfolding dead-end from-array some-member
 dead moves marks letter x = refl
 
 abbrev Inv-loop : tie.InvT-loop
-Inv-loop marks letter moves left₀ left =
+Inv-loop moves marks letter left₀ left =
     (left < 2 ^ 32) × (some-member 32 left (idle moves letter) ≡ some-member 32 left₀ (idle moves letter))
 
 abbrev μ-loop : tie.MeasureT-loop
-μ-loop marks letter moves left₀ left = left
+μ-loop moves marks letter left₀ left = left
 
 without-requires : tie.Need-without-requires Inv-loop μ-loop
 without-requires c κs = tt
@@ -44,9 +45,9 @@ returns : tie.Need-returns Inv-loop μ-loop
 returns c =
     let start = c .before .before in
     let w = c .before .without in
-    member-all 32 (w .result) (idle (start .args .t2) (start .args .letter)) (w .ok)
-    (λ q. eq-eqb (no-letter (grid (start .args .t2) _ (start .good .1 .0)) q (start .args .letter) (c .if1 .taken)))
-    ∙ rw (w .ensures) (sym (dead (start .args .t2) (start .args .marks) (start .args .letter) (start .args .self)))
+    member-all 32 (w .result) (idle (now (start .args .moves)) (start .args .letter)) (w .ok)
+    (λ q. eq-eqb (no-letter (start .pre) q (start .args .letter) (c .if1 .taken)))
+    ∙ rw (w .ensures) (sym (dead (now (start .args .moves)) (start .args .marks) (start .args .letter) (start .args .self)))
 
 loop-holds : tie.Need-loop-holds Inv-loop μ-loop
 loop-holds c = (c .before .without .ok, refl)
@@ -74,10 +75,10 @@ returns-2 c =
     let w = c .before .before .before .before .before .without in
     let start = c .before .before .before .before .before .before in
     let hit =
-    member-hit 32 (at .left) (idle (start .args .t2) (start .args .letter)) (at .inv .0) (c .before .before .loop-test .taken)
+    member-hit 32 (at .left) (idle (now (start .args .moves)) (start .args .letter)) (at .inv .0) (c .before .before .loop-test .taken)
     (eq-eqb (c .if2 .taken)) in
     sym hit ∙ at .inv .1
-    ∙ rw (w .ensures) (sym (dead (start .args .t2) (start .args .marks) (start .args .letter) (start .args .self)))
+    ∙ rw (w .ensures) (sym (dead (now (start .args .moves)) (start .args .marks) (start .args .letter) (start .args .self)))
 
 sub-left : tie.Need-sub-left Inv-loop μ-loop
 sub-left c = let n = c .before .before .loop-test .taken in omega arith
@@ -92,7 +93,7 @@ loop-again c =
     let at = c .before .before .before .loop in
     let start = c .before .before .before .before .before .before in (
       clear-lt 32 (at .left) (at .inv .0),
-      member-turn 32 (at .left) (idle (start .args .t2) (start .args .letter)) (at .inv .0) (c .before .before .loop-test .taken)
+      member-turn 32 (at .left) (idle (now (start .args .moves)) (start .args .letter)) (at .inv .0) (c .before .before .loop-test .taken)
           (ne-eqb _ 0 (c .if2 .left))
           ∙ at .inv .1,
     )
@@ -102,9 +103,9 @@ returns-3 c =
     let at = c .before .loop in
     let w = c .before .before .before .without in
     let start = c .before .before .before .before in
-    sym (member-none 32 (at .left) (idle (start .args .t2) (start .args .letter)) (at .inv .0) (c .loop-test .left))
+    sym (member-none 32 (at .left) (idle (now (start .args .moves)) (start .args .letter)) (at .inv .0) (c .loop-test .left))
     ∙ at .inv .1
-    ∙ rw (w .ensures) (sym (dead (start .args .t2) (start .args .marks) (start .args .letter) (start .args .self)))
+    ∙ rw (w .ensures) (sym (dead (now (start .args .moves)) (start .args .marks) (start .args .letter) (start .args .self)))
 
 pub dead-end-spec : {M : Type 1} → statement M
 dead-end-spec =
