@@ -1,13 +1,12 @@
 -- The step as the code takes it is the step of the construction: choices 0, 1, … give the successors in their order. Assumes nothing.
-use mathlib.Core.Path.{_≡_, refl, sym, _∙_, ap}
-use mathlib.Core.Bool.{true, false}
-use Prim.Native.Nat.{ℕ, _%_, _^_, _<_}
+use mathlib.Core.Path.{_≡_, refl}
+use Prim.Native.Nat.{ℕ, _^_, _<_}
 use native.Mathlib.Nat.{mod-eq-of-lt}
 use lib.ListN.{getD}
 use Rattle.sets.specs.Sets.{size, subsets}
 use Rattle.ncsb.specs.Array.{chosen, nth-initial, asks, blocked-by, nth-successor}
 use Rattle.ncsb.specs.Moves.{Moves}
-use Rattle.ncsb.specs.Successors.{free, initial-free, initial-for, blocked, successor-for, tracked, staying-safe, next-N, next-B}
+use Rattle.ncsb.specs.Successors.{free, initial-free, initial-for, blocked, successor-for, next-B}
 use Rattle.ncsb.specs.declared.Quadruple.{Quadruple}
 
 -- a choice below the number of parts is the part with that number

@@ -1,6 +1,6 @@
 -- `Quadruple::blocked` meets its contract. Assumes nothing.
-use mathlib.Core.Path.{_≡_, refl, sym}
-use mathlib.Core.Bool.{Bool, true, false, _||_, not}
+use mathlib.Core.Path.{_≡_, sym}
+use mathlib.Core.Bool.{Bool, true, false, not}
 use Prim.Native.Nat.{ℕ}
 use lib.Bits.{bitAnd}
 use lib.Dec.{eqb}

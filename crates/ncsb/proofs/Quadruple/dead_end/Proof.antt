@@ -1,7 +1,7 @@
 -- `Quadruple::dead_end` meets its contract. The loop's invariant: a member left has no target exactly if one of the set has none.
 -- The measure is the set of the members left, as a number. Assumes nothing.
 use mathlib.Core.Path.{_≡_, refl, sym, _∙_}
-use mathlib.Core.Bool.{Bool, true, false, not}
+use mathlib.Core.Bool.{Bool}
 use mathlib.Core.List.{List, []}
 use Prim.Native.Nat.{ℕ, _^_, _<_}
 use native.Mathlib.Omega.{arith}
@@ -12,7 +12,6 @@ use Rattle.basics.proofs.Booleans.{eq-eqb, ne-eqb}
 use Rattle.sets.specs.Sets.{without}
 use Rattle.sets.proofs.Grid.{no-letter}
 use Rattle.sets.proofs.Lowest.{lowest-lt}
-use Rattle.sets.proofs.Members.{without-lt}
 use Rattle.sets.proofs.Walk.{clear-less, clear-lt}
 use Rattle.ncsb.specs.Array.{from-array}
 use Rattle.ncsb.specs.Successors.{dead-end}
