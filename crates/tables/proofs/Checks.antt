@@ -5,9 +5,9 @@ use mathlib.Core.List.{List}
 use Prim.Native.Nat.{ℕ, suc, _+_, _≤_, _<_}
 use native.Mathlib.Numerals.{add-one}
 use lib.Dec.{ltb, leb, eqb}
-use Rattle.basics.specs.Bounded.{each}
-use Rattle.basics.proofs.Booleans.{and-make, and-false-l, and-false-r, true-not, false-not, le-leb, gt-leb, eq-eqb, ne-eqb}
-use Rattle.tables.specs.Table.{n-of, k-of, m-of, letter-of, target-of, next-of, records-good, heads-good, nexts-good, named, chains-good}
+use Rattle.basics.proofs.Booleans.{and-make, and-l, leb-le, and-false-l, and-false-r, true-not, false-not, le-leb, gt-leb, eq-eqb, ne-eqb}
+use Rattle.tables.specs.Marks.{next-good}
+use Rattle.tables.specs.Table.{n-of, k-of, m-of, letter-of, target-of, next-of, records-good}
 use Rattle.tables.proofs.Scans.{scan-fails, read-lt, read-ge}
 
 -- the test of record i + 1 in refusal 8
@@ -30,21 +30,19 @@ module _ (t : List ℕ) (i : ℕ) {n k a : ℕ} (pn : n ≡ n-of t) (pk : k ≡ 
   pub record-passes : {b : ℕ} → a < k → b ≡ target-of t (i + 1) → b < n → record-good t i ≡ true
   record-passes la pb lb = and-make (read-lt (rw add-one at pa) pk la) (read-lt (rw add-one at pb) pn lb)
 
--- the test of record i + 1's next in refusal 9
-abbrev pub next-good : List ℕ → ℕ → Bool
-next-good t i = leb (next-of t (suc i)) (m-of t) && (eqb (next-of t (suc i)) 0 || ltb (suc i) (next-of t (suc i)))
-
--- answered for what was read
+-- the test of a next, answered for what was read
 module _ (t : List ℕ) (i : ℕ) {m a : ℕ} {b : Bool} (pm : m ≡ m-of t) (pa : a ≡ next-of t (i + 1)) where
   next-read : b ≡ (leb a m && (eqb a 0 || ltb (i + 1) a)) → b ≡ next-good t i
   next-read e = e ∙ rw (pm, pa, add-one i)
 
-  pub next-bad : b ≡ (leb a m && (eqb a 0 || ltb (i + 1) a)) → i < m-of t → not b ≡ true → false ≡ nexts-good t
-  unfolding nexts-good
-  next-bad e l h = scan-fails (next-good t) (m-of t) i l (sym (next-read e) ∙ true-not b h)
+  pub next-fails : b ≡ (leb a m && (eqb a 0 || ltb (i + 1) a)) → not b ≡ true → next-good t i ≡ false
+  next-fails e h = sym (next-read e) ∙ true-not b h
 
   pub next-passes : b ≡ (leb a m && (eqb a 0 || ltb (i + 1) a)) → not b ≡ false → next-good t i ≡ true
   next-passes e h = sym (next-read e) ∙ false-not b h
+
+  pub next-small : b ≡ (leb a m && (eqb a 0 || ltb (i + 1) a)) → not b ≡ false → a ≤ m-of t
+  next-small e h = rw (← pm) (leb-le a m (and-l (eqb a 0 || ltb (i + 1) a) (sym e ∙ false-not b h)))
 
 -- the three ways out of the test of one next
 module _ {next m : ℕ} (number : ℕ) where
@@ -56,18 +54,3 @@ module _ {next m : ℕ} (number : ℕ) where
 
   pub next-link : next ≤ m → (next ≡ 0 → ⊥) → ltb number next ≡ (leb next m && (eqb next 0 || ltb number next))
   next-link l z = let a = le-leb l in let b = ne-eqb next 0 z in cc
-
--- refusal 9 by its three parts, as they are answered
-module _ (t : List ℕ) {a : Bool} (heads : a ≡ heads-good t) where
-  pub heads-bad : not a ≡ true → false ≡ chains-good t
-  unfolding chains-good
-  heads-bad h = let p = true-not a h in cc
-
-  module _ {b : Bool} (nexts : b ≡ nexts-good t) (h : not a ≡ false) where
-    pub nexts-bad : not b ≡ true → false ≡ chains-good t
-    unfolding chains-good
-    nexts-bad g = let p = false-not a h in let q = true-not b g in cc
-
-    pub names-decide : {c : Bool} → not b ≡ false → c ≡ each (m-of t) (λ i. eqb (named t (suc i)) 1) → c ≡ chains-good t
-    unfolding chains-good
-    names-decide g e = let p = false-not a h in let q = false-not b g in cc

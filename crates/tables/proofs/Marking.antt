@@ -1,174 +1,263 @@
--- Marking records as their names are met computes how often each is named, as far as once. Assumes nothing.
+-- Marking records as their names are met computes how often each is named, as far as once, and how many are. Assumes nothing.
 use mathlib.Core.Path.{_≡_, refl, sym, _∙_}
-use mathlib.Core.Bool.{Bool, true, false, _||_, not, cond}
+use mathlib.Core.Bool.{Bool, true, false, _&&_, cond}
 use mathlib.Core.List.{List}
 use mathlib.Core.Logic.{inl, inr}
-use Prim.Native.Nat.{ℕ, zero, suc, _+_, _≤_, _<_}
+use Prim.Native.Nat.{ℕ, zero, suc, _+_, _*_, _/_, _%_, _^_, _≤_, _<_}
 use native.Mathlib.Omega.{arith}
 use native.Mathlib.Numerals.{add-one}
-use lib.Dec.{eqb, leb, ltb}
-use lib.ListN.{length, getD, set, replicate, length-set, length-replicate}
-use lib.Seq.{getD-set-same, getD-set-other}
+use native.Mathlib.Nat.{one-mul, mod-eq-of-lt}
+use lib.Dec.{eqb}
+use lib.Pow.{pow-lt}
+use lib.ListN.{length, getD, set, replicate}
 use Rattle.basics.specs.Bounded.{each, count}
-use Rattle.basics.proofs.Booleans.{either, clash, and-l, leb-le, true-not, false-not, eqb-eq, eq-eqb, eqb-ne, ne-eqb}
-use Rattle.basics.proofs.Bounded.{each-all, each-same}
-use Rattle.tables.specs.Marks.{Mark, nothing, first, again, Marks-ask, Marked, Marks, all, twice}
-use Rattle.tables.specs.Table.{n-of, m-of, head-of, next-of, heads-good, nexts-good, named}
-use Rattle.tables.proofs.Checks.{next-good}
-use Rattle.basics.proofs.Counting.{count-hit}
-use Rattle.tables.proofs.Scans.{scan-fails}
+use Rattle.basics.specs.Packed.{digit, packed, raised}
+use Rattle.basics.proofs.Booleans.{either, and-false-l, and-false-r, eqb-eq, eq-eqb, eqb-ne, ne-eqb}
+use Rattle.basics.proofs.Bounded.{each-same, count-le}
+use Rattle.basics.proofs.Counting.{count-hit, count-none, count-one}
+use Rattle.basics.proofs.Packed.{digit-fits, packed-lt, packed-zero, packed-raised, packed-others, raised-length}
+use Rattle.tables.specs.Marks.{marked, marks, Mark, nothing, first, again, Marked, Names, all, wrong, twice, Heads-named, Nexts-named}
+use Rattle.tables.specs.Table.{n-of, m-of, head-of, next-of, heads-good, nexts-good, named, chains-good}
+use Rattle.tables.proofs.Scans.{Scan, scan-done, scan-fails}
 
--- no link yet
-pub marked-start :
-    (link : ℕ → ℕ) (m : ℕ) (seen : List ℕ) → ((x : ℕ) → 1 ≤ x → x ≤ m → getD seen x 0 ≤ 1) → Marked link 0 m seen seen
-unfolding count
-marked-start link m seen once = record { kept = refl; adds = λ x o l. omega arith; once = once }
+-- ONE BIT, as the code reads and writes it
+module _ (w : List ℕ) (x : ℕ) where
+  pub bit-clear : getD w (x / 32) 0 / 2 ^ (x % 32) % 2 ≡ 0 → marked w x ≡ 0
+  unfolding marked packed digit
+  bit-clear e = e
 
--- one link: what it adds to a record's flag
+  pub bit-set : (getD w (x / 32) 0 / 2 ^ (x % 32) % 2 ≡ 0 → ⊥) → marked w x ≡ 1
+  unfolding marked packed digit
+  bit-set h = omega arith
+
+  shifted : 1 * 2 ^ (x % 32) % 2 ^ 32 ≡ 1 * 2 ^ (x % 32)
+  shifted = mod-eq-of-lt (rw (one-mul (2 ^ (x % 32))) (pow-lt {i = x % 32} {j = 32} (omega arith)))
+
+  pub bit-fits :
+      getD w (x / 32) 0 < 2 ^ 32 → getD w (x / 32) 0 / 2 ^ (x % 32) % 2 ≡ 0 →
+      getD w (x / 32) 0 + 1 * 2 ^ (x % 32) % 2 ^ 32 < 2 ^ 32
+  unfolding digit
+  bit-fits l e =
+      rw shifted (digit-fits 2 (omega arith) 1 32 (getD w (x / 32) 0) (x % 32) l (omega arith) (omega arith))
+
+  pub bit-raised : set w (x / 32) (getD w (x / 32) 0 + 1 * 2 ^ (x % 32) % 2 ^ 32) ≡ raised 2 32 w x 1
+  unfolding raised
+  bit-raised = rw shifted
+
+  bit-lt : marked w x < 2
+  unfolding marked
+  bit-lt = packed-lt 2 (omega arith) 32 w x
+
+  -- a record that was not marked before is marked, and no other is touched
+  module _ (inside : x / 32 < length w) (clear : marked w x ≡ 0) where
+    within : packed 2 32 w x + 1 < 2
+    unfolding marked
+    within = let c = clear in omega arith
+
+    here : marked (raised 2 32 w x 1) x ≡ 1
+    unfolding marked
+    here = let c = clear in let p = packed-raised 2 (omega arith) 32 w x 1 inside within in omega arith
+
+    elsewhere : (y : ℕ) → (y ≡ x → ⊥) → marked (raised 2 32 w x 1) y ≡ marked w y
+    unfolding marked
+    elsewhere y ne = packed-others 2 (omega arith) 32 w x 1 inside within y ne
+
+-- one record more is marked
+raised-counts :
+    (w : List ℕ) (j m : ℕ) → suc j / 32 < length w → marked w (suc j) ≡ 0 → j < m →
+    marks m (raised 2 32 w (suc j) 1) ≡ suc (marks m w)
+unfolding marks
+raised-counts w j m inside clear l =
+    count-one m (λ i. eqb (marked (raised 2 32 w (suc j) 1) (suc i)) 1) (λ i. eqb (marked w (suc i)) 1) j l
+    (eq-eqb (here w (suc j) inside clear))
+    (ne-eqb (marked w (suc j)) 1 (λ e. omega arith))
+    (λ i ne. rw (elsewhere w (suc j) inside clear (suc i) (λ q. ne (omega arith))))
+
+-- ONE LINK: what it adds to a record's mark, and to how many are marked
 mark-adds :
-    {link : ℕ} {before after : List ℕ} {b : Bool} → link < length before → Mark link before after b → b ≡ true → (x : ℕ) → 1 ≤ x →
-    getD after x 0 ≡ getD before x 0 + cond (eqb link x) 1 0
-mark-adds {link} {before} long (nothing z e) y x o = rw (e, ne-eqb link x (λ q. omega arith)) (omega arith)
-mark-adds {link} {before} long (first p z e) y x o =
+    {link new : ℕ} {before after : List ℕ} → link / 32 < length before → Mark link before after new → new ≤ 1 → (x : ℕ) → 1 ≤ x →
+    marked after x ≡ marked before x + cond (eqb link x) 1 0
+mark-adds {link} inside (nothing z e) y x o = rw (e, ne-eqb link x (λ q. omega arith)) (omega arith)
+mark-adds {link} {before = before} inside (first p z e) y x o =
     elim (either (eqb link x)) [
-      | inl q ↦
-          let same = eqb-eq link x q in
-          let here : getD (set before link 1) link 0 ≡ 1 = getD-set-same before link 1 0 long in
-          rw (e, q, ← same, here) (omega arith)
-      | inr q ↦
-          let there = getD-set-other before link x 1 0 (λ h. eqb-ne link x q (sym h)) in rw (e, q, there) (omega arith)
+      | inl q ↦ rw (e, q, ← eqb-eq link x q, here before link inside z, z)
+      | inr q ↦ rw (e, q, elsewhere before link inside z x (λ h. eqb-ne link x q (sym h))) (omega arith)
     ]
-mark-adds long (again p g e) y x o = absurd (clash y refl)
+mark-adds inside (again p g e) y x o = absurd (omega arith)
 
-mark-once :
-    {link : ℕ} {before after : List ℕ} {b : Bool} → link < length before → Mark link before after b → b ≡ true → (x : ℕ) → 1 ≤ x →
-    getD before x 0 ≤ 1 → getD after x 0 ≤ 1
-mark-once long (nothing z e) y x o l = rw e l
-mark-once {link} {before} long (first p z e) y x o l =
-    elim (either (eqb link x)) [
-      | inl q ↦
-          let same = eqb-eq link x q in
-          let here : getD (set before link 1) link 0 ≡ 1 = getD-set-same before link 1 0 long in
-          rw (e, ← same, here) (omega arith)
-      | inr q ↦ rw (e, getD-set-other before link x 1 0 (λ h. eqb-ne link x q (sym h))) l
-    ]
-mark-once long (again p g e) y x o l = absurd (clash y refl)
+mark-counts :
+    (link m : ℕ) {new : ℕ} {before after : List ℕ} → link / 32 < length before → Mark link before after new → new ≤ 1 → link ≤ m →
+    marks m after ≡ marks m before + new
+mark-counts link m inside (nothing z e) y l = rw e (omega arith)
+mark-counts zero m inside (first p z e) y l = absurd (omega arith)
+mark-counts (suc j) m {before = before} inside (first p z e) y l = rw (e, raised-counts before j m inside z l) (omega arith)
+mark-counts link m inside (again p g e) y l = absurd (omega arith)
 
-mark-kept : {link : ℕ} {before after : List ℕ} {b : Bool} → Mark link before after b → length after ≡ length before
+mark-kept : {link new : ℕ} {before after : List ℕ} → Mark link before after new → length after ≡ length before
 mark-kept (nothing z e) = rw e
-mark-kept {link} {before} (first p z e) = rw e (length-set before link 1)
+mark-kept {link} {before = before} (first p z e) = rw e (raised-length 2 (omega arith) 32 before link 1)
 mark-kept (again p g e) = rw e
 
-mark-again :
-    {link : ℕ} {before after : List ℕ} {b : Bool} → Mark link before after b → b ≡ false → (1 ≤ link) × (1 ≤ getD before link 0)
-mark-again (nothing z e) n = absurd (clash refl n)
-mark-again (first p z e) n = absurd (clash refl n)
+mark-again : {link new : ℕ} {before after : List ℕ} → Mark link before after new → 1 < new → (1 ≤ link) × (marked before link ≡ 1)
+mark-again (nothing z e) n = absurd (omega arith)
+mark-again (first p z e) n = absurd (omega arith)
 mark-again (again p g e) n = (p, g)
 
+-- ALL LINKS, one after the other: none yet
+pub marked-start : (link : ℕ → ℕ) (m : ℕ) (seen : List ℕ) → Marked link 0 m 0 seen seen
+unfolding count
+marked-start link m seen = record { kept = refl; adds = λ x o l. omega arith; counted = omega arith }
+
+-- no more records are named than there are
+pub marked-few : {link : ℕ → ℕ} {k m names : ℕ} {before after : List ℕ} → Marked link k m names before after → names ≤ m
+unfolding marks
+marked-few {m = m} {after = after} s =
+    let l = count-le m (λ i. eqb (marked after (suc i)) 1) in
+    let e = s .counted in omega arith
+
 -- one turn: a is the link that was read
-module _ {link : ℕ → ℕ} {i m a : ℕ} {before seen after : List ℕ} {b : Bool} (s : Marked link i m before seen) (read : a ≡ link i) (one : Mark a seen after b) where
-  pub marked-more : a < length seen → not b ≡ false → Marked link (i + 1) m before after
+module _ {link : ℕ → ℕ} {i m names a new : ℕ} {before seen after : List ℕ} (s : Marked link i m names before seen) (read : a ≡ link i) (one : Mark a seen after new) where
+  pub marked-more : a / 32 < length seen → a ≤ m → new ≤ 1 → Marked link (i + 1) m (names + new) before after
   unfolding count
-  marked-more long h =
-      let y = false-not b h in
+  marked-more inside small y =
       record {
         kept = mark-kept one ∙ s .kept;
         adds =
             λ x o l.
-            let this : getD after x 0 ≡ getD seen x 0 + cond (eqb (link i) x) 1 0 = rw read at (mark-adds long one y x o) in
+            let this : marked after x ≡ marked seen x + cond (eqb (link i) x) 1 0 = rw read at (mark-adds inside one y x o) in
             let earlier = s .adds x o l in rw (add-one i) (omega arith);
-        once = λ x o l. mark-once long one y x o (s .once x o l);
+        counted = let this = mark-counts a m inside one y small in let earlier = s .counted in omega arith;
       }
 
-  pub marked-twice : (k : ℕ) → i < k → link i ≤ m → not b ≡ true → Marks link k m before after false
-  marked-twice k l inside h =
-      let g = rw read at (mark-again one (true-not b h)) in
+  pub marked-twice : (good : ℕ → Bool) (k : ℕ) {answer : ℕ} → i < k → a ≤ m → 1 < new → answer ≡ m + 1 → Names good link k m before after answer
+  marked-twice good k l small h far =
+      let g = rw read at (mark-again one h) in
+      let inside : link i ≤ m = rw read at small in
       let earlier = s .adds (link i) (g .0) inside in
       let more = count-hit i k (λ j. eqb (link j) (link i)) l (eq-eqb {m = link i} refl) in
-      twice (link i) (g .0) inside (omega arith)
+      twice far (link i) (g .0) inside (omega arith)
 
--- all links
-pub marked-all :
-    {link : ℕ → ℕ} {i k m : ℕ} {before after : List ℕ} → Marked link i m before after → i ≡ k → Marks link k m before after true
-marked-all s e = all (rw e at s)
+-- a link that fails its test, all links, and how large the answer can be
+pub names-wrong :
+    (good : ℕ → Bool) {link : ℕ → ℕ} {k m answer : ℕ} {before after : List ℕ} (i : ℕ) → i < k → good i ≡ false → answer ≡ m + 1 →
+    Names good link k m before after answer
+names-wrong good {k = k} i l e far = wrong far (sym (scan-fails good k i l e))
 
--- what the marking answered
-marks-all :
-    {link : ℕ → ℕ} {k m : ℕ} {before after : List ℕ} {b : Bool} → Marks link k m before after b → not b ≡ false →
-    Marked link k m before after
-marks-all (all s) h = s
-marks-all (twice x o l g) h = absurd (clash refl h)
+pub names-all :
+    {good : ℕ → Bool} {link : ℕ → ℕ} {i k m names : ℕ} {before after : List ℕ} → Scan good k i → Marked link i m names before after →
+    k ≤ i → Names good link k m before after names
+names-all {i = i} {k = k} s p l =
+    let upto = s .upto in
+    let e : i ≡ k = omega arith in all (sym (scan-done s l)) (rw e at p)
 
-marks-twice :
-    {link : ℕ → ℕ} {k m : ℕ} {before after : List ℕ} {b : Bool} → Marks link k m before after b → not b ≡ true →
-    (x : ℕ) × (1 ≤ x) × (x ≤ m) × (2 ≤ getD before x 0 + count k (λ i. eqb (link i) x))
-marks-twice (all s) h = absurd (clash h refl)
-marks-twice (twice x o l g) h = (x, o, l, g)
+pub names-few :
+    {good : ℕ → Bool} {link : ℕ → ℕ} {k m answer : ℕ} {before after : List ℕ} → Names good link k m before after answer → answer ≤ m + 1
+names-few (all g p) = let few = marked-few p in omega arith
+names-few (wrong a g) = omega arith
+names-few (twice a x o l g) = omega arith
 
--- all flags clear
+-- NAMED EXACTLY ONCE: as many hits as numbers is a hit at each
+count-full : (k : ℕ) (f : ℕ → Bool) → eqb (count k f) k ≡ each k f
+unfolding count each
+count-full zero f = refl
+count-full (suc k) f =
+    let h = count-full k f in
+    let l = count-le k f in
+    elim (either (f k)) [
+      | inl e ↦
+          elim (either (eqb (count k f) k)) [
+            | inl q ↦
+                let same = eqb-eq (count k f) k q in
+                let full : eqb (count k f + 1) (suc k) ≡ true = eq-eqb {m = count k f + 1} {n = suc k} (omega arith) in cc
+            | inr q ↦
+                let other = eqb-ne (count k f) k q in
+                let less : eqb (count k f + 1) (suc k) ≡ false = ne-eqb (count k f + 1) (suc k) (λ e. omega arith) in cc
+          ]
+      | inr e ↦
+          let less : eqb (count k f + 0) (suc k) ≡ false = ne-eqb (count k f + 0) (suc k) (λ e. omega arith) in
+          let out = and-false-r (each k f) e in cc
+    ]
+
+-- all bits clear
 zeros : (k i : ℕ) → getD (replicate {A = ℕ} k 0) i 0 ≡ 0
 zeros zero i = refl
 zeros (suc k) zero = refl
 zeros (suc k) (suc i) = zeros k i
 
--- a record that is named twice
-named-twice : (t : List ℕ) (x : ℕ) → 1 ≤ x → x ≤ m-of t → 2 ≤ named t x → false ≡ each (m-of t) (λ i. eqb (named t (suc i)) 1)
-named-twice t zero o l g = absurd (omega arith)
-named-twice t (suc i) o l g =
-    scan-fails (λ i. eqb (named t (suc i)) 1) (m-of t) i l (ne-eqb (named t (suc i)) 1 (λ e. omega arith))
+clear : (k x : ℕ) → marked (replicate k 0) x ≡ 0
+unfolding marked
+clear k x = packed-zero 2 (omega arith) 32 (replicate k 0) x (zeros k (x / 32))
 
--- NAMED EXACTLY ONCE: clear flags, then the heads, then the nexts
+none-marked : (k m : ℕ) → marks m (replicate k 0) ≡ 0
+unfolding marks
+none-marked k m =
+    count-none m (λ i. eqb (marked (replicate k 0) (suc i)) 1)
+    (λ i l. let c = clear k (suc i) in ne-eqb (marked (replicate k 0) (suc i)) 1 (λ e. omega arith))
+
 module _ (t : List ℕ) where
-  pub heads-ask : (k : ℕ) → 65536 ≤ k → heads-good t ≡ true → Marks-ask (head-of t) (n-of t) (m-of t) (replicate k 0)
-  unfolding heads-good
-  heads-ask k l h =
-      record {
-        long = rw (length-replicate {A = ℕ} k 0) l;
-        inside = λ q m. leb-le (head-of t q) (m-of t) (each-all (n-of t) (λ q. leb (head-of t q) (m-of t)) h q m);
-        once = λ x o m. rw (zeros k x) (omega arith);
-      }
+  abbrev once : Bool
+  once = each (m-of t) (λ i. eqb (named t (suc i)) 1)
 
-  module _ (k : ℕ) {heads : List ℕ} {b : Bool} (marks : Marks (head-of t) (n-of t) (m-of t) (replicate k 0) heads b) where
-    pub heads-twice : not b ≡ true → false ≡ each (m-of t) (λ i. eqb (named t (suc i)) 1)
-    unfolding named
-    heads-twice h =
-        let (x, o, l, g) = marks-twice marks h in
-        let clear = zeros k x in
-        let n : 2 ≤ named t x = omega arith in named-twice t x o l n
+  -- each of the three parts of refusal 9
+  heads-bad : heads-good t ≡ false → chains-good t ≡ false
+  unfolding chains-good
+  heads-bad h = and-false-l (nexts-good t && once) h
 
-    pub nexts-ask : not b ≡ false → 65536 ≤ k → nexts-good t ≡ true → Marks-ask (λ i. next-of t (suc i)) (m-of t) (m-of t) heads
-    unfolding nexts-good
-    nexts-ask h l g =
-        let s = marks-all marks h in
-        record {
-          long = rw (s .kept, length-replicate {A = ℕ} k 0) l;
-          inside =
-              λ i m.
-              leb-le (next-of t (suc i)) (m-of t)
-              (and-l (eqb (next-of t (suc i)) 0 || ltb (suc i) (next-of t (suc i))) (each-all (m-of t) (next-good t) g i m));
-          once = s .once;
-        }
+  nexts-bad : nexts-good t ≡ false → chains-good t ≡ false
+  unfolding chains-good
+  nexts-bad h = and-false-r (heads-good t) (and-false-l once h)
 
-    module _ {nexts : List ℕ} {c : Bool} (h : not b ≡ false) (marks′ : Marks (λ i. next-of t (suc i)) (m-of t) (m-of t) heads nexts c) where
-      pub nexts-twice : not c ≡ true → false ≡ each (m-of t) (λ i. eqb (named t (suc i)) 1)
-      unfolding named
-      nexts-twice g =
-          let (x, o, l, w) = marks-twice marks′ g in
-          let clear = zeros k x in
-          let a = marks-all marks h .adds x o l in
-          let n : 2 ≤ named t x = omega arith in named-twice t x o l n
+  names-bad : (x : ℕ) → 1 ≤ x → x ≤ m-of t → 2 ≤ named t x → chains-good t ≡ false
+  unfolding chains-good
+  names-bad zero o l g = absurd (omega arith)
+  names-bad (suc i) o l g =
+      let fails = scan-fails (λ i. eqb (named t (suc i)) 1) (m-of t) i l (ne-eqb (named t (suc i)) 1 (λ e. omega arith)) in
+      and-false-r (heads-good t) (and-false-r (nexts-good t) (sym fails))
 
-      pub named-answer :
-          {answer : Bool} {m : ℕ} → not c ≡ false → m ≡ m-of t → answer ≡ each m (λ i. eqb (getD nexts (suc i) 0) 1) →
-          answer ≡ each (m-of t) (λ i. eqb (named t (suc i)) 1)
-      unfolding named
-      named-answer g e a =
-          a ∙
-          rw e
-          (each-same (m-of t) (λ i. eqb (getD nexts (suc i) 0) 1) (λ i. eqb (named t (suc i)) 1)
+  all-good : heads-good t ≡ true → nexts-good t ≡ true → once ≡ chains-good t
+  unfolding chains-good
+  all-good h n = cc
+
+  -- the heads, from clear bits on
+  module _ (k : ℕ) {heads : List ℕ} {h : ℕ} where
+    pub heads-fail : Heads-named t (replicate k 0) heads h → m-of t < h → false ≡ chains-good t
+    unfolding heads-good named
+    heads-fail (all g s) l = let few = marked-few s in absurd (omega arith)
+    heads-fail (wrong a g) l = sym (heads-bad g)
+    heads-fail (twice a x o b g) l =
+        let c = clear k x in
+        let n : 2 ≤ named t x = omega arith in sym (names-bad x o b n)
+
+    -- and then the nexts
+    module _ {nexts : List ℕ} {x : ℕ} where
+      names-right :
+          Marked (head-of t) (n-of t) (m-of t) h (replicate k 0) heads →
+          Marked (λ i. next-of t (suc i)) (m-of t) (m-of t) x heads nexts → eqb (h + x) (m-of t) ≡ once
+      unfolding named marks
+      names-right p q =
+          let start = none-marked k (m-of t) in
+          let a = p .counted in
+          let b = q .counted in
+          let total : h + x ≡ count (m-of t) (λ i. eqb (marked nexts (suc i)) 1) = omega arith in
+          rw total
+          (count-full (m-of t) (λ i. eqb (marked nexts (suc i)) 1)
+          ∙ each-same (m-of t) (λ i. eqb (marked nexts (suc i)) 1) (λ i. eqb (named t (suc i)) 1)
           (λ i l.
           let o : 1 ≤ suc i = omega arith in
-          let clear = zeros k (suc i) in
-          let p = marks-all marks h .adds (suc i) o l in
-          let q = marks-all marks′ g .adds (suc i) o l in
-          let same : getD nexts (suc i) 0 ≡ named t (suc i) = omega arith in rw same))
+          let none = clear k (suc i) in
+          let c = p .adds (suc i) o l in
+          let d = q .adds (suc i) o l in
+          let same : marked nexts (suc i) ≡ named t (suc i) = omega arith in rw same))
+
+      pub chains-answer :
+          {m : ℕ} → m ≡ m-of t → Heads-named t (replicate k 0) heads h → h ≤ m → Nexts-named t heads nexts x →
+          eqb (h + x) m ≡ chains-good t
+      unfolding heads-good nexts-good named
+      chains-answer e (wrong a g) l q = absurd (omega arith)
+      chains-answer e (twice a y o b g) l q = absurd (omega arith)
+      chains-answer {m} e (all g p) l (wrong a n) = ne-eqb (h + x) m (λ r. omega arith) ∙ sym (nexts-bad n)
+      chains-answer {m} e (all g p) l (twice a y o b n) =
+          let none = clear k y in
+          let c = p .adds y o b in
+          let two : 2 ≤ named t y = omega arith in ne-eqb (h + x) m (λ r. omega arith) ∙ sym (names-bad y o b two)
+      chains-answer e (all g p) l (all n q) = rw e (names-right p q ∙ all-good g n)

@@ -1,14 +1,13 @@
 // The chained table of document 01: a lent slice of 16-bit words.
 ghost use mathlib.Core.Path.{_≡_};
-ghost use mathlib.Core.Bool.{true, _&&_, _||_};
-ghost use Prim.Native.Nat.{suc, _<_};
+ghost use mathlib.Core.Bool.{_&&_, _||_};
+ghost use Prim.Native.Nat.{_≤_, _<_};
 ghost use lib.Dec.{eqb, leb, ltb};
 ghost use lib.ListN.{getD, length};
-ghost use Rattle.basics.specs.Bounded.{each};
 ghost use Rattle.tables.specs.Access.{Word, Sized, State-asks, Record-asks, limits};
-ghost use Rattle.tables.specs.Marks.{Mark, Marks-ask, Marks};
+ghost use Rattle.tables.specs.Marks.{Mark, Heads-named, Nexts-named};
 ghost use Rattle.tables.specs.Sizes.{sizes-refusal};
-ghost use Rattle.tables.specs.Table.{n-of, k-of, m-of, flags-of, head-of, letter-of, target-of, next-of, flags-good, records-good, heads-good, nexts-good, named, chains-good, table-refusal};
+ghost use Rattle.tables.specs.Table.{n-of, k-of, m-of, flags-of, head-of, letter-of, target-of, next-of, flags-good, records-good, chains-good, table-refusal};
 
 // READING WORDS. Every reading answers a number wide enough to index with.
 
@@ -123,23 +122,6 @@ fn records_good(table: &[u16]) -> bool
     true
 }
 
-// 9, heads: each is zero or the number of a record.
-fn heads_good(table: &[u16]) -> bool
-    requires { ⌜ Sized (now table) ⌝ }
-    ensures { λ r. ⌜ r ≡ heads-good (now (table .entry)) ⌝ }
-{
-    let n = states_of(table);
-    let m = records_of(table);
-    let mut q = 0;
-    while q < n {
-        if head_of(table, q) > m {
-            return false;
-        }
-        q += 1;
-    }
-    true
-}
-
 // A next of record `number`, with m records in all: zero ends the chain, and a link leads forward.
 fn next_good(next: usize, number: usize, m: usize) -> bool
     ensures { λ r. ⌜ r ≡ (leb next m && (eqb next 0 || ltb number next)) ⌝ }
@@ -153,118 +135,87 @@ fn next_good(next: usize, number: usize, m: usize) -> bool
     number < next
 }
 
-// 9, nexts: each is zero or the number of a later record.
-fn nexts_good(table: &[u16]) -> bool
-    requires { ⌜ Sized (now table) ⌝ }
-    ensures { λ r. ⌜ r ≡ nexts-good (now (table .entry)) ⌝ }
-{
-    let n = states_of(table);
-    let m = records_of(table);
-    let mut i = 0;
-    while i < m {
-        if !next_good(next_of(table, n, i + 1), i + 1, m) {
-            return false;
-        }
-        i += 1;
-    }
-    true
-}
-
-// Marks the record that a link names. False where it was marked already; zero names no record.
-fn mark(seen: &mut [u8], link: usize) -> bool
-    requires { ⌜ link < length (now seen) ⌝ }
+// Marks the record that a link names, and answers how many that are: one, and none for zero. Two where it was marked already.
+fn mark(seen: &mut [u32], link: usize) -> usize
+    requires { ⌜ (2048 ≤ length (now seen)) × (link < 65536) ⌝ }
     ensures { λ r. ⌜ Mark link (now (seen .entry)) (now (seen .exit)) r ⌝ }
 {
     if link == 0 {
-        return true;
+        return 0;
     }
-    if seen[link] != 0 {
-        return false;
+    let word = seen[link / 32];
+    if (word >> (link % 32)) % 2 != 0 {
+        return 2;
     }
-    seen[link] = 1;
-    true
+    seen[link / 32] = word + (1 << (link % 32));
+    1
 }
 
-// Marks what the heads name. False where a record is named a second time.
-fn mark_heads(table: &[u16], seen: &mut [u8]) -> bool
+// 9, heads: each is zero or the number of a record. Answers how many records they name, or m + 1 where one is past the last record or
+// names a record a second time.
+fn name_heads(table: &[u16], seen: &mut [u32]) -> usize
     requires { ⌜ Sized (now table) ⌝ }
-    requires { ⌜ Marks-ask (head-of (now table)) (n-of (now table)) (m-of (now table)) (now seen) ⌝ }
-    ensures { λ r. ⌜ Marks (head-of (now (table .entry))) (n-of (now (table .entry))) (m-of (now (table .entry)))
-        (now (seen .entry)) (now (seen .exit)) r ⌝ }
-{
-    let n = states_of(table);
-    let mut q = 0;
-    while q < n {
-        if !mark(seen, head_of(table, q)) {
-            return false;
-        }
-        q += 1;
-    }
-    true
-}
-
-// Marks what the nexts name. False where a record is named a second time.
-fn mark_nexts(table: &[u16], seen: &mut [u8]) -> bool
-    requires { ⌜ Sized (now table) ⌝ }
-    requires { ⌜ Marks-ask (λ i. next-of (now table) (suc i)) (m-of (now table)) (m-of (now table)) (now seen) ⌝ }
-    ensures { λ r. ⌜ Marks (λ i. next-of (now (table .entry)) (suc i)) (m-of (now (table .entry))) (m-of (now (table .entry)))
-        (now (seen .entry)) (now (seen .exit)) r ⌝ }
+    requires { ⌜ 2048 ≤ length (now seen) ⌝ }
+    ensures { λ r. ⌜ Heads-named (now (table .entry)) (now (seen .entry)) (now (seen .exit)) r ⌝ }
 {
     let n = states_of(table);
     let m = records_of(table);
-    let mut i = 0;
-    while i < m {
-        if !mark(seen, next_of(table, n, i + 1)) {
-            return false;
+    let mut names = 0;
+    let mut q = 0;
+    while q < n {
+        let head = head_of(table, q);
+        if head > m {
+            return m + 1;
         }
-        i += 1;
+        let more = mark(seen, head);
+        if more > 1 {
+            return m + 1;
+        }
+        names += more;
+        q += 1;
     }
-    true
+    names
 }
 
-// Every record from 1 to m is marked.
-fn all_marked(seen: &[u8], m: usize) -> bool
-    requires { ⌜ m < length (now seen) ⌝ }
-    ensures { λ r. ⌜ r ≡ each m (λ i. eqb (getD (now (seen .entry)) (suc i) 0) 1) ⌝ }
-{
-    let mut i = 0;
-    while i < m {
-        if seen[i + 1] != 1 {
-            return false;
-        }
-        i += 1;
-    }
-    true
-}
-
-// 9, names: every record is named exactly once. A flag for each record says whether it was named already, so one pass over the links is enough.
-fn named_once(table: &[u16]) -> bool
+// 9, nexts: each is zero or the number of a later record. Answers as for the heads.
+fn name_nexts(table: &[u16], seen: &mut [u32]) -> usize
     requires { ⌜ Sized (now table) ⌝ }
-    requires { ⌜ (heads-good (now table) ≡ true) × (nexts-good (now table) ≡ true) ⌝ }
-    ensures { λ r. ⌜ r ≡ each (m-of (now (table .entry))) (λ i. eqb (named (now (table .entry)) (suc i)) 1) ⌝ }
+    requires { ⌜ 2048 ≤ length (now seen) ⌝ }
+    ensures { λ r. ⌜ Nexts-named (now (table .entry)) (now (seen .entry)) (now (seen .exit)) r ⌝ }
 {
-    let mut seen = [0u8; 65536];
-    if !mark_heads(table, &mut seen) {
-        return false;
+    let n = states_of(table);
+    let m = records_of(table);
+    let mut names = 0;
+    let mut i = 0;
+    while i < m {
+        let next = next_of(table, n, i + 1);
+        if !next_good(next, i + 1, m) {
+            return m + 1;
+        }
+        let more = mark(seen, next);
+        if more > 1 {
+            return m + 1;
+        }
+        names += more;
+        i += 1;
     }
-    if !mark_nexts(table, &mut seen) {
-        return false;
-    }
-    all_marked(&seen, records_of(table))
+    names
 }
 
-// 9: links in range and forward, each record named exactly once.
+// 9: links in range and forward, each record named exactly once. A bit for each record says whether it was named already: where none is
+// named twice and m are named, all are. So one pass over the links is enough.
 fn chains_good(table: &[u16]) -> bool
     requires { ⌜ Sized (now table) ⌝ }
     ensures { λ r. ⌜ r ≡ chains-good (now (table .entry)) ⌝ }
 {
-    if !heads_good(table) {
+    let m = records_of(table);
+    let mut seen = [0u32; 2048];
+    let heads = name_heads(table, &mut seen);
+    if heads > m {
         return false;
     }
-    if !nexts_good(table) {
-        return false;
-    }
-    named_once(table)
+    let nexts = name_nexts(table, &mut seen);
+    heads + nexts == m
 }
 
 // The first of refusals 2 to 6 that the table meets, or zero: they look at its length and its first three words.

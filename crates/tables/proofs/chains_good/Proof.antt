@@ -1,39 +1,46 @@
--- `tables::chains_good` meets its contract: its three parts, in the definition's order. Assumes nothing.
+-- `tables::chains_good` meets its contract: clear bits, then the heads, then the nexts. Assumes nothing.
 use borrow.Author.Needs.{needs}
+use native.Mathlib.Omega.{arith}
 use denote.Ref.{now}
-use mathlib.Core.Path.{sym, _∙_}
-use Rattle.basics.proofs.Booleans.{false-not}
-use Rattle.tables.proofs.Checks.{heads-bad, nexts-bad, names-decide}
+use Rattle.tables.proofs.Marking.{names-few, heads-fail, chains-answer}
 use Rattle.tables.proofs.chains_good.Statement.{statement}
 use Rattle.tables.proofs.chains_good.Tie as tie
 
-heads-good-requires : tie.Need-heads-good-requires
-heads-good-requires c κs = search needs
+records-of-requires : tie.Need-records-of-requires
+records-of-requires c κs = search needs
+
+slice-aggregate-name-heads : tie.Need-slice-aggregate-name-heads
+slice-aggregate-name-heads c = search needs
+
+name-heads-requires : tie.Need-name-heads-requires
+name-heads-requires c κs = search needs
 
 returns : tie.Need-returns
-returns c = heads-bad (now (c .before .before .before .args .table)) (c .before .heads-good .ensures) (c .if1 .taken)
+returns c = heads-fail (now (c .before .before .before .before .before .before .args .table)) 2048 (c .before .before .name-heads .ensures) (omega arith)
 
-nexts-good-requires : tie.Need-nexts-good-requires
-nexts-good-requires c κs = search needs
+slice-aggregate-name-nexts : tie.Need-slice-aggregate-name-nexts
+slice-aggregate-name-nexts c = search needs
+
+name-nexts-requires : tie.Need-name-nexts-requires
+name-nexts-requires c κs = search needs
+
+add-result : tie.Need-add-result
+add-result c = let few = names-few (c .before .name-nexts .ensures) in omega arith
 
 returns-2 : tie.Need-returns-2
-returns-2 c = nexts-bad (now (c .before .before .before .before .before .args .table)) (c .before .before .before .heads-good .ensures) (c .before .nexts-good .ensures) (c .before .before .if1 .left) (c .if2 .taken)
-
-named-once-requires : tie.Need-named-once-requires
-named-once-requires c κs = (c .before .before .before .before .before .pre, (sym (c .before .before .before .heads-good .ensures) ∙ false-not _ (c .before .before .if1 .left), sym (c .before .nexts-good .ensures) ∙ false-not _ (c .if2 .left)))
-
-returns-3 : tie.Need-returns-3
-returns-3 c =
-    names-decide (now (c .before .before .before .before .before .before .args .table)) (c .before .before .before .before .heads-good .ensures) (c .before .before .nexts-good .ensures) (c .before .before .before .if1 .left) (c .before .if2 .left)
-    (c .named-once .ensures)
+returns-2 c =
+    chains-answer (now (c .before .before .before .before .before .before .before .before .before .args .table)) 2048 (c .before .before .before .before .before .before .before .records-of .ensures .is) (c .before .before .before .before .before .name-heads .ensures)
+    (c .before .before .before .if1 .left) (c .before .name-nexts .ensures)
 
 pub chains-good-spec : {M : Type 1} → statement M
 chains-good-spec =
     tie.close
     (tie.spec
-    heads-good-requires
+    records-of-requires
+    slice-aggregate-name-heads
+    name-heads-requires
     returns
-    nexts-good-requires
-    returns-2
-    named-once-requires
-    returns-3)
+    slice-aggregate-name-nexts
+    name-nexts-requires
+    add-result
+    returns-2)

@@ -1,0 +1,126 @@
+-- `tables::name_nexts` meets its contract: the loop tests and marks the next of one record after the other. Assumes nothing.
+use borrow.Author.Needs.{needs}
+use native.Mathlib.Omega.{arith}
+use native.Mathlib.Numerals.{add-one}
+use Prim.Native.Nat.{suc, _-_}
+use mathlib.Core.Path.{_∙_}
+use denote.Ref.{now}
+use Rattle.tables.specs.Marks.{Marked, next-good}
+use Rattle.tables.specs.Table.{m-of, next-of}
+use Rattle.tables.proofs.Checks.{next-fails, next-passes, next-small}
+use Rattle.tables.proofs.Marking.{marked-start, marked-few, marked-more, marked-twice, names-wrong, names-all}
+use Rattle.tables.proofs.Scans.{Scan, scan-start, scan-more}
+use Rattle.tables.proofs.name_nexts.Statement.{statement}
+use Rattle.tables.proofs.name_nexts.Tie as tie
+
+abbrev Inv-loop : tie.InvT-loop
+Inv-loop table seen₀ n m names₀ i₀ seen names i =
+    Scan (next-good table) (m-of table) i × Marked (λ j. next-of table (suc j)) i (m-of table) names seen₀ seen
+
+abbrev μ-loop : tie.MeasureT-loop
+μ-loop table seen₀ n m names₀ i₀ seen names i = m - i
+
+states-of-requires : tie.Need-states-of-requires Inv-loop μ-loop
+states-of-requires c κs = search needs
+
+records-of-requires : tie.Need-records-of-requires Inv-loop μ-loop
+records-of-requires c κs = search needs
+
+loop-holds : tie.Need-loop-holds Inv-loop μ-loop
+loop-holds c = (scan-start, marked-start _ _ _)
+
+add-next-of : tie.Need-add-next-of Inv-loop μ-loop
+add-next-of c = omega arith
+
+next-of-requires : tie.Need-next-of-requires Inv-loop μ-loop
+next-of-requires c κs =
+    record { counted = c .before .before .before .states-of .ensures .is; from-one = omega arith; number-to = omega arith; sized = omega arith }
+
+add-next-good : tie.Need-add-next-good Inv-loop μ-loop
+add-next-good c = omega arith
+
+next-good-requires : tie.Need-next-good-requires Inv-loop μ-loop
+next-good-requires c κs = search needs
+
+add-result : tie.Need-add-result Inv-loop μ-loop
+add-result c = omega arith
+
+same-length : tie.Need-same-length Inv-loop μ-loop
+same-length c = c .before .before .before .before .loop .inv .1 .kept
+
+returns : tie.Need-returns Inv-loop μ-loop
+returns c =
+    let t = now (c .before .before .before .before .before .before .before .before .before .args .table) in
+    let i = c .before .before .before .before .loop .i in
+    names-wrong (next-good t) i (omega arith)
+    (next-fails t i (c .before .before .before .before .before .records-of .ensures .is) (c .before .before .next-of .ensures .is) (c .before .next-good .ensures) (c .if1 .taken)) (omega arith)
+
+mark-requires : tie.Need-mark-requires Inv-loop μ-loop
+mark-requires c κs = (omega (arith, c .before .before .before .before .before .before .before .before .before .before .pre .1, c .before .before .before .before .before .loop .inv .1 .kept), omega arith)
+
+add-result-2 : tie.Need-add-result-2 Inv-loop μ-loop
+add-result-2 c = omega arith
+
+same-length-2 : tie.Need-same-length-2 Inv-loop μ-loop
+same-length-2 c = c .before .before .before .mark .kept .0 ∙ c .before .before .before .before .before .before .before .before .before .loop .inv .1 .kept
+
+returns-2 : tie.Need-returns-2 Inv-loop μ-loop
+returns-2 c =
+    let t = now (c .before .before .before .before .before .before .before .before .before .before .before .before .before .before .args .table) in
+    marked-twice (c .before .before .before .before .before .before .before .before .before .loop .inv .1) (rw add-one at (c .before .before .before .before .before .before .before .next-of .ensures .is)) (c .before .before .before .mark .ensures) (next-good t) _ (omega arith)
+    (next-small t (c .before .before .before .before .before .before .before .before .before .loop .i) (c .before .before .before .before .before .before .before .before .before .before .records-of .ensures .is) (c .before .before .before .before .before .before .before .next-of .ensures .is) (c .before .before .before .before .before .before .next-good .ensures) (c .before .before .before .before .before .if1 .left))
+    (c .if2 .taken) (omega arith)
+
+add-names : tie.Need-add-names Inv-loop μ-loop
+add-names c = let few = marked-few (c .before .before .before .before .before .before .before .before .before .loop .inv .1) in omega arith
+
+add-i : tie.Need-add-i Inv-loop μ-loop
+add-i c = omega arith
+
+loop-less : tie.Need-loop-less Inv-loop μ-loop
+loop-less c = omega arith
+
+loop-again : tie.Need-loop-again Inv-loop μ-loop
+loop-again c =
+    let t = now (c .before .before .before .before .before .before .before .before .before .before .before .before .before .before .args .table) in
+    let i = c .before .before .before .before .before .before .before .before .before .loop .i in (
+      scan-more (c .before .before .before .before .before .before .before .before .before .loop .inv .0) (omega arith)
+          (next-passes t i (c .before .before .before .before .before .before .before .before .before .before .records-of .ensures .is) (c .before .before .before .before .before .before .before .next-of .ensures .is) (c .before .before .before .before .before .before .next-good .ensures) (c .before .before .before .before .before .if1 .left)),
+      marked-more (c .before .before .before .before .before .before .before .before .before .loop .inv .1) (rw add-one at (c .before .before .before .before .before .before .before .next-of .ensures .is)) (c .before .before .before .mark .ensures)
+          (omega (arith, c .before .before .before .before .before .before .before .before .before .before .before .before .before .before .pre .1, c .before .before .before .before .before .before .before .before .before .loop .inv .1 .kept))
+          (next-small t i (c .before .before .before .before .before .before .before .before .before .before .records-of .ensures .is) (c .before .before .before .before .before .before .before .next-of .ensures .is) (c .before .before .before .before .before .before .next-good .ensures) (c .before .before .before .before .before .if1 .left))
+          (c .if2 .left),
+    )
+
+same-length-3 : tie.Need-same-length-3 Inv-loop μ-loop
+same-length-3 c = c .before .loop .inv .1 .kept
+
+returns-3 : tie.Need-returns-3 Inv-loop μ-loop
+returns-3 c = names-all (c .before .loop .inv .0) (c .before .loop .inv .1) (omega arith)
+
+pub name-nexts-spec : {M : Type 1} → statement M
+name-nexts-spec =
+    tie.close
+    (tie.spec
+    Inv-loop
+    μ-loop
+    states-of-requires
+    records-of-requires
+    loop-holds
+    add-next-of
+    next-of-requires
+    add-next-good
+    next-good-requires
+    add-result
+    same-length
+    returns
+    mark-requires
+    add-result-2
+    same-length-2
+    returns-2
+    add-names
+    add-i
+    loop-less
+    loop-again
+    same-length-3
+    returns-3)
