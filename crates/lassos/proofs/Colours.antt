@@ -48,7 +48,7 @@ grows-same = record { stays = λ x l o. o }
 
 -- TURNING RED
 pub redder-same : {n : ℕ} {w : List ℕ} → Redder n w w
-redder-same = record { turned = λ x l. inl refl; stack = λ i l. refl; cursors = λ x l. refl }
+redder-same = record { turned = λ x l. inl refl; stack = λ i l. refl; cursors = λ i l. refl }
 
 module _ {n : ℕ} {w w′ : List ℕ} (r : Redder n w w′) where
   pub stays-red : (x : ℕ) → x < n → colour w x ≡ 3 → colour w′ x ≡ 3
@@ -92,5 +92,5 @@ redder-redder {n} {w} {w1} {w2} p q =
             | inr s ↦ inr (was-black p x l (s .0), s .1)
           ];
       stack = λ i l. q .stack i l ∙ p .stack i l;
-      cursors = λ x l. q .cursors x l ∙ p .cursors x l;
+      cursors = λ i l. q .cursors i l ∙ p .cursors i l;
     }

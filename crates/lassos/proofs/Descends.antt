@@ -3,9 +3,8 @@ use mathlib.Core.Path.{_≡_, refl, sym, _∙_}
 use mathlib.Core.Bool.{true, false}
 use mathlib.Core.List.{List}
 use mathlib.Core.Logic.{_⊎_, inl, inr}
-use Prim.Native.Nat.{ℕ, suc, _+_, _*_, _-_, _%_, _≤_, _<_}
+use Prim.Native.Nat.{ℕ, suc, _+_, _*_, _-_, _≤_, _<_}
 use native.Mathlib.Omega.{arith}
-use native.Mathlib.Nat.{mod-lt}
 use lib.ListN.{length, getD, set}
 use Rattle.tables.specs.Access.{Record-asks}
 use Rattle.tables.specs.Table.{n-of, m-of, head-of, target-of, next-of}
@@ -15,17 +14,14 @@ use Rattle.lassos.specs.Search.{colour, stacked, cursor, entered, advanc
 use Rattle.lassos.specs.Steps.{Node-asks, Chain-asks, Next-white, White-at, no-white, white-at, Enter-asks, Top-asks, Descended, deeper, all-visited}
 use Rattle.lassos.proofs.Chains.{reads-record, chain-inside}
 use Rattle.lassos.proofs.Colours.{grows-grows, coloured-one}
-use Rattle.lassos.proofs.Given.{given-valid, given-bounded, given-few, given-some, given-small, given-node, given-chain, given-first}
+use Rattle.lassos.proofs.Given.{given-valid, given-bounded, given-few, given-small, given-node, given-chain, given-head, given-first}
 use Rattle.lassos.proofs.Outer.{enter-grows, enter-whites, enter-keeps, advance-grows, advance-whites, advance-keeps}
 use Rattle.lassos.proofs.Stores.{Enters, enters, Advances, advances}
 
 -- ENTERING, as it is written
-pub enter-state : {w : List ℕ} {states size x depth : ℕ} → Enter-asks w states size x depth → x % states < 65536
-enter-state {x = x} a = let k = mod-lt x (a .some) in let f = a .few in omega arith
-
-pub entered-is : (n : ℕ) (w : List ℕ) (x d : ℕ) {r first : ℕ} → r ≡ first → set (set (set w x 1) (n + d) x) (2 * n + x) r ≡ entered n w x first d
+pub entered-is : (n : ℕ) (w : List ℕ) (x r d : ℕ) → set (set (set w x 1) (n + d) x) (2 * n + d) r ≡ entered n w x r d
 unfolding entered
-entered-is n w x d e = rw e
+entered-is n w x r d = refl
 
 -- a record that is not zero is one with a white target
 pub is-white : {t w : List ℕ} {letter base first r : ℕ} → Next-white t w letter base first r → (r ≡ 0 → ⊥) → White-at t w letter base first r
@@ -46,26 +42,43 @@ module _ {t u v w : List ℕ} {states size x depth : ℕ} (a : Top-asks t u v w 
   pub top-node : Node-asks u v states x
   top-node = given-node (a .given) top-inside
 
-  pub top-cursor : 2 * size + x < length w
-  top-cursor = let k = top-inside in let q = a .given .sized in let l = a .search .long in omega arith
+  top-place : depth - 1 < product t u v .size
+  top-place = let k = a .search .room in let o = top-index in omega arith
 
-  pub top-small : 2 * size + x < 4294967296
-  top-small = let k = top-inside in let q = a .given .sized in let l = given-small (a .given) in omega arith
+  pub top-cursor : 2 * size + (depth - 1) < length w
+  top-cursor = let k = top-place in let q = a .given .sized in let l = a .search .long in omega arith
 
-  cursor-is : getD w (2 * size + x) 0 ≡ cursor (product t u v .size) w x
+  pub top-small : 2 * size + (depth - 1) < 4294967296
+  top-small = let k = top-place in let q = a .given .sized in let l = given-small (a .given) in omega arith
+
+  cursor-is : getD w (2 * size + (depth - 1)) 0 ≡ cursor (product t u v .size) w (depth - 1)
   unfolding cursor
   cursor-is = rw (a .given .sized)
 
-  cursor-to : getD w (2 * size + x) 0 ≤ m-of t
+  cursor-to : getD w (2 * size + (depth - 1)) 0 ≤ m-of t
   unfolding product
-  cursor-to = rw cursor-is (a .search .cursors x top-inside (let k = top-grey in omega arith))
+  cursor-to = rw cursor-is (a .search .cursors (depth - 1) top-index)
+
+  -- its targets are visited or still ahead, and what is ahead are its targets
+  top-ahead :
+      (y : ℕ) → Leads (product t u v) x y →
+      (1 ≤ colour w y) ⊎ product t u v .Ahead x (getD w (2 * size + (depth - 1)) 0) y
+  top-ahead y h =
+      let e = a .top in
+      let k : Leads (product t u v) (stacked (product t u v .size) w (depth - 1)) y = rw e at h in
+      rw (cursor-is, e) (a .search .ahead (depth - 1) y top-index k)
+
+  top-chained : (y : ℕ) → product t u v .Ahead x (getD w (2 * size + (depth - 1)) 0) y → Leads (product t u v) x y
+  top-chained y h =
+      let e = a .top in
+      rw e (a .search .on-chain (depth - 1) y top-index (rw (cursor-is, e) at h))
 
   module _ {letter base : ℕ} (is-letter : letter ≡ node-letter states u v x) (is-base : base ≡ node-base states u v x) where
     -- the chain of its edges, from its cursor on
-    top-chain : Chain-asks t states size base (getD w (2 * size + x) 0)
+    top-chain : Chain-asks t states size base (getD w (2 * size + (depth - 1)) 0)
     top-chain = given-chain (a .given) top-inside is-letter is-base cursor-to
 
-    pub top-asks : Chain-asks t states (length w) base (getD w (2 * size + x) 0)
+    pub top-asks : Chain-asks t states (length w) base (getD w (2 * size + (depth - 1)) 0)
     top-asks =
         record {
           valid = top-chain .valid;
@@ -85,18 +98,15 @@ module _ {t u v w : List ℕ} {states size x depth : ℕ} (a : Top-asks t u v w 
     from-chain h = rw (is-letter, is-base, a .given .counted) at h
 
     -- no white node is ahead: all targets are visited
-    pub none-white : {r : ℕ} → Next-white t w letter base (getD w (2 * size + x) 0) r → r ≡ 0 → Descended (product t u v) w w x depth false
+    pub none-white : {r : ℕ} → Next-white t w letter base (getD w (2 * size + (depth - 1)) 0) r → r ≡ 0 → Descended (product t u v) w w x depth false
     none-white (no-white e f) z =
         all-visited refl
         (λ y h.
-        elim (a .search .ahead x y top-inside (let k = top-grey in omega arith) h) [
-          | inl o ↦ o
-          | inr o ↦ f y (to-chain (rw cursor-is o))
-        ])
+        elim (top-ahead y h) [ inl o ↦ o | inr o ↦ f y (to-chain o) ])
     none-white (white-at h) z = absurd (let o = h .from-one in omega arith)
 
     -- the next white target enters
-    module _ {r : ℕ} (h : White-at t w letter base (getD w (2 * size + x) 0) r) where
+    module _ {r : ℕ} (h : White-at t w letter base (getD w (2 * size + (depth - 1)) 0) r) where
       pub white-record : Record-asks t states r
       white-record =
           reads-record (given-chain (a .given) top-inside is-letter is-base (h .number-to)) (h .from-one)
@@ -110,6 +120,9 @@ module _ {t u v w : List ℕ} {states size x depth : ℕ} (a : Top-asks t u v w 
             let k = chain-inside top-chain letter (base + target-of t r) (h .edge) in
             let q = a .given .sized in let e = target-is in omega arith
 
+        to-below : to < n-of t
+        to-below = let k = given-valid (a .given) .target r (h .from-one) (h .number-to) in omega arith
+
         to-white : colour w (base + to) ≡ 0
         to-white = rw target-is at (h .white)
 
@@ -118,13 +131,14 @@ module _ {t u v w : List ℕ} {states size x depth : ℕ} (a : Top-asks t u v w 
             let k = coloured-one 0 (product t u v .size) w (base + to) to-inside to-white in
             let j = a .search .room in omega arith
 
-        pub to-asks : Enter-asks w states size (base + to) depth
-        to-asks =
+        pub to-few : to < 65536
+        to-few = let k = given-few (a .given) in let b = to-below in omega arith
+
+        pub to-asks : {first : ℕ} → first < 65536 → Enter-asks w size (base + to) first depth
+        to-asks few =
             let q = a .given .sized in
-            let e = a .given .counted in
             record {
-              some = let k = given-some (a .given) in omega arith;
-              few = let k = given-few (a .given) in omega arith;
+              first-few = few;
               inside = let k = to-inside in omega arith;
               room = let k = to-room in omega arith;
               long = let k = a .search .long in omega arith;
@@ -132,29 +146,29 @@ module _ {t u v w : List ℕ} {states size x depth : ℕ} (a : Top-asks t u v w 
             }
 
         -- and then the cursor moves on
-        module _ {w1 : List ℕ} (is-entered : w1 ≡ entered size w (base + to) (head-of t ((base + to) % states)) depth) {next : ℕ}
-            (is-next : next ≡ next-of t r) where
+        module _ {first : ℕ} (is-first : first ≡ head-of t to) {w1 : List ℕ} (is-entered : w1 ≡ entered size w (base + to) first depth)
+            {next : ℕ} (is-next : next ≡ next-of t r) where
+          to-first : first ≡ product t u v .first (base + to)
+          to-first = is-first ∙ sym (given-head (a .given) top-inside is-letter is-base to-below)
+
           to-enters : Enters (product t u v .size) w w1 (base + to) (product t u v .first (base + to)) depth
-          unfolding product
           to-enters =
-              let e : w1 ≡ entered (product t u v .size) w (base + to) (head-of t ((base + to) % n-of t)) depth =
-              rw (a .given .sized, a .given .counted) at is-entered in
+              let e : w1 ≡ entered (product t u v .size) w (base + to) (product t u v .first (base + to)) depth =
+              rw (a .given .sized, to-first) at is-entered in
               rw e
-              (enters (product t u v .size) w (base + to) (head-of t ((base + to) % n-of t)) depth (a .search .long) to-inside to-room)
+              (enters (product t u v .size) w (base + to) (product t u v .first (base + to)) depth (a .search .long) to-inside to-room)
 
           to-edge : Leads (product t u v) x (base + to)
-          to-edge =
-              a .search .on-chain x (base + to) top-inside (let k = top-grey in omega arith)
-              (rw cursor-is at (from-chain (rw target-is at (h .edge))))
+          to-edge = top-chained (base + to) (from-chain (rw target-is at (h .edge)))
 
           to-reached : Reached (product t u v) (base + to)
           to-reached =
               let from = a .search .reached x top-inside (let k = top-grey in omega arith) in
               record { start = from .start; begins = from .begins; way = onward (base + to) (from .way) to-edge }
 
-          to-first : product t u v .first (base + to) ≤ product t u v .last
+          first-to : product t u v .first (base + to) ≤ product t u v .last
           unfolding product
-          to-first = given-first (a .given) to-inside (rw (a .given .counted))
+          first-to = given-first (a .given) to-inside (rw (a .given .counted))
 
           to-linked : (i : ℕ) → suc i ≡ depth → Leads (product t u v) (stacked (product t u v .size) w i) (base + to)
           to-linked i e =
@@ -163,29 +177,29 @@ module _ {t u v w : List ℕ} {states size x depth : ℕ} (a : Top-asks t u v w 
 
           deeper-search : Search (product t u v) w1 (suc depth)
           deeper-search =
-              enter-keeps (given-bounded (a .given)) (a .search) to-inside to-white to-enters to-reached to-first to-linked
+              enter-keeps (given-bounded (a .given)) (a .search) to-inside to-white to-enters to-reached first-to to-linked
 
-          -- the cursor of the top is where it was
-          kept-cursor : cursor (product t u v .size) w1 x ≡ getD w (2 * size + x) 0
-          kept-cursor =
-              to-enters .cursors x top-inside
-              (λ s. let k = top-grey in let z : colour w x ≡ 0 = rw (← s) at to-white in omega arith)
-              ∙ sym cursor-is
+          -- the place of the top is what it was
+          kept-top : stacked (product t u v .size) w1 (depth - 1) ≡ x
+          kept-top = to-enters .below (depth - 1) top-index ∙ sym (a .top)
 
-          next-advances : Advances (product t u v .size) w1 (set w1 (2 * size + x) next) x next
+          kept-cursor : cursor (product t u v .size) w1 (depth - 1) ≡ getD w (2 * size + (depth - 1)) 0
+          kept-cursor = to-enters .cursors (depth - 1) top-index ∙ sym cursor-is
+
+          next-advances : Advances (product t u v .size) w1 (set w1 (2 * size + (depth - 1)) next) (depth - 1) next
           unfolding advanced
           next-advances =
-              rw (a .given .sized) (advances (product t u v .size) w1 x next (deeper-search .long) top-inside)
+              rw (a .given .sized) (advances (product t u v .size) w1 (depth - 1) next (deeper-search .long) top-place)
 
           next-to : next ≤ product t u v .last
           unfolding product
           next-to = let k = given-valid (a .given) .next r (h .from-one) (h .number-to) in omega arith
 
-          next-fewer : (y : ℕ) → product t u v .Ahead x next y → product t u v .Ahead x (cursor (product t u v .size) w1 x) y
+          next-fewer : (y : ℕ) → product t u v .Ahead x next y → product t u v .Ahead x (cursor (product t u v .size) w1 (depth - 1)) y
           next-fewer y k = rw kept-cursor (from-chain (h .rest y (rw is-next at (to-chain k))))
 
           next-passed :
-              (y : ℕ) → product t u v .Ahead x (cursor (product t u v .size) w1 x) y →
+              (y : ℕ) → product t u v .Ahead x (cursor (product t u v .size) w1 (depth - 1)) y →
               (1 ≤ colour w1 y) ⊎ product t u v .Ahead x next y
           next-passed y k =
               let c = to-chain (rw kept-cursor at k) in
@@ -202,10 +216,10 @@ module _ {t u v w : List ℕ} {states size x depth : ℕ} (a : Top-asks t u v w 
                     ]
               ]
 
-          pub next-deeper : Descended (product t u v) w (set w1 (2 * size + x) next) x depth true
+          pub next-deeper : Descended (product t u v) w (set w1 (2 * size + (depth - 1)) next) x depth true
           next-deeper =
               let bounded = given-bounded (a .given) in
-              deeper (advance-keeps bounded deeper-search next-advances next-to next-fewer next-passed)
+              deeper (advance-keeps bounded deeper-search next-advances kept-top next-to next-fewer next-passed)
               (grows-grows (enter-grows bounded (a .search) to-inside to-white to-enters)
               (advance-grows bounded deeper-search next-advances))
               (let p = enter-whites bounded (a .search) to-inside to-white to-enters in

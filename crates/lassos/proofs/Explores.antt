@@ -1,12 +1,12 @@
 -- Laws of the outer search as its functions see it: a node is finished, the stack is emptied, and all states are tried.
 -- Assumes nothing.
-use mathlib.Core.Path.{_≡_, refl, _∙_}
+use mathlib.Core.Path.{_≡_, refl, sym, _∙_, ap}
 use mathlib.Core.Bool.{Bool, true, false}
 use mathlib.Core.List.{List}
 use mathlib.Core.Logic.{inl, inr}
 use Prim.Native.Nat.{ℕ, suc, _+_, _*_, _-_, _%_, _≤_, _<_}
 use native.Mathlib.Omega.{arith}
-use native.Mathlib.Nat.{zero-mul}
+use native.Mathlib.Nat.{mod-eq-of-lt, zero-mul}
 use native.Mathlib.Numerals.{add-one}
 use lib.Arith.{digits-lt}
 use lib.Dec.{ltb}
@@ -217,29 +217,30 @@ module _ {t u v w : List ℕ} {states size q : ℕ} (a : Try-asks t u v w states
   unfolding colour
   not-white ne = tried (a .search) grows-same (λ s. omega arith)
 
-  module _ (white : getD w q 0 ≡ 0) where
-    pub try-enter : Enter-asks w states size q 0
-    try-enter =
+  module _ (white : getD w q 0 ≡ 0) {first : ℕ} where
+    pub try-enter : first < 65536 → Enter-asks w size q first 0
+    try-enter few =
         let s = a .given .sized in
-        let e = a .given .counted in
         let b = try-inside in
         record {
-          some = let k = given-some (a .given) in omega arith;
-          few = let k = given-few (a .given) in omega arith;
+          first-few = few;
           inside = omega arith;
           room = omega arith;
           long = let k = a .search .long in omega arith;
           small = let k = given-small (a .given) in omega arith;
         }
 
-    module _ {f : ℕ} (is-flags : f ≡ flags-of t q) (odd : f % 2 ≡ 1) {w1 : List ℕ} (is-entered : w1 ≡ entered size w q (head-of t (q % states)) 0) where
-      try-enters : Enters (product t u v .size) w w1 q (product t u v .first q) 0
+    module _ {f : ℕ} (is-flags : f ≡ flags-of t q) (odd : f % 2 ≡ 1) (is-first : first ≡ head-of t q) {w1 : List ℕ} (is-entered : w1 ≡ entered size w q first 0) where
+      first-is : first ≡ product t u v .first q
       unfolding product
+      first-is = is-first ∙ sym (ap (head-of t) (mod-eq-of-lt try-below))
+
+      try-enters : Enters (product t u v .size) w w1 q (product t u v .first q) 0
       try-enters =
-          let e : w1 ≡ entered (product t u v .size) w q (head-of t (q % n-of t)) 0 =
-          rw (a .given .sized, a .given .counted) at is-entered in
+          let e : w1 ≡ entered (product t u v .size) w q (product t u v .first q) 0 =
+          rw (a .given .sized, first-is) at is-entered in
           rw e
-          (enters (product t u v .size) w q (head-of t (q % n-of t)) 0 (a .search .long) try-inside (let b = try-inside in omega arith))
+          (enters (product t u v .size) w q (product t u v .first q) 0 (a .search .long) try-inside (let b = try-inside in omega arith))
 
       try-starts : product t u v .starts q ≡ true
       unfolding product is-initial

@@ -1,10 +1,11 @@
 -- Laws of a table and a lasso that were not refused: the product is small, its nodes can be taken apart, and its edges read from
 -- the table. Assumes nothing.
-use mathlib.Core.Path.{_≡_, refl}
+use mathlib.Core.Path.{_≡_, refl, ap}
 use mathlib.Core.List.{List}
 use Prim.Native.Nat.{ℕ, suc, _+_, _*_, _/_, _%_, _≤_, _<_}
 use native.Mathlib.Omega.{arith}
 use native.Mathlib.Nat.{mod-lt, mul-le-mul, mul-le-mul-right, suc-mul}
+use lib.Arith.{digits-mod}
 use lib.ListN.{length}
 use Rattle.automata.specs.Lasso.{positions, next-position}
 use Rattle.automata.proofs.Positions.{next-below}
@@ -77,6 +78,13 @@ module _ {t u v : List ℕ} {states size : ℕ} (g : Given t u v states size) wh
             fits = base-fits;
             small = let k = base-fits in let j = given-small in let q = g .sized in omega arith;
           }
+
+      -- the first record of a node at the next position is that of its state
+      pub given-head : {q : ℕ} → q < n-of t → product t u v .first (base + q) ≡ head-of t q
+      unfolding product node-base
+      given-head b =
+          let p = next-position u v (x / n-of t) in
+          let e : base ≡ p * n-of t = rw (g .counted) at is-base in rw e (ap (head-of t) (digits-mod p b))
 
       pub given-spread :
           {w w′ : List ℕ} {a r first : ℕ} → first ≡ head-of t (x % states) →

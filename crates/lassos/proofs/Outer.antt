@@ -85,16 +85,16 @@ module _ {g : Graph} (closed : Bounded g) where
           ]
 
       enter-ahead :
-          (y z : ℕ) → y < g .size → 1 ≤ colour w′ y → Leads g y z →
-          (1 ≤ colour w′ z) ⊎ g .Ahead y (cursor (g .size) w′ y) z
-      enter-ahead y z b o t =
-          elim (same-or y x) [
-            | inl s ↦ inr (rw (s, e .at-first) (rw s at t))
-            | inr ne ↦
-                let k = e .others y b ne in
-                elim (h .ahead y z b (omega arith) t) [
-                  | inl v ↦ inl (enter-grows .stays z (closed .edge y z b t) v)
-                  | inr v ↦ inr (rw (e .cursors y b ne) v)
+          (i z : ℕ) → i < suc d → Leads g (stacked (g .size) w′ i) z →
+          (1 ≤ colour w′ z) ⊎ g .Ahead (stacked (g .size) w′ i) (cursor (g .size) w′ i) z
+      enter-ahead i z b t =
+          elim (enter-stack i b) [
+            | inl s ↦ let first : cursor (g .size) w′ i ≡ g .first x = rw (s .0) (e .at-first) in inr (rw (s .1, first) (rw (s .1) at t))
+            | inr s ↦
+                let old : Leads g (stacked (g .size) w i) z = rw (s .1) at t in
+                elim (h .ahead i z (s .0) old) [
+                  | inl v ↦ inl (enter-grows .stays z (closed .edge (stacked (g .size) w i) z (h .inside i (s .0)) old) v)
+                  | inr v ↦ inr (rw (s .1, e .cursors i (s .0)) v)
                 ]
           ]
 
@@ -122,18 +122,16 @@ module _ {g : Graph} (closed : Bounded g) where
             reached =
                 λ y b o. elim (enter-colour y b) [ inl s ↦ rw s found | inr s ↦ h .reached y b (omega arith) ];
             cursors =
-                λ y b o.
-                elim (same-or y x) [
-                  | inl s ↦ rw (s, e .at-first) small
-                  | inr ne ↦ let k = e .others y b ne in rw (e .cursors y b ne) (h .cursors y b (omega arith))
+                λ i b.
+                elim (enter-stack i b) [
+                  | inl s ↦ rw (s .0, e .at-first) small
+                  | inr s ↦ rw (e .cursors i (s .0)) (h .cursors i (s .0))
                 ];
             on-chain =
-                λ y z b o k.
-                elim (same-or y x) [
-                  | inl s ↦ let f = e .at-first in rw s (rw (s, f) at k)
-                  | inr ne ↦
-                      let q = e .others y b ne in
-                      h .on-chain y z b (omega arith) (rw (e .cursors y b ne) at k)
+                λ i z b k.
+                elim (enter-stack i b) [
+                  | inl s ↦ let first : cursor (g .size) w′ i ≡ g .first x = rw (s .0) (e .at-first) in rw (s .1) (rw (s .1, first) at k)
+                  | inr s ↦ rw (s .1) (h .on-chain i z (s .0) (rw (s .1, e .cursors i (s .0)) at k))
                 ];
             ahead = enter-ahead;
             finished =
@@ -144,7 +142,7 @@ module _ {g : Graph} (closed : Bounded g) where
           }
 
   -- THE CURSOR MOVES ON: past records whose targets are visited
-  module _ {w w′ : List ℕ} {d x r : ℕ} (h : Search g w d) (e : Advances (g .size) w w′ x r) where
+  module _ {w w′ : List ℕ} {d p r : ℕ} (h : Search g w d) (e : Advances (g .size) w w′ p r) where
     pub advance-grows : Grows (g .size) w w′
     advance-grows = record { stays = λ y b o. let k = e .colours y b in omega arith }
 
@@ -152,9 +150,10 @@ module _ {g : Graph} (closed : Bounded g) where
     advance-whites = coloured-mono 0 (g .size) w w′ (λ y b z. sym (e .colours y b) ∙ z)
 
     pub advance-keeps :
-        r ≤ g .last → ((y : ℕ) → g .Ahead x r y → g .Ahead x (cursor (g .size) w x) y) →
-        ((y : ℕ) → g .Ahead x (cursor (g .size) w x) y → (1 ≤ colour w y) ⊎ g .Ahead x r y) → Search g w′ d
-    advance-keeps small fewer passed =
+        {x : ℕ} → stacked (g .size) w p ≡ x → r ≤ g .last →
+        ((y : ℕ) → g .Ahead x r y → g .Ahead x (cursor (g .size) w p) y) →
+        ((y : ℕ) → g .Ahead x (cursor (g .size) w p) y → (1 ≤ colour w y) ⊎ g .Ahead x r y) → Search g w′ d
+    advance-keeps {x} at-x small fewer passed =
         let fits : d ≤ g .size = (let k = h .room in omega arith) in
         record {
           long = let k = e .size in let j = h .long in omega arith;
@@ -170,33 +169,32 @@ module _ {g : Graph} (closed : Bounded g) where
           linked = λ i b. rw (e .stack i (omega arith), e .stack (suc i) (omega arith)) (h .linked i b);
           reached = λ y b o. h .reached y b (let k = e .colours y b in omega arith);
           cursors =
-              λ y b o.
-              elim (same-or y x) [
-                | inl s ↦ rw (s, e .here) small
-                | inr ne ↦ let k = e .colours y b in rw (e .others y ne) (h .cursors y b (omega arith))
-              ];
+              λ i b. elim (same-or i p) [ inl s ↦ rw (s, e .here) small | inr ne ↦ rw (e .others i ne) (h .cursors i b) ];
           on-chain =
-              λ y z b o k.
-              let q = e .colours y b in
-              elim (same-or y x) [
+              λ i z b k.
+              let k′ : g .Ahead (stacked (g .size) w i) (cursor (g .size) w′ i) z = rw (e .stack i (omega arith)) at k in
+              rw (e .stack i (omega arith))
+              (h .on-chain i z b
+              (elim (same-or i p) [
                 | inl s ↦
-                    let f = e .here in
-                    h .on-chain y z b (omega arith) (rw s (fewer z (rw (s, f) at k)))
-                | inr ne ↦ h .on-chain y z b (omega arith) (rw (e .others y ne) at k)
-              ];
+                    let f = e .here in rw (s, at-x) (fewer z (rw (s, at-x, f) at k′))
+                | inr ne ↦ rw (e .others i ne) at k′
+              ]));
           ahead =
-              λ y z b o t.
-              let k = e .colours y b in
-              let old = h .ahead y z b (omega arith) t in
-              let lift : 1 ≤ colour w z → 1 ≤ colour w′ z = advance-grows .stays z (closed .edge y z b t) in
-              elim (same-or y x) [
-                | inl s ↦
-                    elim old [
-                      | inl v ↦ inl (lift v)
-                      | inr v ↦ elim (passed z (rw s at v)) [ inl q ↦ inl (lift q) | inr q ↦ inr (rw (s, e .here) q) ]
+              λ i z b t.
+              let t′ : Leads g (stacked (g .size) w i) z = rw (e .stack i (omega arith)) at t in
+              let lift : 1 ≤ colour w z → 1 ≤ colour w′ z =
+              advance-grows .stays z (closed .edge (stacked (g .size) w i) z (h .inside i b) t′) in
+              rw (e .stack i (omega arith))
+              (elim (h .ahead i z b t′) [
+                | inl v ↦ inl (lift v)
+                | inr v ↦
+                    elim (same-or i p) [
+                      | inl s ↦
+                          elim (passed z (rw (s, at-x) at v)) [ inl q ↦ inl (lift q) | inr q ↦ inr (rw (s, at-x, e .here) q) ]
+                      | inr ne ↦ inr (rw (e .others i ne) v)
                     ]
-                | inr ne ↦ elim old [ inl v ↦ inl (lift v) | inr v ↦ inr (rw (e .others y ne) v) ]
-              ];
+              ]);
           finished =
               λ y z b o t.
               advance-grows .stays z (closed .edge y z b t) (h .finished y z b (let k = e .colours y b in omega arith) t);
@@ -273,27 +271,18 @@ module _ {g : Graph} (closed : Bounded g) where
                   | inl s ↦ rw s (h .reached (stacked (g .size) w d) (h .inside d (omega arith)) (let k = h .grey d (omega arith) in omega arith))
                   | inr s ↦ h .reached y b (omega arith)
                 ];
-            cursors =
-                λ y b o.
-                rw (e .cursors y b)
-                (elim (leave-colour y) [
-                  | inl s ↦ h .cursors y b (let k = h .grey d (omega arith) in rw s (omega arith))
-                  | inr s ↦ h .cursors y b (omega arith)
-                ]);
+            cursors = λ i b. rw (e .cursors i (omega arith)) (h .cursors i (omega arith));
             on-chain =
-                λ y z b o k.
-                let q : g .Ahead y (cursor (g .size) w y) z = rw (e .cursors y b) at k in
-                elim (leave-colour y) [
-                  | inl s ↦ h .on-chain y z b (let j = h .grey d (omega arith) in rw s (omega arith)) q
-                  | inr s ↦ h .on-chain y z b (omega arith) q
-                ];
+                λ i z b k.
+                rw (e .stack i (omega arith))
+                (h .on-chain i z (omega arith) (rw (e .stack i (omega arith), e .cursors i (omega arith)) at k));
             ahead =
-                λ y z b o t.
-                let lift : 1 ≤ colour w z → 1 ≤ colour w′ z = leave-grows .stays z (closed .edge y z b t) in
-                elim (leave-colour y) [
-                  | inl s ↦ inl (lift (done z (rw s at t)))
-                  | inr s ↦
-                      elim (h .ahead y z b (omega arith) t) [ inl v ↦ inl (lift v) | inr v ↦ inr (rw (e .cursors y b) v) ]
+                λ i z b t.
+                let t′ : Leads g (stacked (g .size) w i) z = rw (e .stack i (omega arith)) at t in
+                elim (h .ahead i z (omega arith) t′) [
+                  | inl v ↦
+                      inl (leave-grows .stays z (closed .edge (stacked (g .size) w i) z (h .inside i (omega arith)) t′) v)
+                  | inr v ↦ inr (rw (e .stack i (omega arith), e .cursors i (omega arith)) v)
                 ];
             finished =
                 λ y z b o t.
@@ -334,13 +323,17 @@ module _ {g : Graph} (closed : Bounded g) where
               (s .0, s .1, r .stack (s .0) (let t = s .1 in omega arith) ∙ s .2);
           linked = λ i b. rw (r .stack i (omega arith), r .stack (suc i) (omega arith)) (h .linked i b);
           reached = λ y b o. h .reached y b (was-visited r y b o);
-          cursors = λ y b o. rw (r .cursors y b) (h .cursors y b (was-visited r y b o));
-          on-chain = λ y z b o k. h .on-chain y z b (was-visited r y b o) (rw (r .cursors y b) at k);
+          cursors = λ i b. rw (r .cursors i (omega arith)) (h .cursors i b);
+          on-chain =
+              λ i z b k.
+              rw (r .stack i (omega arith))
+              (h .on-chain i z b (rw (r .stack i (omega arith), r .cursors i (omega arith)) at k));
           ahead =
-              λ y z b o t.
-              elim (h .ahead y z b (was-visited r y b o) t) [
-                | inl v ↦ inl (redder-grows .stays z (closed .edge y z b t) v)
-                | inr v ↦ inr (rw (r .cursors y b) v)
+              λ i z b t.
+              let t′ : Leads g (stacked (g .size) w i) z = rw (r .stack i (omega arith)) at t in
+              elim (h .ahead i z b t′) [
+                | inl v ↦ inl (redder-grows .stays z (closed .edge (stacked (g .size) w i) z (h .inside i b) t′) v)
+                | inr v ↦ inr (rw (r .stack i (omega arith), r .cursors i (omega arith)) v)
               ];
           finished =
               λ y z b o t. redder-grows .stays z (closed .edge y z b t) (h .finished y z b (was-finished r y b o) t);

@@ -24,7 +24,7 @@ pub record Recolours (n : ℕ) (w w′ : List ℕ) (x c : ℕ) : Type 0 where
   pub here : colour w′ x ≡ c
   pub others : (y : ℕ) → (y ≡ x → ⊥) → colour w′ y ≡ colour w y
   pub stack : (i : ℕ) → i < n → stacked n w′ i ≡ stacked n w i
-  pub cursors : (y : ℕ) → y < n → cursor n w′ y ≡ cursor n w y
+  pub cursors : (i : ℕ) → i < n → cursor n w′ i ≡ cursor n w i
 
 pub recolours : (n : ℕ) (w : List ℕ) (x c : ℕ) → 4 * n ≤ length w → x < n → Recolours n w (recoloured w x c) x c
 unfolding colour stacked cursor recoloured
@@ -34,7 +34,7 @@ recolours n w x c long l =
       here = getD-set-same w x c 0 (omega arith);
       others = λ y ne. getD-set-other w x y c 0 ne;
       stack = λ i m. getD-set-other w x (n + i) c 0 (λ e. omega arith);
-      cursors = λ y m. getD-set-other w x (2 * n + y) c 0 (λ e. omega arith);
+      cursors = λ i m. getD-set-other w x (2 * n + i) c 0 (λ e. omega arith);
     }
 
 -- a node turns grey and goes on the stack
@@ -44,8 +44,8 @@ pub record Enters (n : ℕ) (w w′ : List ℕ) (x first depth : ℕ) : Type 0 w
   pub others : (y : ℕ) → y < n → (y ≡ x → ⊥) → colour w′ y ≡ colour w y
   pub top : stacked n w′ depth ≡ x
   pub below : (i : ℕ) → i < depth → stacked n w′ i ≡ stacked n w i
-  pub at-first : cursor n w′ x ≡ first
-  pub cursors : (y : ℕ) → y < n → (y ≡ x → ⊥) → cursor n w′ y ≡ cursor n w y
+  pub at-first : cursor n w′ depth ≡ first
+  pub cursors : (i : ℕ) → i < depth → cursor n w′ i ≡ cursor n w i
 
 module _ (n : ℕ) (w : List ℕ) (x r d : ℕ) (long : 4 * n ≤ length w) (l : x < n) (m : d < n) where
   pub enters : Enters n w (entered n w x r d) x r d
@@ -56,54 +56,54 @@ module _ (n : ℕ) (w : List ℕ) (x r d : ℕ) (long : 4 * n ≤ length w) (l :
       let e1 : length w1 ≡ length w = length-set w x 1 in
       let e2 : length w2 ≡ length w1 = length-set w1 (n + d) x in
       record {
-        size = length-set w2 (2 * n + x) r ∙ e2 ∙ e1;
+        size = length-set w2 (2 * n + d) r ∙ e2 ∙ e1;
         here =
-            getD-set-other w2 (2 * n + x) x r 0 (λ e. omega arith) ∙ getD-set-other w1 (n + d) x x 0 (λ e. omega arith)
+            getD-set-other w2 (2 * n + d) x r 0 (λ e. omega arith) ∙ getD-set-other w1 (n + d) x x 0 (λ e. omega arith)
             ∙ getD-set-same w x 1 0 (omega arith);
         others =
             λ y b ne.
-            getD-set-other w2 (2 * n + x) y r 0 (λ e. omega arith) ∙ getD-set-other w1 (n + d) y x 0 (λ e. omega arith)
+            getD-set-other w2 (2 * n + d) y r 0 (λ e. omega arith) ∙ getD-set-other w1 (n + d) y x 0 (λ e. omega arith)
             ∙ getD-set-other w x y 1 0 ne;
         top =
-            getD-set-other w2 (2 * n + x) (n + d) r 0 (λ e. omega arith) ∙ getD-set-same w1 (n + d) x 0 (omega arith);
+            getD-set-other w2 (2 * n + d) (n + d) r 0 (λ e. omega arith) ∙ getD-set-same w1 (n + d) x 0 (omega arith);
         below =
             λ i b.
-            getD-set-other w2 (2 * n + x) (n + i) r 0 (λ e. omega arith)
+            getD-set-other w2 (2 * n + d) (n + i) r 0 (λ e. omega arith)
             ∙ getD-set-other w1 (n + d) (n + i) x 0 (λ e. omega arith)
             ∙ getD-set-other w x (n + i) 1 0 (λ e. omega arith);
-        at-first = getD-set-same w2 (2 * n + x) r 0 (omega arith);
+        at-first = getD-set-same w2 (2 * n + d) r 0 (omega arith);
         cursors =
-            λ y b ne.
-            getD-set-other w2 (2 * n + x) (2 * n + y) r 0 (λ e. ne (omega arith))
-            ∙ getD-set-other w1 (n + d) (2 * n + y) x 0 (λ e. omega arith)
-            ∙ getD-set-other w x (2 * n + y) 1 0 (λ e. omega arith);
+            λ i b.
+            getD-set-other w2 (2 * n + d) (2 * n + i) r 0 (λ e. omega arith)
+            ∙ getD-set-other w1 (n + d) (2 * n + i) x 0 (λ e. omega arith)
+            ∙ getD-set-other w x (2 * n + i) 1 0 (λ e. omega arith);
       }
 
--- the cursor of a node moves on
-pub record Advances (n : ℕ) (w w′ : List ℕ) (x r : ℕ) : Type 0 where
+-- the cursor of a place moves on
+pub record Advances (n : ℕ) (w w′ : List ℕ) (i r : ℕ) : Type 0 where
   pub size : length w′ ≡ length w
   pub colours : (y : ℕ) → y < n → colour w′ y ≡ colour w y
-  pub stack : (i : ℕ) → i < n → stacked n w′ i ≡ stacked n w i
-  pub here : cursor n w′ x ≡ r
-  pub others : (y : ℕ) → (y ≡ x → ⊥) → cursor n w′ y ≡ cursor n w y
+  pub stack : (j : ℕ) → j < n → stacked n w′ j ≡ stacked n w j
+  pub here : cursor n w′ i ≡ r
+  pub others : (j : ℕ) → (j ≡ i → ⊥) → cursor n w′ j ≡ cursor n w j
 
-pub advances : (n : ℕ) (w : List ℕ) (x r : ℕ) → 4 * n ≤ length w → x < n → Advances n w (advanced n w x r) x r
+pub advances : (n : ℕ) (w : List ℕ) (i r : ℕ) → 4 * n ≤ length w → i < n → Advances n w (advanced n w i r) i r
 unfolding colour stacked cursor advanced
-advances n w x r long l =
+advances n w i r long l =
     record {
-      size = length-set w (2 * n + x) r;
-      colours = λ y b. getD-set-other w (2 * n + x) y r 0 (λ e. omega arith);
-      stack = λ i b. getD-set-other w (2 * n + x) (n + i) r 0 (λ e. omega arith);
-      here = getD-set-same w (2 * n + x) r 0 (omega arith);
-      others = λ y ne. getD-set-other w (2 * n + x) (2 * n + y) r 0 (λ e. ne (omega arith));
+      size = length-set w (2 * n + i) r;
+      colours = λ y b. getD-set-other w (2 * n + i) y r 0 (λ e. omega arith);
+      stack = λ j b. getD-set-other w (2 * n + i) (n + j) r 0 (λ e. omega arith);
+      here = getD-set-same w (2 * n + i) r 0 (omega arith);
+      others = λ j ne. getD-set-other w (2 * n + i) (2 * n + j) r 0 (λ e. ne (omega arith));
     }
 
 -- a node turns red and waits
 pub record Reddens (n : ℕ) (w w′ : List ℕ) (x i : ℕ) : Type 0 where
   pub here : colour w′ x ≡ 3
   pub others : (y : ℕ) → y < n → (y ≡ x → ⊥) → colour w′ y ≡ colour w y
-  pub stack : (i : ℕ) → i < n → stacked n w′ i ≡ stacked n w i
-  pub cursors : (y : ℕ) → y < n → cursor n w′ y ≡ cursor n w y
+  pub stack : (j : ℕ) → j < n → stacked n w′ j ≡ stacked n w j
+  pub cursors : (j : ℕ) → j < n → cursor n w′ j ≡ cursor n w j
   pub last : waiting n w′ i ≡ x
   pub before : (j : ℕ) → j < i → waiting n w′ j ≡ waiting n w j
 
@@ -119,9 +119,9 @@ module _ (n : ℕ) (w : List ℕ) (x i : ℕ) (long : 4 * n ≤ length w) (l : x
         stack =
             λ j b. getD-set-other w1 (3 * n + i) (n + j) x 0 (λ e. omega arith) ∙ getD-set-other w x (n + j) 3 0 (λ e. omega arith);
         cursors =
-            λ y b.
-            getD-set-other w1 (3 * n + i) (2 * n + y) x 0 (λ e. omega arith)
-            ∙ getD-set-other w x (2 * n + y) 3 0 (λ e. omega arith);
+            λ j b.
+            getD-set-other w1 (3 * n + i) (2 * n + j) x 0 (λ e. omega arith)
+            ∙ getD-set-other w x (2 * n + j) 3 0 (λ e. omega arith);
         last = getD-set-same w1 (3 * n + i) x 0 (omega arith);
         before =
             λ j b.

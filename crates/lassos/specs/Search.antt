@@ -9,7 +9,7 @@ use lib.ListN.{length, getD, set}
 use Rattle.basics.specs.Bounded.{count}
 use Rattle.lassos.specs.Graph.{Graph, Leads, Way, Reached, Cycle}
 
--- THE WORK WORDS are four blocks of `size` words, one word in each for every node.
+-- THE WORK WORDS are four blocks of `size` words: one word for every node in block 0, and for every place of a stack in the others.
 -- Block 0: the colour of a node: 0 white (not met), 1 grey (on the stack), 2 black (finished), 3 red (finished, and leads to red nodes only)
 unfoldable pub colour : (words : List ℕ) → (node : ℕ) → ℕ
 colour w x = getD w x 0
@@ -18,9 +18,9 @@ colour w x = getD w x 0
 unfoldable pub stacked : (size : ℕ) → (words : List ℕ) → (index : ℕ) → ℕ
 stacked n w i = getD w (n + i) 0
 
--- Block 2: the record of a node's chain to look at next
-unfoldable pub cursor : (size : ℕ) → (words : List ℕ) → (node : ℕ) → ℕ
-cursor n w x = getD w (2 * n + x) 0
+-- Block 2: for each place of the stack, the record of its node's chain to look at next
+unfoldable pub cursor : (size : ℕ) → (words : List ℕ) → (index : ℕ) → ℕ
+cursor n w i = getD w (2 * n + i) 0
 
 -- Block 3: red nodes whose edges the inner search has yet to follow
 unfoldable pub waiting : (size : ℕ) → (words : List ℕ) → (index : ℕ) → ℕ
@@ -44,11 +44,11 @@ recoloured w x c = set w x c
 
 -- a white node turns grey, lies on the stack, and its cursor stands at its first record
 unfoldable pub entered : (size : ℕ) → (words : List ℕ) → (node first depth : ℕ) → List ℕ
-entered n w x r d = set (set (set w x 1) (n + d) x) (2 * n + x) r
+entered n w x r d = set (set (set w x 1) (n + d) x) (2 * n + d) r
 
--- the cursor of a node moves on
-unfoldable pub advanced : (size : ℕ) → (words : List ℕ) → (node number : ℕ) → List ℕ
-advanced n w x r = set w (2 * n + x) r
+-- the cursor of a place moves on
+unfoldable pub advanced : (size : ℕ) → (words : List ℕ) → (index number : ℕ) → List ℕ
+advanced n w i r = set w (2 * n + i) r
 
 -- a black node turns red and waits
 unfoldable pub reddened : (size : ℕ) → (words : List ℕ) → (node wait : ℕ) → List ℕ
@@ -65,13 +65,16 @@ pub record Search (g : Graph) (w : List ℕ) (depth : ℕ) : Type 0 where
   pub distinct : (i j : ℕ) → i < j → j < depth → stacked (g .size) w i ≡ stacked (g .size) w j → ⊥
   pub on-stack : (x : ℕ) → x < g .size → colour w x ≡ 1 → (i : ℕ) × (i < depth) × (stacked (g .size) w i ≡ x)
   pub linked : (i : ℕ) → suc i < depth → Leads g (stacked (g .size) w i) (stacked (g .size) w (suc i))
-  -- visited nodes are reached; the cursor is on their chain; their targets are visited or still ahead
-  pub reached : (x : ℕ) → x < g .size → 1 ≤ colour w x → Reached g x
-  pub cursors : (x : ℕ) → x < g .size → 1 ≤ colour w x → cursor (g .size) w x ≤ g .last
-  pub on-chain : (x y : ℕ) → x < g .size → 1 ≤ colour w x → g .Ahead x (cursor (g .size) w x) y → Leads g x y
+  -- their cursors are on their chains; their targets are visited or still ahead
+  pub cursors : (i : ℕ) → i < depth → cursor (g .size) w i ≤ g .last
+  pub on-chain :
+      (i y : ℕ) → i < depth → g .Ahead (stacked (g .size) w i) (cursor (g .size) w i) y →
+      Leads g (stacked (g .size) w i) y
   pub ahead :
-      (x y : ℕ) → x < g .size → 1 ≤ colour w x → Leads g x y →
-      (1 ≤ colour w y) ⊎ g .Ahead x (cursor (g .size) w x) y
+      (i y : ℕ) → i < depth → Leads g (stacked (g .size) w i) y →
+      (1 ≤ colour w y) ⊎ g .Ahead (stacked (g .size) w i) (cursor (g .size) w i) y
+  -- visited nodes are reached
+  pub reached : (x : ℕ) → x < g .size → 1 ≤ colour w x → Reached g x
   -- finished nodes: their targets are visited, those of red ones red, and no accepting one lies on a cycle
   pub finished : (x y : ℕ) → x < g .size → 2 ≤ colour w x → Leads g x y → 1 ≤ colour w y
   pub red : (x y : ℕ) → x < g .size → colour w x ≡ 3 → Leads g x y → colour w y ≡ 3
@@ -86,7 +89,7 @@ pub record Redder (size : ℕ) (w w-now : List ℕ) : Type 0 where
   pub turned :
       (x : ℕ) → x < size → (colour w-now x ≡ colour w x) ⊎ ((colour w x ≡ 2) × (colour w-now x ≡ 3))
   pub stack : (i : ℕ) → i < size → stacked size w-now i ≡ stacked size w i
-  pub cursors : (x : ℕ) → x < size → cursor size w-now x ≡ cursor size w x
+  pub cursors : (i : ℕ) → i < size → cursor size w-now i ≡ cursor size w i
 
 -- all edges of red nodes lead to red nodes
 pub record Red-closed (g : Graph) (w : List ℕ) : Type 0 where

@@ -102,9 +102,8 @@ pub record Meets-asks (t u v w : List ℕ) (states size node : ℕ) : Type 0 whe
   pub asks : Inner-asks (product t u v) node w
 
 -- A NODE ENTERS
-pub record Enter-asks (w : List ℕ) (states size node depth : ℕ) : Type 0 where
-  pub some : 1 ≤ states
-  pub few : states < 65536
+pub record Enter-asks (w : List ℕ) (size node first depth : ℕ) : Type 0 where
+  pub first-few : first < 65536
   pub inside : node < size
   pub room : depth < size
   pub long : 4 * size ≤ length w

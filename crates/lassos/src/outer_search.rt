@@ -8,9 +8,7 @@ use tables::letter_of;
 use tables::next_of;
 use tables::target_of;
 ghost use mathlib.Core.Path.{_≡_};
-ghost use Prim.Native.Nat.{_%_};
 ghost use lib.ListN.{length};
-ghost use Rattle.tables.specs.Table.{head-of};
 ghost use Rattle.lassos.specs.Product.{product};
 ghost use Rattle.lassos.specs.Search.{entered};
 ghost use Rattle.lassos.specs.Steps.{Chain-asks, Edge-asks, white-edge, Next-white, Enter-asks, Top-asks, Descended, Meets-asks, Finished, Explore-asks, Explored, Try-asks, Tried, Searched};
@@ -56,13 +54,13 @@ fn next_white(
 }
 
 // A white node turns grey and lies on the stack; its cursor stands at its first record.
-fn enter(table: &[u16], work: &mut [u32], states: usize, size: usize, node: usize, depth: usize)
-    requires { ⌜ Enter-asks (now work) states size node depth ⌝ }
-    ensures { λ _. ⌜ now (work .exit) ≡ entered size (now (work .entry)) node (head-of (now (table .entry)) (node % states)) depth ⌝ }
+fn enter(work: &mut [u32], size: usize, node: usize, first: usize, depth: usize)
+    requires { ⌜ Enter-asks (now work) size node first depth ⌝ }
+    ensures { λ _. ⌜ now (work .exit) ≡ entered size (now (work .entry)) node first depth ⌝ }
 {
     work[node] = 1;
     work[size + depth] = node as u32;
-    work[2 * size + node] = head_of(table, node % states) as u32;
+    work[2 * size + depth] = first as u32;
 }
 
 // The next white target of the stack's top enters, and then the top's cursor moves on. Answers false where there is none.
@@ -82,20 +80,15 @@ fn descend(
 {
     let letter = node_letter(prefix, cycle, states, node);
     let base = node_base(prefix, cycle, states, node);
-    let first = work[2 * size + node] as usize;
+    let top = depth - 1;
+    let first = work[2 * size + top] as usize;
     let at = next_white(table, work, states, letter, base, first);
     if at == 0 {
         return false;
     }
-    enter(
-        table,
-        work,
-        states,
-        size,
-        base + target_of(table, states, at),
-        depth,
-    );
-    work[2 * size + node] = next_of(table, states, at) as u32;
+    let target = target_of(table, states, at);
+    enter(work, size, base + target, head_of(table, target), depth);
+    work[2 * size + top] = next_of(table, states, at) as u32;
     true
 }
 
@@ -173,7 +166,7 @@ fn try_state(
     if work[state] != 0 {
         return false;
     }
-    enter(table, work, states, size, state, 0);
+    enter(work, size, state, head_of(table, state), 0);
     explore(table, prefix, cycle, work, states, size)
 }
 

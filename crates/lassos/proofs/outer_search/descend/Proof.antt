@@ -1,11 +1,11 @@
 -- `lassos::outer_search::descend` meets its contract. Assumes nothing.
 use borrow.Author.Needs.{needs}
-use Prim.Native.Nat.{_+_, _*_}
+use Prim.Native.Nat.{ℕ, _+_, _*_, _-_, _<_}
 use native.Mathlib.Omega.{arith}
 use denote.Ref.{now}
 use Rattle.tables.specs.Access.{Record-asks}
 use Rattle.lassos.specs.Steps.{Enter-asks}
-use Rattle.lassos.proofs.Descends.{top-node, top-cursor, top-small, top-asks, none-white, is-white, white-record, to-asks, next-deeper}
+use Rattle.lassos.proofs.Descends.{top-node, top-cursor, top-small, top-asks, none-white, is-white, white-record, to-few, to-asks, next-deeper}
 use Rattle.lassos.proofs.outer_search.descend.Statement.{statement}
 use Rattle.lassos.proofs.outer_search.descend.Tie as tie
 
@@ -14,6 +14,9 @@ node-letter-requires c κs = top-node (c .before .before .before .before .pre)
 
 node-base-requires : tie.Need-node-base-requires
 node-base-requires c κs = top-node (c .before .before .before .before .before .pre)
+
+sub-top : tie.Need-sub-top
+sub-top c = search needs
 
 mul-first : tie.Need-mul-first
 mul-first c = search needs
@@ -30,7 +33,7 @@ slice-read-first c = top-cursor (c .before .before .before .before .before .befo
 cast-first : tie.Need-cast-first
 cast-first c =
     let a = c .before .before .before .before .before .before .before .args in
-    omega (arith, c .slice-known2 .given (2 * a .size + a .node))
+    omega (arith, c .slice-known2 .given (2 * a .size + (a .depth - 1)))
 
 next-white-requires : tie.Need-next-white-requires
 next-white-requires c κs =
@@ -63,59 +66,79 @@ module _ (c : tie.Else1) where
       (is-white (c .before .next-white .ensures) (c .if1 .left))
 
 target-of-requires : tie.Need-target-of-requires
-target-of-requires c κs = reads-white (c .before)
+target-of-requires c κs = reads-white c
 
-enters-white :
-    (c : tie.After-target-of) →
-    let s = start (c .before .before) in
-    Enter-asks (now (s .args .work)) (s .args .states) (s .args .size)
-    (known (c .before .before) .node-base .result + c .target-of .result) (s .args .depth)
-enters-white c =
-    let e = c .before .before in
-    to-asks (start e .pre) (known e .before .node-letter .ensures) (known e .node-base .ensures)
-    (is-white (e .before .next-white .ensures) (e .if1 .left))
-    (c .target-of .ensures .is)
+-- and its target read
+module _ (c : tie.After-target-of) where
+  abbrev found : tie.Else1
+  found = c .before
+
+  target-few : c .target-of .result < 65536
+  target-few =
+      to-few (start found .pre) (known found .before .node-letter .ensures) (known found .node-base .ensures)
+      (is-white (found .before .next-white .ensures) (found .if1 .left))
+      (c .target-of .ensures .is)
+
+  enters-white :
+      {first : ℕ} → first < 65536 →
+      let s = start found in
+      Enter-asks (now (s .args .work)) (s .args .size) (known found .node-base .result + c .target-of .result) first
+      (s .args .depth)
+  enters-white few =
+      to-asks (start found .pre) (known found .before .node-letter .ensures) (known found .node-base .ensures)
+      (is-white (found .before .next-white .ensures) (found .if1 .left))
+      (c .target-of .ensures .is)
+      few
 
 add-enter : tie.Need-add-enter
 add-enter c =
-    let asks = enters-white c in omega (arith, asks .inside, asks .small)
+    let few : 0 < 65536 = omega arith in
+    let asks = enters-white (c .before) few in omega (arith, asks .inside, asks .small)
+
+head-of-requires : tie.Need-head-of-requires
+head-of-requires c κs = target-few (c .before)
 
 enter-requires : tie.Need-enter-requires
-enter-requires c κs = enters-white c
+enter-requires c κs = enters-white (c .before .before) (c .head-of .ensures .small)
 
 next-of-requires : tie.Need-next-of-requires
-next-of-requires c κs = reads-white (c .before .before .before .before .before)
+next-of-requires c κs = reads-white (c .before .before .before .before .before .before)
+
+-- where the target entered
+module _ (c : tie.After-next-of) where
+  abbrev entered : tie.After-enter
+  entered = c .before .before .before
+
+  abbrev target : tie.After-target-of
+  target = entered .before .before .before
 
 cast-work : tie.Need-cast-work
 cast-work c = search needs
 
 mul-work : tie.Need-mul-work
-mul-work c = search needs
+mul-work c = omega (arith, top-small (start (found (target c)) .pre))
 
 add-work : tie.Need-add-work
-add-work c =
-    let s = start (c .before .before .before .before .before .before) in omega (arith, top-small (s .pre))
+add-work c = omega (arith, top-small (start (found (target c)) .pre))
 
 mul-work-2 : tie.Need-mul-work-2
-mul-work-2 c =
-    let s = start (c .before .before .before .before .before .before) in omega (arith, top-small (s .pre))
+mul-work-2 c = omega (arith, top-small (start (found (target c)) .pre))
 
 slice-write-work : tie.Need-slice-write-work
 slice-write-work c =
-    let s = start (c .before .before .before .before .before .before) in
-    omega (arith, top-cursor (s .pre), c .before .before .before .enter .kept .1 .0)
+    omega (arith, top-cursor (start (found (target c)) .pre), entered c .enter .kept .0)
 
 same-length-2 : tie.Need-same-length-2
 same-length-2 c = search needs
 
 returns-2 : tie.Need-returns-2
 returns-2 c =
-    let entered = c .before .before .before in
-    let e = entered .before .before .before in
+    let e = found (target c) in
     next-deeper (start e .pre) (known e .before .node-letter .ensures) (known e .node-base .ensures)
     (is-white (e .before .next-white .ensures) (e .if1 .left))
-    (entered .before .target-of .ensures .is)
-    (entered .enter .ensures)
+    (target c .target-of .ensures .is)
+    (entered c .before .head-of .ensures .is)
+    (entered c .enter .ensures)
     (c .next-of .ensures .is)
 
 pub descend-spec : {M : Type 1} → statement M
@@ -124,6 +147,7 @@ descend-spec =
     (tie.spec
     node-letter-requires
     node-base-requires
+    sub-top
     mul-first
     add-first
     mul-first-2
@@ -134,6 +158,7 @@ descend-spec =
     returns
     target-of-requires
     add-enter
+    head-of-requires
     enter-requires
     next-of-requires
     cast-work

@@ -2,7 +2,7 @@
 use borrow.Author.Needs.{needs}
 use native.Mathlib.Omega.{arith}
 use lib.ListN.{length-set}
-use Rattle.lassos.proofs.Descends.{enter-state, entered-is}
+use Rattle.lassos.proofs.Descends.{entered-is}
 use Rattle.lassos.proofs.outer_search.enter.Statement.{statement}
 use Rattle.lassos.proofs.outer_search.enter.Tie as tie
 
@@ -24,12 +24,6 @@ mul-work-2 c = search needs
 slice-write-work-2 : tie.Need-slice-write-work-2
 slice-write-work-2 c = simp length-set (omega arith)
 
-rem-head-of : tie.Need-rem-head-of
-rem-head-of c = search needs
-
-head-of-requires : tie.Need-head-of-requires
-head-of-requires c κs = enter-state (c .before .before .pre)
-
 cast-work-2 : tie.Need-cast-work-2
 cast-work-2 c = search needs
 
@@ -49,7 +43,7 @@ same-length : tie.Need-same-length
 same-length c = search needs
 
 returns : tie.Need-returns
-returns c = entered-is _ _ _ _ (c .head-of .ensures .is)
+returns c = entered-is _ _ _ _ _
 
 pub enter-spec : {M : Type 1} → statement M
 enter-spec =
@@ -61,8 +55,6 @@ enter-spec =
     add-work
     mul-work-2
     slice-write-work-2
-    rem-head-of
-    head-of-requires
     cast-work-2
     mul-work-3
     add-work-2

@@ -21,17 +21,24 @@ slice-read-if2 c = try-index (c .before .before .before .before .before .before 
 returns-2 : tie.Need-returns-2
 returns-2 c = not-white (c .before .before .before .before .before .before .before .before .pre) (c .if2 .taken)
 
+head-of-requires : tie.Need-head-of-requires
+head-of-requires c κs = try-few (c .before .before .before .before .before .before .before .before .before .pre)
+
 enter-requires : tie.Need-enter-requires
 enter-requires c κs =
-    try-enter (c .before .before .before .before .before .before .before .before .before .pre) (c .before .if2 .left)
+    let white = c .before .before in
+    try-enter (white .before .before .before .before .before .before .before .before .pre) (white .if2 .left)
+    (c .head-of .ensures .small)
 
 explore-requires : tie.Need-explore-requires
 explore-requires c κs =
     let entered = c .before .before .before in
-    let white = entered .before .before in
+    let head = entered .before in
+    let white = head .before .before in
     let flags = white .before .before .before in
     try-explore (flags .before .before .before .before .before .pre) (white .if2 .left) (flags .flags-of .ensures .is)
     (white .before .before .if1 .left)
+    (head .head-of .ensures .is)
     (entered .enter .ensures)
 
 same-length : tie.Need-same-length
@@ -41,10 +48,12 @@ returns-3 : tie.Need-returns-3
 returns-3 c =
     let explored = c .before .before in
     let entered = explored .before .before .before .before in
-    let white = entered .before .before in
+    let head = entered .before in
+    let white = head .before .before in
     let flags = white .before .before .before in
     try-end (flags .before .before .before .before .before .pre) (white .if2 .left) (flags .flags-of .ensures .is)
     (white .before .before .if1 .left)
+    (head .head-of .ensures .is)
     (entered .enter .ensures)
     (explored .explore .ensures)
 
@@ -57,6 +66,7 @@ try-state-spec =
     mul-if2
     slice-read-if2
     returns-2
+    head-of-requires
     enter-requires
     explore-requires
     same-length
