@@ -4,10 +4,10 @@ use mathlib.Core.Path.{_≡_, refl, sym, _∙_}
 use mathlib.Core.Bool.{Bool, true, false}
 use mathlib.Core.List.{List}
 use mathlib.Core.Logic.{_⊎_, inl, inr}
-use Prim.Native.Nat.{ℕ, zero, suc, _+_, _-_, _≤_, _<_}
+use Prim.Native.Nat.{ℕ, zero, suc, _+_, _-_, _/_, _≤_, _<_}
 use native.Mathlib.Omega.{arith}
 use lib.Dec.{eqb}
-use lib.ListN.{length, getD}
+use lib.ListN.{length}
 use Rattle.basics.proofs.Booleans.{and-l, and-r, and-false, and-false-l, eqb-eq, eq-eqb, eqb-ne, ne-eqb}
 use Rattle.tables.specs.Access.{Record-asks}
 use Rattle.tables.specs.Table.{m-of, letter-of, target-of, next-of, wide-range}
@@ -157,12 +157,16 @@ module _ {t : List ℕ} {states nodes base r : ℕ} (a : Edge-asks t states node
   pub edge-target : {y : ℕ} → y ≡ target-of t r → base + y < nodes
   edge-target e = let k = target-inside (a .chain) (a .from-one) in omega arith
 
+  -- so the word of its colour is one of the nodes' words
+  pub edge-word : {y : ℕ} → y ≡ target-of t r → (base + y) / 16 < nodes
+  edge-word e = let k = edge-target e in omega arith
+
 module _ (t w : List ℕ) (c b r : ℕ) {x : ℕ} (e : x ≡ letter-of t r) where
   pub white-other : (x ≡ c → ⊥) → false ≡ white-edge t w c b r
   unfolding white-edge
   white-other ne =
       sym (and-false-l (eqb (colour w (b + target-of t r)) 0) (ne-eqb (letter-of t r) c (λ s. ne (e ∙ s))))
 
-  pub white-same : {y : ℕ} → x ≡ c → y ≡ target-of t r → eqb (getD w (b + y) 0) 0 ≡ white-edge t w c b r
-  unfolding white-edge colour
-  white-same s k = let q : eqb (letter-of t r) c ≡ true = eq-eqb (sym e ∙ s) in rw (q, k)
+  pub white-same : {y z : ℕ} → x ≡ c → y ≡ target-of t r → z ≡ colour w (b + y) → eqb z 0 ≡ white-edge t w c b r
+  unfolding white-edge
+  white-same s k z = let q : eqb (letter-of t r) c ≡ true = eq-eqb (sym e ∙ s) in rw (q, z, k)

@@ -9,7 +9,13 @@ use native.Mathlib.Omega.{arith}
 use lib.Dec.{eqb}
 use Rattle.basics.proofs.Booleans.{clash, eqb-eq, eq-eqb, ne-eqb}
 use Rattle.basics.proofs.Bounded.{count-le, count-mono, count-less}
+use Rattle.basics.proofs.Packed.{packed-lt}
 use Rattle.lassos.specs.Search.{colour, coloured, Grows, Redder}
+
+-- white, grey, black or red
+pub colour-to : (w : List ℕ) (x : ℕ) → colour w x ≤ 3
+unfolding colour
+colour-to w x = let k = packed-lt 4 (omega arith) 16 w x in omega arith
 
 -- HOW MANY have a colour
 module _ (c n : ℕ) (w : List ℕ) where
@@ -78,9 +84,6 @@ module _ {n : ℕ} {w w′ : List ℕ} (r : Redder n w w′) where
   -- red now: red before, or black
   pub red-or-new : (x : ℕ) → x < n → colour w′ x ≡ 3 → (colour w x ≡ 3) ⊎ (colour w x ≡ 2)
   red-or-new x l k = elim (r .turned x l) [ inl s ↦ inl (sym s ∙ k) | inr s ↦ inr (s .0) ]
-
-  pub still-coloured : ((x : ℕ) → x < n → colour w x ≤ 3) → (x : ℕ) → x < n → colour w′ x ≤ 3
-  still-coloured h x l = elim (r .turned x l) [ inl s ↦ (let j = h x l in omega arith) | inr s ↦ (let j = s .1 in omega arith) ]
 
 pub redder-redder : {n : ℕ} {w w1 w2 : List ℕ} → Redder n w w1 → Redder n w1 w2 → Redder n w w2
 redder-redder {n} {w} {w1} {w2} p q =

@@ -3,12 +3,13 @@
 use mathlib.Core.Path.{_≡_, refl, sym, _∙_, ap}
 use mathlib.Core.Bool.{Bool, true, false}
 use mathlib.Core.List.{List}
-use Prim.Native.Nat.{ℕ, zero, suc, _+_, _*_, _^_, _≤_, _<_}
+use Prim.Native.Nat.{ℕ, zero, suc, _+_, _*_, _/_, _^_, _≤_, _<_}
 use native.Mathlib.Omega.{arith}
 use native.Mathlib.Nat.{mul-le-mul, mul-comm, mul-assoc}
 use lib.ListN.{length, getD}
 use Rattle.basics.specs.Buffers.{zeros}
 use Rattle.basics.proofs.Booleans.{not-both}
+use Rattle.basics.proofs.Packed.{packed-zero}
 use Rattle.automata.specs.Decision.{takes?}
 use Rattle.automata.specs.Lasso.{positions}
 use Rattle.automata.proofs.Cycles.{takes-cycle, cycle-takes}
@@ -34,7 +35,6 @@ fresh g w long white =
     let unmet : (x : ℕ) → x < g .size → 1 ≤ colour w x → ⊥ = λ x l o. (let k = white x l in omega arith) in
     record {
       long = long;
-      colours = λ x l. let k = white x l in omega arith;
       room = let k = coloured-le 0 (g .size) w in omega arith;
       inside = λ i l. absurd (omega arith);
       grey = λ i l. absurd (omega arith);
@@ -70,7 +70,9 @@ module _ {t u v w : List ℕ} (a : Takes-asks t u v w) where
   unfolding colour
   begins =
       fresh (product t u v) w enough
-      (λ x l. ap (λ (z : List ℕ). getD z x 0) (a .clear) ∙ zeros-at w x (let k = enough in omega arith))
+      (λ x l.
+      packed-zero 4 (omega arith) 16 w x
+      (ap (λ (z : List ℕ). getD z (x / 16) 0) (a .clear) ∙ zeros-at w (x / 16) (let k = enough in omega arith)))
 
   module _ {states : ℕ} (is-states : states ≡ n-of t) where
     pub size-fits : (length u + length v) * states < 2 ^ 64

@@ -10,8 +10,8 @@ use Rattle.tables.specs.Access.{Record-asks}
 use Rattle.tables.specs.Table.{n-of, m-of, head-of, target-of, next-of}
 use Rattle.lassos.specs.Graph.{Leads, onward, Reached}
 use Rattle.lassos.specs.Product.{Chain-to, node-letter, node-base, product}
-use Rattle.lassos.specs.Search.{colour, stacked, cursor, entered, advanced, Search}
-use Rattle.lassos.specs.Steps.{Node-asks, Chain-asks, Next-white, White-at, no-white, white-at, Enter-asks, Top-asks, Descended, deeper, all-visited}
+use Rattle.lassos.specs.Search.{colour, stacked, cursor, risen, entered, advanced, Search}
+use Rattle.lassos.specs.Steps.{Raise-asks, Node-asks, Chain-asks, Next-white, White-at, no-white, white-at, Enter-asks, Top-asks, Descended, deeper, all-visited}
 use Rattle.lassos.proofs.Chains.{reads-record, chain-inside}
 use Rattle.lassos.proofs.Colours.{grows-grows, coloured-one}
 use Rattle.lassos.proofs.Given.{given-valid, given-bounded, given-few, given-small, given-node, given-chain, given-head, given-first}
@@ -19,9 +19,15 @@ use Rattle.lassos.proofs.Outer.{enter-grows, enter-whites, enter-keeps,
 use Rattle.lassos.proofs.Stores.{Enters, enters, Advances, advances}
 
 -- ENTERING, as it is written
-pub entered-is : (n : ℕ) (w : List ℕ) (x r d : ℕ) → set (set (set w x 1) (n + d) x) (2 * n + d) r ≡ entered n w x r d
-unfolding entered
-entered-is n w x r d = refl
+module _ {w : List ℕ} {n x r d : ℕ} (a : Enter-asks w n x r d) where
+  pub enter-raise : Raise-asks w x 1
+  enter-raise =
+      let z = a .white in
+      record { inside = let l = a .inside in let k = a .long in omega arith; within = omega arith }
+
+  pub entered-is : {w1 : List ℕ} → w1 ≡ risen w x 1 → set (set w1 (n + d) x) (2 * n + d) r ≡ entered n w x r d
+  unfolding entered
+  entered-is up = rw up
 
 -- a record that is not zero is one with a white target
 pub is-white : {t w : List ℕ} {letter base first r : ℕ} → Next-white t w letter base first r → (r ≡ 0 → ⊥) → White-at t w letter base first r
@@ -138,6 +144,7 @@ module _ {t u v w : List ℕ} {states size x depth : ℕ} (a : Top-asks t u v w 
         to-asks few =
             let q = a .given .sized in
             record {
+              white = to-white;
               first-few = few;
               inside = let k = to-inside in omega arith;
               room = let k = to-room in omega arith;
@@ -156,7 +163,7 @@ module _ {t u v w : List ℕ} {states size x depth : ℕ} (a : Top-asks t u v w 
               let e : w1 ≡ entered (product t u v .size) w (base + to) (product t u v .first (base + to)) depth =
               rw (a .given .sized, to-first) at is-entered in
               rw e
-              (enters (product t u v .size) w (base + to) (product t u v .first (base + to)) depth (a .search .long) to-inside to-room)
+              (enters (product t u v .size) w (base + to) (product t u v .first (base + to)) depth (a .search .long) to-inside to-room to-white)
 
           to-edge : Leads (product t u v) x (base + to)
           to-edge = top-chained (base + to) (from-chain (rw target-is at (h .edge)))

@@ -38,7 +38,6 @@ node-spread-asks a l b f =
       small = let k = given-small (a .given) in let q = a .given .sized in omega arith;
       long = let k = a .long in let q = a .given .sized in omega arith;
       room = rw (a .given .sized) (a .room);
-      colours = rw (a .given .sized) (a .colours);
     }
 
 -- THE WAITING NODES: the invariant of emptying them
@@ -84,7 +83,6 @@ module _ {t u v w : List ℕ} {states size wait : ℕ} {w1 : List ℕ} {count : 
             inside = h .waiting .inside (count - 1) (omega arith);
             long = h .waiting .long;
             room = let k = h .waiting .room in omega arith;
-            colours = h .waiting .colours;
           })
 
       module _ {w2 : List ℕ} {k : ℕ}
@@ -130,7 +128,6 @@ module _ {t u v w : List ℕ} {states size x : ℕ} (a : Meets-asks t u v w stat
         inside = a .asks .inside;
         long = a .asks .long;
         room = let k = coloured-le 2 (product t u v .size) w in omega arith;
-        colours = a .asks .colours;
       }
 
   module _ {w1 : List ℕ} {k : ℕ} (s : Spread-says (product t u v .size) (Leads (product t u v) x) w w1 0 k) where

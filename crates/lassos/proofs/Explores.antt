@@ -4,22 +4,22 @@ use mathlib.Core.Path.{_≡_, refl, sym, _∙_, ap}
 use mathlib.Core.Bool.{Bool, true, false}
 use mathlib.Core.List.{List}
 use mathlib.Core.Logic.{inl, inr}
-use Prim.Native.Nat.{ℕ, suc, _+_, _*_, _-_, _%_, _≤_, _<_}
+use Prim.Native.Nat.{ℕ, suc, _+_, _*_, _-_, _/_, _%_, _≤_, _<_}
 use native.Mathlib.Omega.{arith}
 use native.Mathlib.Nat.{mod-eq-of-lt, zero-mul}
 use native.Mathlib.Numerals.{add-one}
 use lib.Arith.{digits-lt}
 use lib.Dec.{ltb}
-use lib.ListN.{length, getD, set}
+use lib.ListN.{length, getD}
 use Rattle.basics.proofs.Booleans.{clash, and-l, and-r, and-make, eqb-eq, eq-eqb, ltb-lt, lt-ltb, gt-leb, le-leb}
 use Rattle.automata.specs.Lasso.{positions}
 use Rattle.automata.proofs.Positions.{next-below}
 use Rattle.tables.specs.Table.{n-of, head-of, flags-of, is-initial, is-accepting}
 use Rattle.lassos.specs.Graph.{Graph, Leads, Bounded, stay}
 use Rattle.lassos.specs.Product.{product}
-use Rattle.lassos.specs.Search.{colour, stacked, whites, recoloured, entered, Search, Grows, Inner-says, met, none}
-use Rattle.lassos.specs.Steps.{Given, Meets-asks, Top-asks, Descended, deeper, all-visited, Finished, closes, black, red, Enter-asks, Explore-asks, Explored, found, exhausted, Try-asks, Tried, tried, Searched, nothing}
-use Rattle.lassos.proofs.Colours.{grows-grows, grows-same}
+use Rattle.lassos.specs.Search.{colour, stacked, whites, risen, entered, Search, Grows, Inner-says, met, none}
+use Rattle.lassos.specs.Steps.{Raise-asks, Given, Meets-asks, Top-asks, Descended, deeper, all-visited, Finished, closes, black, red, Enter-asks, Explore-asks, Explored, found, exhausted, Try-asks, Tried, tried, Searched, nothing}
+use Rattle.lassos.proofs.Colours.{grows-grows, grows-same, stays-grey}
 use Rattle.lassos.proofs.Given.{size-is, given-bounded, given-few, given-some, given-small, given-first, given-state}
 use Rattle.lassos.proofs.Outer.{enter-grows, enter-keeps, none-found, Left-off, black-leaves, red-leaves, grey-cycle}
 use Rattle.lassos.proofs.Stores.{same-or, recolours, Enters, enters}
@@ -29,15 +29,30 @@ module _ {t u v w : List ℕ} {states size x : ℕ} (a : Meets-asks t u v w stat
   pub finish-state : x % states < 65536
   finish-state = given-state (a .given) (a .asks .inside)
 
+  -- the node is grey, and it still is after an inner search that met no grey node
+  pub raise-grey : {by : ℕ} → by ≤ 2 → Raise-asks w x by
+  raise-grey b =
+      let l = a .asks .inside in
+      let k = a .asks .grey in record { inside = let m = a .asks .long in omega arith; within = omega arith }
+
+  pub raise-still :
+      {w1 : List ℕ} {r : Bool} {by : ℕ} → length w1 ≡ length w → Inner-says (product t u v) x w w1 r → r ≡ false → by ≤ 2 →
+      Raise-asks w1 x by
+  raise-still same (met y z t p b c) e f = absurd (clash refl e)
+  raise-still same (none r c s) e f =
+      let l = a .asks .inside in
+      let k = stays-grey r x l (a .asks .grey) in
+      record { inside = let m = a .asks .long in omega arith; within = omega arith }
+
   pub finish-some : 1 ≤ states
   finish-some = let k = given-some (a .given) in let e = a .given .counted in omega arith
 
   module _ {f : ℕ} (is-flags : f ≡ flags-of t (x % states)) where
-    pub finish-black : f < 2 → Finished (product t u v) x w (set w x 2) false
-    unfolding product is-accepting recoloured
-    finish-black l =
+    pub finish-black : f < 2 → {w1 : List ℕ} → w1 ≡ risen w x 1 → Finished (product t u v) x w w1 false
+    unfolding product is-accepting
+    finish-black l up =
         let e : f ≡ flags-of t (x % n-of t) = rw (a .given .counted) at is-flags in
-        let b : flags-of t (x % n-of t) < 2 = omega arith in black (gt-leb b) refl
+        let b : flags-of t (x % n-of t) < 2 = omega arith in black (gt-leb b) up
 
     pub finish-closes : 2 ≤ f → {w1 : List ℕ} {r : Bool} → Inner-says (product t u v) x w w1 r → r ≡ true → Finished (product t u v) x w w1 true
     unfolding product is-accepting
@@ -46,10 +61,9 @@ module _ {t u v w : List ℕ} {states size x : ℕ} (a : Meets-asks t u v w stat
         let b : 2 ≤ flags-of t (x % n-of t) = omega arith in closes (le-leb b) (rw e at h)
 
   pub finish-red :
-      {w1 : List ℕ} {r : Bool} → length w1 ≡ length w → Inner-says (product t u v) x w w1 r → r ≡ false →
-      Finished (product t u v) x w (set w1 x 3) false
-  unfolding recoloured
-  finish-red {w1} s h e = red w1 s (rw e at h) refl
+      {w1 w2 : List ℕ} {r : Bool} → length w1 ≡ length w → Inner-says (product t u v) x w w1 r → r ≡ false →
+      w2 ≡ risen w1 x 2 → Finished (product t u v) x w w2 false
+  finish-red {w1} s h e up = red w1 s (rw e at h) up
 
 -- THE STACK IS EMPTIED: the invariant
 pub record Exploring (t u v w : List ℕ) (states size : ℕ) (w-now : List ℕ) (depth : ℕ) : Type 0 where
@@ -134,6 +148,9 @@ module _ {t u v w : List ℕ} {states size : ℕ} {w1 : List ℕ} {x depth : ℕ
   inside-top : x < product t u v .size
   inside-top = rw (h .top) (search-top .inside (depth - 1) (omega arith))
 
+  grey-top : colour w1 x ≡ 1
+  grey-top = rw (h .top) (search-top .grey (depth - 1) (omega arith))
+
   pub finishing-asks : Meets-asks t u v w1 states size x
   finishing-asks =
       let s = h .exploring .search in
@@ -143,7 +160,7 @@ module _ {t u v w : List ℕ} {states size : ℕ} {w1 : List ℕ} {x depth : ℕ
             record {
               long = s .long;
               inside = inside-top;
-              colours = s .colours;
+              grey = grey-top;
               begun = h .done;
               finished = s .finished;
               closed = record { edges = s .red };
@@ -163,11 +180,13 @@ module _ {t u v w : List ℕ} {states size : ℕ} {w1 : List ℕ} {x depth : ℕ
   finishing-off (closes a i) e = absurd (clash refl e)
   finishing-off (black a s) e =
       black-leaves bounded search-top (h .top) (h .done) a
-      (rw s (recolours (product t u v .size) w1 x 2 (search-top .long) inside-top))
+      (rw s (recolours (product t u v .size) w1 x 1 (search-top .long) inside-top grey-top (omega arith)))
   finishing-off (red w′ l (none r c f) s) e =
       red-leaves bounded search-top (h .top) l r c f
       (rw s
-      (recolours (product t u v .size) w′ x 3 (let k = search-top .long in omega arith) inside-top))
+      (recolours (product t u v .size) w′ x 2 (let k = search-top .long in omega arith) inside-top
+      (stays-grey r x inside-top grey-top)
+      (omega arith)))
 
   pub finishing-left :
       {w2 : List ℕ} {r : Bool} → length w2 ≡ length w1 → Finished (product t u v) x w1 w2 r → r ≡ false →
@@ -204,8 +223,8 @@ module _ {t u v w : List ℕ} {states size q : ℕ} (a : Try-asks t u v w states
       let s = size-is t u v in
       let o = zero-mul (n-of t) in omega arith
 
-  pub try-index : q < length w
-  try-index = let k = try-inside in let l = a .search .long in omega arith
+  pub try-word : q / 16 < length w
+  try-word = let k = try-inside in let l = a .search .long in omega arith
 
   pub not-initial : {f : ℕ} → f ≡ flags-of t q → (f % 2 ≡ 1 → ⊥) → Tried (product t u v) w w q false
   unfolding product is-initial
@@ -213,16 +232,19 @@ module _ {t u v w : List ℕ} {states size q : ℕ} (a : Try-asks t u v w states
       tried (a .search) grows-same
       (λ s. absurd (ne (rw e (eqb-eq (flags-of t q % 2) 1 (and-r (ltb q (n-of t)) s)))))
 
-  pub not-white : (getD w q 0 ≡ 0 → ⊥) → Tried (product t u v) w w q false
-  unfolding colour
-  not-white ne = tried (a .search) grows-same (λ s. omega arith)
+  pub not-white : {c : ℕ} → c ≡ colour w q → (c ≡ 0 → ⊥) → Tried (product t u v) w w q false
+  not-white is ne = tried (a .search) grows-same (λ s. omega arith)
 
-  module _ (white : getD w q 0 ≡ 0) {first : ℕ} where
-    pub try-enter : first < 65536 → Enter-asks w size q first 0
+  module _ {c : ℕ} (is-colour : c ≡ colour w q) (is-white : c ≡ 0) where
+    white : colour w q ≡ 0
+    white = sym is-colour ∙ is-white
+
+    pub try-enter : {first : ℕ} → first < 65536 → Enter-asks w size q first 0
     try-enter few =
         let s = a .given .sized in
         let b = try-inside in
         record {
+          white = white;
           first-few = few;
           inside = omega arith;
           room = omega arith;
@@ -230,7 +252,7 @@ module _ {t u v w : List ℕ} {states size q : ℕ} (a : Try-asks t u v w states
           small = let k = given-small (a .given) in omega arith;
         }
 
-    module _ {f : ℕ} (is-flags : f ≡ flags-of t q) (odd : f % 2 ≡ 1) (is-first : first ≡ head-of t q) {w1 : List ℕ} (is-entered : w1 ≡ entered size w q first 0) where
+    module _ {f : ℕ} (is-flags : f ≡ flags-of t q) (odd : f % 2 ≡ 1) {first : ℕ} (is-first : first ≡ head-of t q) {w1 : List ℕ} (is-entered : w1 ≡ entered size w q first 0) where
       first-is : first ≡ product t u v .first q
       unfolding product
       first-is = is-first ∙ sym (ap (head-of t) (mod-eq-of-lt try-below))
@@ -240,7 +262,7 @@ module _ {t u v w : List ℕ} {states size q : ℕ} (a : Try-asks t u v w states
           let e : w1 ≡ entered (product t u v .size) w q (product t u v .first q) 0 =
           rw (a .given .sized, first-is) at is-entered in
           rw e
-          (enters (product t u v .size) w q (product t u v .first q) 0 (a .search .long) try-inside (let b = try-inside in omega arith))
+          (enters (product t u v .size) w q (product t u v .first q) 0 (a .search .long) try-inside (let b = try-inside in omega arith) white)
 
       try-starts : product t u v .starts q ≡ true
       unfolding product is-initial
@@ -252,7 +274,6 @@ module _ {t u v w : List ℕ} {states size q : ℕ} (a : Try-asks t u v w states
       try-first = given-first (a .given) try-inside (rw (a .given .counted))
 
       try-search : Search (product t u v) w1 1
-      unfolding colour
       try-search =
           enter-keeps (given-bounded (a .given)) (a .search) try-inside white try-enters
           (record { start = q; begins = try-starts; way = stay }) try-first (λ i e. absurd (omega arith))
@@ -261,7 +282,6 @@ module _ {t u v w : List ℕ} {states size q : ℕ} (a : Try-asks t u v w states
       try-explore = record { given = a .given; search = try-search }
 
       pub try-end : {w2 : List ℕ} {r : Bool} → Explored (product t u v) w1 w2 r → Tried (product t u v) w w2 q r
-      unfolding colour
       try-end (found f) = found f
       try-end (exhausted s g) =
           tried s (grows-grows (enter-grows (given-bounded (a .given)) (a .search) try-inside white try-enters) g)

@@ -2,17 +2,17 @@
 use mathlib.Core.Path.{_≡_, refl, sym, _∙_}
 use mathlib.Core.List.{List}
 use mathlib.Core.Logic.{_⊎_, inl, inr}
-use Prim.Native.Nat.{ℕ, _+_, _*_, _≤_, _<_}
+use Prim.Native.Nat.{ℕ, _+_, _*_, _/_, _≤_, _<_}
 use native.Mathlib.Omega.{arith}
 use native.Mathlib.Numerals.{add-one}
-use lib.ListN.{length, getD, set, length-set}
+use lib.ListN.{length, set}
 use Rattle.tables.specs.Access.{Record-asks}
 use Rattle.tables.specs.Table.{letter-of, target-of, next-of}
 use Rattle.lassos.specs.Product.{Chain-to, here, later}
-use Rattle.lassos.specs.Search.{colour, blacks, reddened, Spread, Spread-says, met, spread}
-use Rattle.lassos.specs.Steps.{Chain-asks, Follow-asks, Followed, other-letter, grey-met, black-met, other-met, Spread-asks}
+use Rattle.lassos.specs.Search.{colour, blacks, risen, reddened, Spread, Spread-says, met, spread}
+use Rattle.lassos.specs.Steps.{Raise-asks, Chain-asks, Follow-asks, Followed, other-letter, grey-met, black-met, other-met, Spread-asks}
 use Rattle.lassos.proofs.Chains.{reads-edge, edge-target, chain-inside, next-asks}
-use Rattle.lassos.proofs.Colours.{coloured-one, was-grey, still-coloured}
+use Rattle.lassos.proofs.Colours.{colour-to, coloured-one, was-grey}
 use Rattle.lassos.proofs.Inner.{spread-start, spread-skip, spread-push}
 use Rattle.lassos.proofs.Product.{chain-zero, chain-parts}
 use Rattle.lassos.proofs.Stores.{same-or, reddens}
@@ -23,38 +23,38 @@ module _ {t w : List ℕ} {states size base r wait : ℕ} (a : Follow-asks t w s
   follow-record = reads-edge (a .edge)
 
   module _ {y : ℕ} (n : y ≡ target-of t r) where
-    pub follow-node : base + y < length w
-    follow-node = let k = edge-target (a .edge) n in let l = a .long in omega arith
+    pub follow-word : (base + y) / 16 < length w
+    follow-word = let k = edge-target (a .edge) n in let l = a .long in omega arith
 
     pub follow-room : colour w (base + y) ≡ 2 → wait < size
     follow-room e =
         let k = coloured-one 2 size w (base + y) (edge-target (a .edge) n) e in let l = a .room in omega arith
 
-    pub follow-wait : getD w (base + y) 0 ≡ 2 → 3 * size + wait < length (set w (base + y) 3)
-    unfolding colour
-    follow-wait e =
-        let k = follow-room e in let l = a .long in let s = length-set w (base + y) 3 in omega arith
+    pub follow-raise : {c : ℕ} → c ≡ colour w (base + y) → c ≡ 2 → Raise-asks w (base + y) 1
+    follow-raise is e = record { inside = follow-word; within = omega arith }
+
+    pub follow-wait : {c : ℕ} → c ≡ colour w (base + y) → c ≡ 2 → 3 * size + wait < length w
+    follow-wait is e = let k = follow-room (sym is ∙ e) in let l = a .long in omega arith
 
 module _ (t : List ℕ) (size letter base r : ℕ) (w : List ℕ) (wait : ℕ) {x : ℕ} (p : x ≡ letter-of t r) where
   pub follow-other : (x ≡ letter → ⊥) → Followed t size letter base r w w wait wait
   follow-other ne = other-letter (λ s. ne (p ∙ s)) refl refl
 
-  module _ {y : ℕ} (s : x ≡ letter) (n : y ≡ target-of t r) where
-    pub follow-grey : {w′ : List ℕ} → getD w (base + y) 0 ≡ 1 → Followed t size letter base r w w′ wait (size + 1)
-    unfolding colour
-    follow-grey e = grey-met (sym p ∙ s) (rw n at e) refl
+  module _ {y c : ℕ} (n : y ≡ target-of t r) (is : c ≡ colour w (base + y)) where
+    target-colour : c ≡ colour w (base + target-of t r)
+    target-colour = rw n at is
+
+    pub follow-grey : {w′ : List ℕ} → x ≡ letter → c ≡ 1 → Followed t size letter base r w w′ wait (size + 1)
+    follow-grey s e = grey-met (sym p ∙ s) (sym target-colour ∙ e) refl
 
     pub follow-black :
-        getD w (base + y) 0 ≡ 2 →
-        Followed t size letter base r w (set (set w (base + y) 3) (3 * size + wait) (base + y)) wait (wait + 1)
-    unfolding colour reddened
-    follow-black e = black-met (sym p ∙ s) (rw n at e) (rw n) refl
+        {w1 : List ℕ} → x ≡ letter → c ≡ 2 → w1 ≡ risen w (base + y) 1 →
+        Followed t size letter base r w (set w1 (3 * size + wait) (base + y)) wait (wait + 1)
+    unfolding reddened
+    follow-black s e up = black-met (sym p ∙ s) (sym target-colour ∙ e) (rw (up, n)) refl
 
-  pub follow-rest :
-      {y : ℕ} → y ≡ target-of t r → (getD w (base + y) 0 ≡ 1 → ⊥) → (getD w (base + y) 0 ≡ 2 → ⊥) →
-      Followed t size letter base r w w wait wait
-  unfolding colour
-  follow-rest n f g = other-met (rw n at f) (rw n at g) refl refl
+    pub follow-rest : (c ≡ 1 → ⊥) → (c ≡ 2 → ⊥) → Followed t size letter base r w w wait wait
+    follow-rest f g = other-met (λ e. f (target-colour ∙ e)) (λ e. g (target-colour ∙ e)) refl refl
 
 -- ALL EDGES OF A CHAIN: the invariant of the walk
 pub record Spreading (t w : List ℕ) (states size letter base first wait : ℕ) (w-now : List ℕ) (r count : ℕ) : Type 0 where
@@ -145,7 +145,7 @@ module _ {t w : List ℕ} {states size letter base first wait : ℕ} {w1 : List 
           spread =
               rw (n, add-one count)
               (spread-push (h .spread) below next-fewer g to
-              (rw e (reddens size w1 (base + target-of t r) count long (below (base + target-of t r) to) room))
+              (rw e (reddens size w1 (base + target-of t r) count long (below (base + target-of t r) to) room g))
               (λ y l. elim (next-rest y l) [ inl s ↦ inr (sym (s .1)) | inr s ↦ inl s ]));
         }
     spreading-turn same (other-met f g e n) fits =
@@ -154,8 +154,7 @@ module _ {t w : List ℕ} {states size letter base first wait : ℕ} {w1 : List 
         (λ y l.
         elim (next-rest y l) [
           | inl s ↦
-              let to = h .spread .within y l in
-              let c = still-coloured (h .spread .redder) (h .asks .colours) y (below y to) in
+              let c = colour-to w1 y in
               let at = s .1 in
               let f′ : (colour w1 y ≡ 1 → ⊥) = rw at at f in
               let g′ : (colour w1 y ≡ 2 → ⊥) = rw at at g in

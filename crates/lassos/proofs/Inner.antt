@@ -9,7 +9,7 @@ use native.Mathlib.Omega.{arith}
 use lib.ListN.{length}
 use Rattle.lassos.specs.Graph.{Graph, Leads, Bounded, Way, stay, onward}
 use Rattle.lassos.specs.Search.{colour, waiting, blacks, Redder, Red-closed, Inner-asks, Inner-says, Spread, None, Waiting, Since, Drained, met, none}
-use Rattle.lassos.proofs.Colours.{coloured-le, coloured-less, redder-same, redder-redder, stays-red, was-grey, was-white, was-black, was-finished, stays-visited, red-or-new, still-coloured}
+use Rattle.lassos.proofs.Colours.{coloured-le, coloured-less, redder-same, redder-redder, stays-red, was-grey, was-white, was-black, was-finished, stays-visited, red-or-new}
 use Rattle.lassos.proofs.Stores.{same-or, below-or, Reddens}
 
 -- ONE NODE'S EDGES
@@ -140,7 +140,6 @@ module _ {g : Graph} (closed : Bounded g) where
         record {
           long = let k = asks .long in omega arith;
           room = let k = h .room in let j = coloured-le 2 (g .size) w in omega arith;
-          colours = still-coloured (h .redder) (asks .colours);
           inside = λ i l. h .inside i (omega arith) l;
           reds = λ i l. h .reds i (omega arith) l;
           finished =
@@ -199,7 +198,6 @@ module _ {g : Graph} (closed : Bounded g) where
         record {
           long = let j = q .long in omega arith;
           room = let i = h .room in let j = q .room in omega arith;
-          colours = still-coloured (h .redder) (q .colours);
           inside =
               λ i l.
               elim (below-or i k) [

@@ -110,9 +110,6 @@ module _ {g : Graph} (closed : Bounded g) where
       enter-keeps =
           record {
             long = let k = e .size in let j = h .long in omega arith;
-            colours =
-                λ y b.
-                elim (enter-colour y b) [ inl s ↦ (let k = e .here in rw s (omega arith)) | inr s ↦ (let k = h .colours y b in omega arith) ];
             room = let k = h .room in let j = enter-whites in omega arith;
             inside = λ i b. elim (enter-stack i b) [ inl s ↦ rw (s .1) l | inr s ↦ rw (s .1) (h .inside i (s .0)) ];
             grey = λ i b. elim (enter-stack i b) [ inl s ↦ rw (s .1) (e .here) | inr s ↦ rw (s .1) (kept-colour i (s .0)) ];
@@ -157,7 +154,6 @@ module _ {g : Graph} (closed : Bounded g) where
         let fits : d ≤ g .size = (let k = h .room in omega arith) in
         record {
           long = let k = e .size in let j = h .long in omega arith;
-          colours = λ y b. rw (e .colours y b) (h .colours y b);
           room = let k = h .room in let j = advance-whites in omega arith;
           inside = λ i b. rw (e .stack i (omega arith)) (h .inside i b);
           grey = λ i b. rw (e .stack i (omega arith)) (e .colours (stacked (g .size) w i) (h .inside i b) ∙ h .grey i b);
@@ -205,7 +201,7 @@ module _ {g : Graph} (closed : Bounded g) where
 
   -- THE TOP LEAVES the stack, black or red
   module _ {w w′ : List ℕ} {d c : ℕ} (h : Search g w (suc d)) (e : Recolours (g .size) w w′ (stacked (g .size) w d) c)
-      (low : 2 ≤ c) (high : c ≤ 3) where
+      (low : 2 ≤ c) where
     leave-colour : (y : ℕ) → (y ≡ stacked (g .size) w d) ⊎ (colour w′ y ≡ colour w y)
     leave-colour y = elim (same-or y (stacked (g .size) w d)) [ inl s ↦ inl s | inr ne ↦ inr (e .others y ne) ]
 
@@ -255,9 +251,6 @@ module _ {g : Graph} (closed : Bounded g) where
           let fits : suc d ≤ g .size = (let k = h .room in omega arith) in
           record {
             long = let k = e .size in let j = h .long in omega arith;
-            colours =
-                λ y b.
-                elim (leave-colour y) [ inl s ↦ (let k = e .here in rw s (omega arith)) | inr s ↦ (let k = h .colours y b in omega arith) ];
             room = let k = h .room in let j = leave-whites in omega arith;
             inside = λ i b. rw (e .stack i (omega arith)) (h .inside i (omega arith));
             grey =
@@ -310,9 +303,6 @@ module _ {g : Graph} (closed : Bounded g) where
         let fits : d ≤ g .size = (let k = h .room in omega arith) in
         record {
           long = let j = h .long in omega arith;
-          colours =
-              λ y b.
-              elim (r .turned y b) [ inl s ↦ (let k = h .colours y b in omega arith) | inr s ↦ (let k = s .1 in omega arith) ];
           room = let k = h .room in let j = redder-whites in omega arith;
           inside = λ i b. rw (r .stack i (omega arith)) (h .inside i b);
           grey = λ i b. rw (r .stack i (omega arith)) (stays-grey r (stacked (g .size) w i) (h .inside i b) (h .grey i b));
@@ -363,10 +353,10 @@ module _ {g : Graph} (closed : Bounded g) where
       let e′ : Recolours (g .size) w w′ (stacked (g .size) w d) 2 = rw top at e in
       record {
         search =
-            leave-keeps h e′ (omega arith) (omega arith) (rw top at done) (λ z. absurd (omega arith))
+            leave-keeps h e′ (omega arith) (rw top at done) (λ z. absurd (omega arith))
             (λ accepts cycle. clash accepts (rw top at rejects));
-        grows = leave-grows h e′ (omega arith) (omega arith);
-        fewer = leave-whites h e′ (omega arith) (omega arith);
+        grows = leave-grows h e′ (omega arith);
+        fewer = leave-whites h e′ (omega arith);
       }
 
   -- red after an inner search that met no grey node: then all its targets are red, and it lies on no cycle
@@ -384,11 +374,11 @@ module _ {g : Graph} (closed : Bounded g) where
       let visited : (y : ℕ) → Leads g x y → 1 ≤ colour w1 y = λ y t. (let k = reds y t in omega arith) in
       record {
         search =
-            leave-keeps h1 e′ (omega arith) (omega arith) (rw top1 at visited) (λ z. rw top1 at reds)
+            leave-keeps h1 e′ (omega arith) (rw top1 at visited) (λ z. rw top1 at reds)
             (λ accepts. rw top1 at no-cycle);
-        grows = grows-grows (redder-grows h r) (leave-grows h1 e′ (omega arith) (omega arith));
+        grows = grows-grows (redder-grows h r) (leave-grows h1 e′ (omega arith));
         fewer =
-            let p = redder-whites h r in let q = leave-whites h1 e′ (omega arith) (omega arith) in omega arith;
+            let p = redder-whites h r in let q = leave-whites h1 e′ (omega arith) in omega arith;
       }
 
   -- A GREY NODE that the inner search meets: from it the stack leads on to the top

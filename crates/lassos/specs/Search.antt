@@ -7,12 +7,14 @@ use Prim.Native.Nat.{ℕ, suc, _+_, _*_, _≤_, _<_}
 use lib.Dec.{eqb}
 use lib.ListN.{length, getD, set}
 use Rattle.basics.specs.Bounded.{count}
+use Rattle.basics.specs.Packed.{packed, raised}
 use Rattle.lassos.specs.Graph.{Graph, Leads, Way, Reached, Cycle}
 
--- THE WORK WORDS are four blocks of `size` words: one word for every node in block 0, and for every place of a stack in the others.
--- Block 0: the colour of a node: 0 white (not met), 1 grey (on the stack), 2 black (finished), 3 red (finished, and leads to red nodes only)
+-- THE WORK WORDS are four blocks of `size` words.
+-- Block 0: in its first words the colours of the nodes, two bits each, 16 to a word:
+-- 0 white (not met), 1 grey (on the stack), 2 black (finished), 3 red (finished, and leads to red nodes only)
 unfoldable pub colour : (words : List ℕ) → (node : ℕ) → ℕ
-colour w x = getD w x 0
+colour w x = packed 4 16 w x
 
 -- Block 1: the stack of grey nodes
 unfoldable pub stacked : (size : ℕ) → (words : List ℕ) → (index : ℕ) → ℕ
@@ -38,13 +40,13 @@ abbrev pub blacks : (size : ℕ) → (words : List ℕ) → ℕ
 blacks n w = coloured 2 n w
 
 -- THE STORES
--- a node gets a colour
-unfoldable pub recoloured : (words : List ℕ) → (node colour : ℕ) → List ℕ
-recoloured w x c = set w x c
+-- the colour of a node rises by so much
+unfoldable pub risen : (words : List ℕ) → (node by : ℕ) → List ℕ
+risen w x c = raised 4 16 w x c
 
 -- a white node turns grey, lies on the stack, and its cursor stands at its first record
 unfoldable pub entered : (size : ℕ) → (words : List ℕ) → (node first depth : ℕ) → List ℕ
-entered n w x r d = set (set (set w x 1) (n + d) x) (2 * n + d) r
+entered n w x r d = set (set (risen w x 1) (n + d) x) (2 * n + d) r
 
 -- the cursor of a place moves on
 unfoldable pub advanced : (size : ℕ) → (words : List ℕ) → (index number : ℕ) → List ℕ
@@ -52,12 +54,11 @@ advanced n w i r = set w (2 * n + i) r
 
 -- a black node turns red and waits
 unfoldable pub reddened : (size : ℕ) → (words : List ℕ) → (node wait : ℕ) → List ℕ
-reddened n w x i = set (set w x 3) (3 * n + i) x
+reddened n w x i = set (risen w x 1) (3 * n + i) x
 
 -- THE INVARIANT of the outer search, depth first: so many nodes are on the stack
 pub record Search (g : Graph) (w : List ℕ) (depth : ℕ) : Type 0 where
   pub long : 4 * g .size ≤ length w
-  pub colours : (x : ℕ) → x < g .size → colour w x ≤ 3
   pub room : depth + whites (g .size) w ≤ g .size
   -- the stack: nodes, grey, distinct, all the grey ones, each with an edge to the next
   pub inside : (i : ℕ) → i < depth → stacked (g .size) w i < g .size
@@ -95,11 +96,11 @@ pub record Redder (size : ℕ) (w w-now : List ℕ) : Type 0 where
 pub record Red-closed (g : Graph) (w : List ℕ) : Type 0 where
   pub edges : (x y : ℕ) → x < g .size → colour w x ≡ 3 → Leads g x y → colour w y ≡ 3
 
--- what the inner search asks: its node's targets are visited, and so are those of finished nodes
+-- what the inner search asks: its node is grey, its targets are visited, and so are those of finished nodes
 pub record Inner-asks (g : Graph) (s : ℕ) (w : List ℕ) : Type 0 where
   pub long : 4 * g .size ≤ length w
   pub inside : s < g .size
-  pub colours : (x : ℕ) → x < g .size → colour w x ≤ 3
+  pub grey : colour w s ≡ 1
   pub begun : (y : ℕ) → Leads g s y → 1 ≤ colour w y
   pub finished : (x y : ℕ) → x < g .size → 2 ≤ colour w x → Leads g x y → 1 ≤ colour w y
   pub closed : Red-closed g w
@@ -139,7 +140,6 @@ pub data Spread-says (size : ℕ) (To : ℕ → Type 0) (w w-now : List ℕ) (fr
 pub record Waiting (g : Graph) (w : List ℕ) (wait : ℕ) : Type 0 where
   pub long : 4 * g .size ≤ length w
   pub room : wait + blacks (g .size) w ≤ g .size
-  pub colours : (x : ℕ) → x < g .size → colour w x ≤ 3
   pub inside : (i : ℕ) → i < wait → waiting (g .size) w i < g .size
   pub reds : (i : ℕ) → i < wait → colour w (waiting (g .size) w i) ≡ 3
   pub finished : (x y : ℕ) → x < g .size → 2 ≤ colour w x → Leads g x y → 1 ≤ colour w y

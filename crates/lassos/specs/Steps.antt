@@ -3,14 +3,19 @@ use mathlib.Core.Path.{_≡_}
 use mathlib.Core.Bool.{Bool, true, false, _&&_}
 use mathlib.Core.List.{List}
 use mathlib.Core.Logic.{_⊎_}
-use Prim.Native.Nat.{ℕ, suc, _+_, _*_, _-_, _≤_, _<_}
+use Prim.Native.Nat.{ℕ, suc, _+_, _*_, _-_, _/_, _≤_, _<_}
 use lib.Dec.{eqb}
 use lib.ListN.{length}
 use Rattle.automata.specs.Lasso.{positions}
 use Rattle.tables.specs.Table.{n-of, m-of, letter-of, target-of, next-of, wide-range, table-refusal}
 use Rattle.lassos.specs.Graph.{Graph, Leads, Found}
 use Rattle.lassos.specs.Product.{Chain-to, product}
-use Rattle.lassos.specs.Search.{colour, stacked, whites, blacks, recoloured, reddened, Search, Grows, Inner-asks, Inner-says, Waiting}
+use Rattle.lassos.specs.Search.{colour, stacked, whites, blacks, risen, reddened, Search, Grows, Inner-asks, Inner-says, Waiting}
+
+-- A COLOUR that rises to red at most
+pub record Raise-asks (w : List ℕ) (node by : ℕ) : Type 0 where
+  pub inside : node / 16 < length w
+  pub within : colour w node + by ≤ 3
 
 -- A NODE of the product, and numbers small enough to count with
 pub record Node-asks (u v : List ℕ) (states node : ℕ) : Type 0 where
@@ -75,7 +80,6 @@ pub record Spread-asks (t w : List ℕ) (states size base number wait : ℕ) : T
   pub small : size < 1073741824
   pub long : 4 * size ≤ length w
   pub room : wait + blacks size w ≤ size
-  pub colours : (x : ℕ) → x < size → colour w x ≤ 3
 
 -- A TABLE AND A LASSO that were not refused
 pub record Given (t u v : List ℕ) (states size : ℕ) : Type 0 where
@@ -91,7 +95,6 @@ pub record Spread-node-asks (t u v w : List ℕ) (states size node wait : ℕ) :
   pub inside : node < product t u v .size
   pub long : 4 * product t u v .size ≤ length w
   pub room : wait + blacks (product t u v .size) w ≤ product t u v .size
-  pub colours : (x : ℕ) → x < product t u v .size → colour w x ≤ 3
 
 pub record Drain-asks (t u v w : List ℕ) (states size wait : ℕ) : Type 0 where
   pub given : Given t u v states size
@@ -101,8 +104,9 @@ pub record Meets-asks (t u v w : List ℕ) (states size node : ℕ) : Type 0 whe
   pub given : Given t u v states size
   pub asks : Inner-asks (product t u v) node w
 
--- A NODE ENTERS
+-- A WHITE NODE ENTERS
 pub record Enter-asks (w : List ℕ) (size node first depth : ℕ) : Type 0 where
+  pub white : colour w node ≡ 0
   pub first-few : first < 65536
   pub inside : node < size
   pub room : depth < size
@@ -126,8 +130,8 @@ pub data Descended (g : Graph) (w w-now : List ℕ) (node depth : ℕ) : (r : Bo
 -- a finished node turns black, or, if it accepts, red after an inner search that met no grey node
 pub data Finished (g : Graph) (node : ℕ) (w w-now : List ℕ) : (r : Bool) → Type 0 where
   closes : g .accepts node ≡ true → Inner-says g node w w-now true → Finished g node w w-now true
-  black : g .accepts node ≡ false → w-now ≡ recoloured w node 2 → Finished g node w w-now false
-  red : (w-red : List ℕ) → length w-red ≡ length w → Inner-says g node w w-red false → w-now ≡ recoloured w-red node 3 → Finished g node w w-now false
+  black : g .accepts node ≡ false → w-now ≡ risen w node 1 → Finished g node w w-now false
+  red : (w-red : List ℕ) → length w-red ≡ length w → Inner-says g node w w-red false → w-now ≡ risen w-red node 2 → Finished g node w w-now false
 
 -- THE SEARCH from the nodes on the stack
 pub record Explore-asks (t u v w : List ℕ) (states size depth : ℕ) : Type 0 where

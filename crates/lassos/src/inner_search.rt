@@ -1,4 +1,6 @@
 // The inner search: from a finished accepting node through black nodes, which turn red. Meeting a grey node closes a cycle.
+use crate::colouring::colour_of;
+use crate::colouring::raise;
 use crate::nodes::node_base;
 use crate::nodes::node_letter;
 use tables::head_of;
@@ -28,12 +30,12 @@ fn follow(
         return waiting;
     }
     let node = base + target_of(table, states, at);
-    let colour = work[node];
+    let colour = colour_of(work, node);
     if colour == 1 {
         return size + 1;
     }
     if colour == 2 {
-        work[node] = 3;
+        raise(work, node, 1);
         work[3 * size + waiting] = node as u32;
         return waiting + 1;
     }

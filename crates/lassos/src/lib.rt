@@ -1,4 +1,5 @@
 // The lasso decision: whether a table takes the word of a prefix and a loop.
+mod colouring;
 mod inner_search;
 mod nodes;
 mod outer_search;

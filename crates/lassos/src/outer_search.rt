@@ -1,4 +1,6 @@
 // The outer search: depth first through the product, from the initial states at the first position.
+use crate::colouring::colour_of;
+use crate::colouring::raise;
 use crate::inner_search::meets_grey;
 use crate::nodes::node_base;
 use crate::nodes::node_letter;
@@ -28,7 +30,7 @@ fn leads_to_white(
     if letter_of(table, states, at) != letter {
         return false;
     }
-    work[base + target_of(table, states, at)] == 0
+    colour_of(work, base + target_of(table, states, at)) == 0
 }
 
 // The first record of a chain, from this one on, whose edge on the letter leads to a white node; zero where there is none.
@@ -58,7 +60,7 @@ fn enter(work: &mut [u32], size: usize, node: usize, first: usize, depth: usize)
     requires { ⌜ Enter-asks (now work) size node first depth ⌝ }
     ensures { λ _. ⌜ now (work .exit) ≡ entered size (now (work .entry)) node first depth ⌝ }
 {
-    work[node] = 1;
+    raise(work, node, 1);
     work[size + depth] = node as u32;
     work[2 * size + depth] = first as u32;
 }
@@ -107,13 +109,13 @@ fn finish(
         (now (work .entry)) (now (work .exit)) r ⌝ }
 {
     if flags_of(table, node % states) < 2 {
-        work[node] = 2;
+        raise(work, node, 1);
         return false;
     }
     if meets_grey(table, prefix, cycle, work, states, size, node) {
         return true;
     }
-    work[node] = 3;
+    raise(work, node, 2);
     false
 }
 
@@ -163,7 +165,7 @@ fn try_state(
     if flags_of(table, state) % 2 != 1 {
         return false;
     }
-    if work[state] != 0 {
+    if colour_of(work, state) != 0 {
         return false;
     }
     enter(work, size, state, head_of(table, state), 0);

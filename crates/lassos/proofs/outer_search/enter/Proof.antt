@@ -2,15 +2,12 @@
 use borrow.Author.Needs.{needs}
 use native.Mathlib.Omega.{arith}
 use lib.ListN.{length-set}
-use Rattle.lassos.proofs.Descends.{entered-is}
+use Rattle.lassos.proofs.Descends.{enter-raise, entered-is}
 use Rattle.lassos.proofs.outer_search.enter.Statement.{statement}
 use Rattle.lassos.proofs.outer_search.enter.Tie as tie
 
-mul-work : tie.Need-mul-work
-mul-work c = search needs
-
-slice-write-work : tie.Need-slice-write-work
-slice-write-work c = search needs
+raise-requires : tie.Need-raise-requires
+raise-requires c κs = enter-raise (c .before .before .pre)
 
 cast-work : tie.Need-cast-work
 cast-work c = search needs
@@ -18,47 +15,47 @@ cast-work c = search needs
 add-work : tie.Need-add-work
 add-work c = search needs
 
-mul-work-2 : tie.Need-mul-work-2
-mul-work-2 c = search needs
+mul-work : tie.Need-mul-work
+mul-work c = search needs
 
-slice-write-work-2 : tie.Need-slice-write-work-2
-slice-write-work-2 c = simp length-set (omega arith)
+slice-write-work : tie.Need-slice-write-work
+slice-write-work c = omega (arith, c .before .before .raise .kept .0)
 
 cast-work-2 : tie.Need-cast-work-2
 cast-work-2 c = search needs
 
-mul-work-3 : tie.Need-mul-work-3
-mul-work-3 c = search needs
+mul-work-2 : tie.Need-mul-work-2
+mul-work-2 c = search needs
 
 add-work-2 : tie.Need-add-work-2
 add-work-2 c = search needs
 
-mul-work-4 : tie.Need-mul-work-4
-mul-work-4 c = search needs
+mul-work-3 : tie.Need-mul-work-3
+mul-work-3 c = search needs
 
-slice-write-work-3 : tie.Need-slice-write-work-3
-slice-write-work-3 c = simp length-set (omega arith)
+slice-write-work-2 : tie.Need-slice-write-work-2
+slice-write-work-2 c = simp length-set (omega (arith, c .before .before .raise .kept .0))
 
 same-length : tie.Need-same-length
 same-length c = search needs
 
 returns : tie.Need-returns
-returns c = entered-is _ _ _ _ _
+returns c =
+    let up = c .before .before in entered-is (up .before .before .before .pre) (up .raise .ensures)
 
 pub enter-spec : {M : Type 1} → statement M
 enter-spec =
     tie.close
     (tie.spec
-    mul-work
-    slice-write-work
+    raise-requires
     cast-work
     add-work
-    mul-work-2
-    slice-write-work-2
+    mul-work
+    slice-write-work
     cast-work-2
-    mul-work-3
+    mul-work-2
     add-work-2
-    mul-work-4
-    slice-write-work-3
+    mul-work-3
+    slice-write-work-2
     same-length
     returns)

@@ -1,6 +1,6 @@
 -- `lassos::outer_search::leads_to_white` meets its contract: a record's target is a node. Assumes nothing.
 use borrow.Author.Needs.{needs}
-use Rattle.lassos.proofs.Chains.{reads-edge, edge-target, white-other, white-same}
+use Rattle.lassos.proofs.Chains.{reads-edge, edge-word, white-other, white-same}
 use Rattle.lassos.proofs.outer_search.leads_to_white.Statement.{statement}
 use Rattle.lassos.proofs.outer_search.leads_to_white.Tie as tie
 
@@ -13,20 +13,18 @@ returns c = white-other _ _ _ _ _ (c .before .letter-of .ensures .is) (c .if1 .t
 target-of-requires : tie.Need-target-of-requires
 target-of-requires c κs = reads-edge (c .before .before .before .before .pre)
 
-add-result : tie.Need-add-result
-add-result c = search needs
+add-colour-of : tie.Need-add-colour-of
+add-colour-of c = search needs
 
-mul-result : tie.Need-mul-result
-mul-result c = search needs
-
-shared-slice-read-result : tie.Need-shared-slice-read-result
-shared-slice-read-result c =
-    edge-target (c .before .before .before .before .before .before .pre) (c .before .target-of .ensures .is)
+colour-of-requires : tie.Need-colour-of-requires
+colour-of-requires c κs =
+    edge-word (c .before .before .before .before .before .pre) (c .target-of .ensures .is)
 
 returns-2 : tie.Need-returns-2
 returns-2 c =
-    white-same _ _ _ _ _ (c .before .before .before .letter-of .ensures .is) (c .before .before .if1 .left)
-    (c .before .target-of .ensures .is)
+    let to = c .before in
+    white-same _ _ _ _ _ (to .before .before .letter-of .ensures .is) (to .before .if1 .left) (to .target-of .ensures .is)
+    (c .colour-of .ensures)
 
 pub leads-to-white-spec : {M : Type 1} → statement M
 leads-to-white-spec =
@@ -35,7 +33,6 @@ leads-to-white-spec =
     letter-of-requires
     returns
     target-of-requires
-    add-result
-    mul-result
-    shared-slice-read-result
+    add-colour-of
+    colour-of-requires
     returns-2)

@@ -1,7 +1,6 @@
 -- `lassos::outer_search::try_state` meets its contract. Assumes nothing.
 use borrow.Author.Needs.{needs}
-use native.Mathlib.Omega.{arith}
-use Rattle.lassos.proofs.Explores.{try-few, try-index, not-initial, not-white, try-enter, try-explore, try-end}
+use Rattle.lassos.proofs.Explores.{try-few, try-word, not-initial, not-white, try-enter, try-explore, try-end}
 use Rattle.lassos.proofs.outer_search.try_state.Statement.{statement}
 use Rattle.lassos.proofs.outer_search.try_state.Tie as tie
 
@@ -12,37 +11,51 @@ returns : tie.Need-returns
 returns c =
     not-initial (c .before .before .before .before .before .before .pre) (c .before .flags-of .ensures .is) (c .if1 .taken)
 
-mul-if2 : tie.Need-mul-if2
-mul-if2 c = omega (arith, try-few (c .before .before .before .before .before .before .pre))
+colour-of-requires : tie.Need-colour-of-requires
+colour-of-requires c κs = try-word (c .before .before .before .before .before .before .before .pre)
 
-slice-read-if2 : tie.Need-slice-read-if2
-slice-read-if2 c = try-index (c .before .before .before .before .before .before .before .pre)
+same-length : tie.Need-same-length
+same-length c = search needs
 
 returns-2 : tie.Need-returns-2
-returns-2 c = not-white (c .before .before .before .before .before .before .before .before .pre) (c .if2 .taken)
+returns-2 c =
+    not-white (c .before .before .before .before .before .before .before .before .before .pre) (c .before .colour-of .ensures)
+    (c .if2 .taken)
+
+-- the state is initial and white
+module _ (c : tie.Else2) where
+  abbrev seen : tie.After-colour-of
+  seen = c .before
+
+  abbrev initial : tie.Else1
+  initial = seen .before .before
+
+  abbrev flags : tie.After-flags-of
+  flags = initial .before
+
+  abbrev start : tie.Start
+  start = flags .before .before .before .before .before
 
 head-of-requires : tie.Need-head-of-requires
-head-of-requires c κs = try-few (c .before .before .before .before .before .before .before .before .before .pre)
+head-of-requires c κs = try-few (start (c .before) .pre)
 
 enter-requires : tie.Need-enter-requires
 enter-requires c κs =
     let white = c .before .before in
-    try-enter (white .before .before .before .before .before .before .before .before .pre) (white .if2 .left)
-    (c .head-of .ensures .small)
+    try-enter (start white .pre) (seen white .colour-of .ensures) (white .if2 .left) (c .head-of .ensures .small)
 
 explore-requires : tie.Need-explore-requires
 explore-requires c κs =
     let entered = c .before .before .before in
     let head = entered .before in
     let white = head .before .before in
-    let flags = white .before .before .before in
-    try-explore (flags .before .before .before .before .before .pre) (white .if2 .left) (flags .flags-of .ensures .is)
-    (white .before .before .if1 .left)
+    try-explore (start white .pre) (seen white .colour-of .ensures) (white .if2 .left) (flags white .flags-of .ensures .is)
+    (initial white .if1 .left)
     (head .head-of .ensures .is)
     (entered .enter .ensures)
 
-same-length : tie.Need-same-length
-same-length c = search needs
+same-length-2 : tie.Need-same-length-2
+same-length-2 c = search needs
 
 returns-3 : tie.Need-returns-3
 returns-3 c =
@@ -50,9 +63,8 @@ returns-3 c =
     let entered = explored .before .before .before .before in
     let head = entered .before in
     let white = head .before .before in
-    let flags = white .before .before .before in
-    try-end (flags .before .before .before .before .before .pre) (white .if2 .left) (flags .flags-of .ensures .is)
-    (white .before .before .if1 .left)
+    try-end (start white .pre) (seen white .colour-of .ensures) (white .if2 .left) (flags white .flags-of .ensures .is)
+    (initial white .if1 .left)
     (head .head-of .ensures .is)
     (entered .enter .ensures)
     (explored .explore .ensures)
@@ -63,11 +75,11 @@ try-state-spec =
     (tie.spec
     flags-of-requires
     returns
-    mul-if2
-    slice-read-if2
+    colour-of-requires
+    same-length
     returns-2
     head-of-requires
     enter-requires
     explore-requires
-    same-length
+    same-length-2
     returns-3)

@@ -1,0 +1,28 @@
+-- `lassos::colouring::colour_of` meets its contract: a shift by pairs of bits divides by a power of four. Assumes nothing.
+use borrow.Author.Needs.{needs}
+use Rattle.lassos.proofs.Stores.{colour-read}
+use Rattle.lassos.proofs.colouring.colour_of.Statement.{statement}
+use Rattle.lassos.proofs.colouring.colour_of.Tie as tie
+
+mul-result : tie.Need-mul-result
+mul-result c = search needs
+
+shared-slice-read-result : tie.Need-shared-slice-read-result
+shared-slice-read-result c = search needs
+
+mul-result-2 : tie.Need-mul-result-2
+mul-result-2 c = search needs
+
+cast-result : tie.Need-cast-result
+cast-result c = search needs
+
+shr-result : tie.Need-shr-result
+shr-result c = search needs
+
+returns : tie.Need-returns
+returns c = colour-read _ _
+
+pub colour-of-spec : {M : Type 1} → statement M
+colour-of-spec =
+    tie.close
+    (tie.spec mul-result shared-slice-read-result mul-result-2 cast-result shr-result returns)
