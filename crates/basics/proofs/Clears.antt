@@ -4,7 +4,7 @@ use mathlib.Core.List.{List, _++_, append-nil}
 use Prim.Native.Nat.{ℕ, _+_, _≤_, _<_}
 use native.Mathlib.Omega.{arith}
 use borrow.Author.Fill.{fill-none, fill-more}
-use lib.ListN.{length, getD, set, drop, replicate, length-append, length-replicate, length-drop, drop-of-length-le, getD-replicate}
+use lib.ListN.{length, set, drop, replicate, length-append, length-replicate, length-drop, drop-of-length-le}
 use Rattle.basics.specs.Buffers.{zeros}
 
 -- the first i words are zero, and the others as they were
@@ -39,7 +39,3 @@ zeros-same w w1 e = rw e
 pub zeros-length : (w : List ℕ) → length (zeros w) ≡ length w
 unfolding zeros
 zeros-length w = length-replicate (length w) 0
-
-pub zeros-at : (w : List ℕ) (i : ℕ) → i < length w → getD (zeros w) i 0 ≡ 0
-unfolding zeros
-zeros-at w i l = getD-replicate (length w) i 0 0 l

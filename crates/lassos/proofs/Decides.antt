@@ -1,12 +1,12 @@
--- The lasso decision: the search begins with clear work words, what it finds is what the automaton takes, and the answer is the
+-- The lasso decision: the search begins with white nodes, what it finds is what the automaton takes, and the answer is the
 -- definition's. Assumes nothing.
-use mathlib.Core.Path.{_≡_, refl, sym, _∙_, ap}
+use mathlib.Core.Path.{_≡_, refl, sym, _∙_}
 use mathlib.Core.Bool.{Bool, true, false}
-use mathlib.Core.List.{List}
+use mathlib.Core.List.{List, append-nil}
 use Prim.Native.Nat.{ℕ, zero, suc, _+_, _*_, _/_, _^_, _≤_, _<_}
 use native.Mathlib.Omega.{arith}
 use native.Mathlib.Nat.{mul-le-mul, mul-comm, mul-assoc}
-use lib.ListN.{length, getD}
+use lib.ListN.{length, getD, drop, replicate, length-replicate, drop-of-length-le, getD-replicate, List·getD-append}
 use Rattle.basics.specs.Buffers.{zeros}
 use Rattle.basics.proofs.Booleans.{not-both}
 use Rattle.basics.proofs.Packed.{packed-zero}
@@ -16,14 +16,14 @@ use Rattle.automata.proofs.Cycles.{takes-cycle, cycle-takes}
 use Rattle.automata.proofs.Decision.{takes-right}
 use Rattle.tables.specs.Table.{n-of, meaning, wide-range}
 use Rattle.tables.proofs.Laws.{Valid, valid, meaning-closed}
-use Rattle.lassos.specs.Decision.{as-decision, decision, Lasso-says, Takes-asks}
+use Rattle.lassos.specs.Decision.{as-decision, decision, Lasso-says, Takes-asks, cleared}
 use Rattle.lassos.specs.Graph.{Graph}
 use Rattle.lassos.specs.Product.{product}
 use Rattle.lassos.specs.Refusals.{lasso-refusal}
 use Rattle.lassos.specs.Search.{colour, Search}
 use Rattle.lassos.specs.Steps.{Given, Explore-asks, Searched, found, nothing}
 use Rattle.lassos.specs.declared.Decision.the-variants.{Taken, NotTaken, Refused}
-use Rattle.basics.proofs.Clears.{zeros-same, zeros-length, zeros-at}
+use Rattle.basics.proofs.Clears.{Clearing}
 use Rattle.lassos.proofs.Colours.{coloured-le}
 use Rattle.lassos.proofs.Given.{size-is}
 use Rattle.lassos.proofs.Parts.{Accepted, accepted}
@@ -50,7 +50,26 @@ fresh g w long white =
       fruitless = λ x l o. absurd (unmet x l (omega arith));
     }
 
--- A TABLE AND A LASSO that are not refused, and clear work words
+-- THE WORK WORDS, cleared from the front
+pub record Clearing-to (w : List ℕ) (count : ℕ) (w-now : List ℕ) (i : ℕ) : Type 0 where
+  pub upto : i ≤ count
+  pub clearing : Clearing w w-now i
+
+pub cleared-end : {w w1 : List ℕ} {count i : ℕ} → Clearing-to w count w1 i → count ≤ i → w1 ≡ cleared count w
+unfolding cleared
+cleared-end {count = count} {i = i} h l = let e : i ≡ count = (let b = h .upto in omega arith) in rw e at (h .clearing .is)
+
+cleared-at : (k : ℕ) (w : List ℕ) (i : ℕ) → i < k → getD (cleared k w) i 0 ≡ 0
+unfolding cleared
+cleared-at k w i l =
+    let b : i < length (replicate {A = ℕ} k 0) = rw (length-replicate {A = ℕ} k 0) l in
+    List·getD-append (replicate k 0) (drop k w) 0 i b ∙ getD-replicate k i 0 0 l
+
+cleared-all : (w w1 : List ℕ) → length w1 ≡ length w → cleared (length w) w1 ≡ zeros w
+unfolding cleared zeros
+cleared-all w w1 same = let l : length w1 ≤ length w = omega arith in rw (drop-of-length-le w1 l, append-nil)
+
+-- A TABLE AND A LASSO that are not refused
 module _ {t u v w : List ℕ} (a : Takes-asks t u v w) where
   not-refused : Accepted t u v (length w)
   not-refused = accepted t u v (length w) (a .accepted)
@@ -66,14 +85,6 @@ module _ {t u v w : List ℕ} (a : Takes-asks t u v w) where
       let q = mul-comm (n-of t) (length u + length v) in
       let r = not-refused .room in omega arith
 
-  begins : Search (product t u v) w 0
-  unfolding colour
-  begins =
-      fresh (product t u v) w enough
-      (λ x l.
-      packed-zero 4 (omega arith) 16 w x
-      (ap (λ (z : List ℕ). getD z (x / 16) 0) (a .clear) ∙ zeros-at w (x / 16) (let k = enough in omega arith)))
-
   module _ {states : ℕ} (is-states : states ≡ n-of t) where
     pub size-fits : (length u + length v) * states < 2 ^ 64
     unfolding wide-range
@@ -83,20 +94,44 @@ module _ {t u v w : List ℕ} (a : Takes-asks t u v w) where
         let q : states ≤ 65535 = (let k = sound .states-to in omega arith) in
         let m = mul-le-mul p q in omega arith
 
-    takes-given : Given t u v states ((length u + length v) * states)
+    takes-sized : (length u + length v) * states ≡ product t u v .size
     unfolding positions
+    takes-sized = rw is-states (sym (size-is t u v))
+
+    takes-given : Given t u v states ((length u + length v) * states)
     takes-given =
         record {
           valid = not-refused .valid;
           counted = is-states;
-          sized = rw is-states (sym (size-is t u v));
+          sized = takes-sized;
           endless = not-refused .endless;
           prefix-short = not-refused .prefix-short;
           loop-short = not-refused .loop-short;
         }
 
-    pub takes-explore : Explore-asks t u v w states ((length u + length v) * states) 0
-    takes-explore = record { given = takes-given; search = begins }
+    -- the words of the colours are among the work words
+    pub colours-inside : (length u + length v) * states / 16 + 1 ≤ length w
+    colours-inside =
+        let p : 1 ≤ length u + length v = (let o = not-refused .endless in omega arith) in
+        let q : 1 ≤ states = (let k = sound .states-from in omega arith) in
+        let some : 1 ≤ (length u + length v) * states = mul-le-mul p q in
+        let s = takes-sized in
+        let k = enough in omega arith
+
+    pub takes-explore :
+        {w1 : List ℕ} → w1 ≡ cleared ((length u + length v) * states / 16 + 1) w → length w1 ≡ length w →
+        Explore-asks t u v w1 states ((length u + length v) * states) 0
+    unfolding colour
+    takes-explore {w1} is-clear same =
+        let s = takes-sized in
+        record {
+          given = takes-given;
+          search =
+              fresh (product t u v) w1 (let k = enough in omega arith)
+              (λ x l.
+              packed-zero 4 (omega arith) 16 w1 x
+              (rw is-clear (cleared-at ((length u + length v) * states / 16 + 1) w (x / 16) (omega arith))));
+        }
 
   -- what the search finds is what the automaton takes
   pub takes-end : {r : Bool} → Searched (product t u v) r → r ≡ takes? (meaning t) u v
@@ -125,35 +160,29 @@ as-not-taken : (r : ℕ) (b : Bool) → r ≡ 0 → b ≡ false → NotTaken ≡
 unfolding as-decision
 as-not-taken r b z e = rw (z, e)
 
-module _ (t u v w : List ℕ) {w1 : List ℕ} {r : ℕ} (is-clear : w1 ≡ zeros w) (is-refusal : r ≡ lasso-refusal t u v (length w1)) where
-  same-words : length w1 ≡ length w
-  same-words = ap length is-clear ∙ zeros-length w
-
-  refusal-is : lasso-refusal t u v (length w) ≡ r
-  refusal-is = sym (rw same-words at is-refusal)
-
-  pub decide-refused : (r ≡ 0 → ⊥) → Lasso-says t u v (Refused r) w w1
+module _ (t u v w : List ℕ) {r : ℕ} (is-refusal : r ≡ lasso-refusal t u v (length w)) where
+  pub decide-refused : {w1 : List ℕ} → (r ≡ 0 → ⊥) → w1 ≡ cleared (length w) w → Lasso-says t u v (Refused r) w w1
   unfolding decision
-  decide-refused ne =
-      record { answer = rw refusal-is (as-refused r (takes? (meaning t) u v) ne); work = is-clear }
+  decide-refused ne is-clear =
+      record {
+        answer = rw (sym is-refusal) (as-refused r (takes? (meaning t) u v) ne);
+        work = is-clear ∙ cleared-all w w refl;
+      }
 
-  module _ (z : r ≡ 0) where
-    pub decide-asks : Takes-asks t u v w1
-    decide-asks =
-        record { accepted = sym is-refusal ∙ z; clear = is-clear ∙ sym (zeros-same w w1 same-words) }
+  module _ (z : r ≡ 0) {b : Bool} (is-taken : b ≡ takes? (meaning t) u v) (w1 : List ℕ) {w2 : List ℕ}
+      (same : length w1 ≡ length w) (is-clear : w2 ≡ cleared (length w) w1) where
+    pub decide-taken : b ≡ true → Lasso-says t u v Taken w w2
+    unfolding decision
+    decide-taken e =
+        record {
+          answer = rw (sym is-refusal) (as-taken r (takes? (meaning t) u v) z (sym is-taken ∙ e));
+          work = is-clear ∙ cleared-all w w1 same;
+        }
 
-    -- the work words are cleared once more
-    module _ {b : Bool} (is-taken : b ≡ takes? (meaning t) u v) (w2 : List ℕ) {w3 : List ℕ} (same : length w2 ≡ length w1)
-        (is-clear-again : w3 ≡ zeros w2) where
-      cleared : w3 ≡ zeros w
-      cleared = is-clear-again ∙ zeros-same w w2 (same ∙ same-words)
-
-      pub decide-taken : b ≡ true → Lasso-says t u v Taken w w3
-      unfolding decision
-      decide-taken e =
-          record { answer = rw refusal-is (as-taken r (takes? (meaning t) u v) z (sym is-taken ∙ e)); work = cleared }
-
-      pub decide-not-taken : b ≡ false → Lasso-says t u v NotTaken w w3
-      unfolding decision
-      decide-not-taken e =
-          record { answer = rw refusal-is (as-not-taken r (takes? (meaning t) u v) z (sym is-taken ∙ e)); work = cleared }
+    pub decide-not-taken : b ≡ false → Lasso-says t u v NotTaken w w2
+    unfolding decision
+    decide-not-taken e =
+        record {
+          answer = rw (sym is-refusal) (as-not-taken r (takes? (meaning t) u v) z (sym is-taken ∙ e));
+          work = is-clear ∙ cleared-all w w1 same;
+        }

@@ -9,12 +9,12 @@ use tables::letters_of;
 use tables::states_of;
 use tables::table_refusal;
 ghost use mathlib.Core.Path.{_≡_};
-ghost use Prim.Native.Nat.{_<_};
-ghost use Rattle.basics.specs.Buffers.{zeros};
+ghost use Prim.Native.Nat.{_≤_, _<_};
+ghost use lib.ListN.{length};
 ghost use Rattle.automata.specs.Decision.{takes?};
 ghost use Rattle.automata.specs.Lasso.{all-below};
 ghost use Rattle.tables.specs.Table.{meaning};
-ghost use Rattle.lassos.specs.Decision.{Lasso-says, Takes-asks};
+ghost use Rattle.lassos.specs.Decision.{Lasso-says, Takes-asks, cleared};
 ghost use Rattle.lassos.specs.Refusals.{parts-refusal, lasso-refusal};
 
 // What the decision answers: taken, not taken, or the number of the refusal.
@@ -76,44 +76,41 @@ fn lasso_refusal(table: &[u16], prefix: &[u8], cycle: &[u8], work: usize) -> u32
     parts_refusal(states_of(table), letters_of(table), prefix, cycle, work)
 }
 
-// Sets all work words to zero.
-fn clear(work: &mut [u32])
-    ensures { λ _. ⌜ now (work .exit) ≡ zeros (now (work .entry)) ⌝ }
+// Sets the first work words to zero.
+fn clear(work: &mut [u32], count: usize)
+    requires { ⌜ count ≤ length (now work) ⌝ }
+    ensures { λ _. ⌜ now (work .exit) ≡ cleared count (now (work .entry)) ⌝ }
 {
     let mut i = 0;
-    while i < work.len() {
+    while i < count {
         work[i] = 0;
         i += 1;
     }
 }
 
-// Whether a table takes a lasso, none of which is refused. The work words are clear.
+// Whether a table takes a lasso, none of which is refused. The search asks for white nodes only, so nothing but their colours is cleared.
 fn takes(table: &[u16], prefix: &[u8], cycle: &[u8], work: &mut [u32]) -> bool
     requires { ⌜ Takes-asks (now table) (now prefix) (now cycle) (now work) ⌝ }
     ensures { λ r. ⌜ r ≡ takes? (meaning (now (table .entry))) (now (prefix .entry)) (now (cycle .entry)) ⌝ }
 {
     let states = states_of(table);
-    search(
-        table,
-        prefix,
-        cycle,
-        work,
-        states,
-        (prefix.len() + cycle.len()) * states,
-    )
+    let size = (prefix.len() + cycle.len()) * states;
+    clear(work, size / 16 + 1);
+    search(table, prefix, cycle, work, states, size)
 }
 
 // Decides whether a table takes a lasso. Nothing is asked of the work words at entry, and they are all zero afterwards.
 pub fn decide_lasso(table: &[u16], prefix: &[u8], cycle: &[u8], work: &mut [u32]) -> Decision
     ensures { λ r. ⌜ Lasso-says (now (table .entry)) (now (prefix .entry)) (now (cycle .entry)) r (now (work .entry)) (now (work .exit)) ⌝ }
 {
-    clear(work);
-    let refusal = lasso_refusal(table, prefix, cycle, work.len());
+    let count = work.len();
+    let refusal = lasso_refusal(table, prefix, cycle, count);
     if refusal != 0 {
+        clear(work, count);
         return Decision::Refused(refusal);
     }
     let taken = takes(table, prefix, cycle, work);
-    clear(work);
+    clear(work, count);
     if taken {
         return Decision::Taken;
     }
