@@ -11,7 +11,7 @@ use lib.ListN.{length}
 use Rattle.basics.proofs.Booleans.{and-l, and-r, and-false, and-false-l, eqb-eq, eq-eqb, eqb-ne, ne-eqb}
 use Rattle.tables.specs.Access.{Record-asks}
 use Rattle.tables.specs.Table.{m-of, letter-of, target-of, next-of, wide-range}
-use Rattle.tables.proofs.Laws.{Valid, valid}
+use Rattle.tables.proofs.Laws.{Valid, valid, record-asked}
 use Rattle.lassos.specs.Product.{Chain-to, here, later}
 use Rattle.lassos.specs.Search.{colour}
 use Rattle.lassos.specs.Steps.{Chain-asks, Edge-asks, white-edge, Next-white, no-white, white-at}
@@ -33,22 +33,8 @@ module _ {t : List ℕ} {states nodes base r : ℕ} (a : Chain-asks t states nod
   pub sound : Valid wide-range t
   sound = valid wide-range t (a .valid)
 
-  pub states-few : states < 65536
-  unfolding wide-range
-  states-few = let k = sound .states-to in let e = a .counted in omega arith
-
-  pub records-few : m-of t < 65536
-  unfolding wide-range
-  records-few = let k = sound .records-to in omega arith
-
   pub reads-record : 1 ≤ r → Record-asks t states r
-  reads-record o =
-      record {
-        counted = a .counted;
-        few = states-few;
-        from-one = o;
-        small = let k = records-few in let j = a .number-to in omega arith;
-      }
+  reads-record o = record-asked wide-range t (a .valid) (a .counted) o (a .number-to)
 
   -- a record's target is a node
   pub target-inside : 1 ≤ r → base + target-of t r < nodes

@@ -6,7 +6,7 @@ use mathlib.Core.Logic.{_⊎_, inl, inr}
 use Prim.Native.Nat.{ℕ, suc, _+_, _*_, _-_, _≤_, _<_}
 use native.Mathlib.Omega.{arith}
 use lib.ListN.{length, getD, set}
-use Rattle.tables.specs.Access.{Record-asks}
+use Rattle.tables.specs.Access.{State-asks, Record-asks}
 use Rattle.tables.specs.Table.{n-of, m-of, head-of, target-of, next-of}
 use Rattle.lassos.specs.Graph.{Leads, onward, Reached}
 use Rattle.lassos.specs.Product.{Chain-to, node-letter, node-base, product}
@@ -14,7 +14,7 @@ use Rattle.lassos.specs.Search.{colour, stacked, cursor, risen, entered,
 use Rattle.lassos.specs.Steps.{Raise-asks, Node-asks, Chain-asks, Next-white, White-at, no-white, white-at, Enter-asks, Top-asks, Descended, deeper, all-visited}
 use Rattle.lassos.proofs.Chains.{reads-record, chain-inside}
 use Rattle.lassos.proofs.Colours.{grows-grows, coloured-one}
-use Rattle.lassos.proofs.Given.{given-valid, given-bounded, given-few, given-small, given-node, given-chain, given-head, given-first}
+use Rattle.lassos.proofs.Given.{given-valid, given-bounded, given-reads, given-small, given-node, given-chain, given-head, given-first}
 use Rattle.lassos.proofs.Outer.{enter-grows, enter-whites, enter-keeps, advance-grows, advance-whites, advance-keeps}
 use Rattle.lassos.proofs.Stores.{Enters, enters, Advances, advances}
 
@@ -137,8 +137,8 @@ module _ {t u v w : List ℕ} {states size x depth : ℕ} (a : Top-asks t u v w 
             let k = coloured-one 0 (product t u v .size) w (base + to) to-inside to-white in
             let j = a .search .room in omega arith
 
-        pub to-few : to < 65536
-        to-few = let k = given-few (a .given) in let b = to-below in omega arith
+        pub to-state : State-asks t to
+        to-state = given-reads (a .given) to-below
 
         pub to-asks : {first : ℕ} → first < 65536 → Enter-asks w size (base + to) first depth
         to-asks few =

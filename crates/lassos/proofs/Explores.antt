@@ -14,19 +14,20 @@ use lib.ListN.{length, getD}
 use Rattle.basics.proofs.Booleans.{clash, and-l, and-r, and-make, eqb-eq, eq-eqb, ltb-lt, lt-ltb, gt-leb, le-leb}
 use Rattle.automata.specs.Lasso.{positions}
 use Rattle.automata.proofs.Positions.{next-below}
+use Rattle.tables.specs.Access.{State-asks}
 use Rattle.tables.specs.Table.{n-of, head-of, flags-of, is-initial, is-accepting}
 use Rattle.lassos.specs.Graph.{Graph, Leads, Bounded, stay}
 use Rattle.lassos.specs.Product.{product}
 use Rattle.lassos.specs.Search.{colour, stacked, whites, risen, entered, Search, Grows, Inner-says, met, none}
 use Rattle.lassos.specs.Steps.{Raise-asks, Given, Meets-asks, Top-asks, Descended, deeper, all-visited, Finished, closes, black, red, Enter-asks, Explore-asks, Explored, found, exhausted, Try-asks, Tried, tried, Searched, nothing}
 use Rattle.lassos.proofs.Colours.{grows-grows, grows-same, stays-grey}
-use Rattle.lassos.proofs.Given.{size-is, given-bounded, given-few, given-some, given-small, given-first, given-state}
+use Rattle.lassos.proofs.Given.{size-is, given-bounded, given-reads, given-some, given-small, given-first, given-state}
 use Rattle.lassos.proofs.Outer.{enter-grows, enter-keeps, none-found, Left-off, black-leaves, red-leaves, grey-cycle}
 use Rattle.lassos.proofs.Stores.{same-or, recolours, Enters, enters}
 
 -- A FINISHED NODE
 module _ {t u v w : List ℕ} {states size x : ℕ} (a : Meets-asks t u v w states size x) where
-  pub finish-state : x % states < 65536
+  pub finish-state : State-asks t (x % states)
   finish-state = given-state (a .given) (a .asks .inside)
 
   -- the node is grey, and it still is after an inner search that met no grey node
@@ -209,11 +210,11 @@ module _ {t u v w : List ℕ} {states size : ℕ} {w1 : List ℕ} {x depth : ℕ
 
 -- ONE STATE at the first position
 module _ {t u v w : List ℕ} {states size q : ℕ} (a : Try-asks t u v w states size q) where
-  pub try-few : q < 65536
-  try-few = let k = given-few (a .given) in let b = a .inside in let e = a .given .counted in omega arith
-
   try-below : q < n-of t
   try-below = let b = a .inside in let e = a .given .counted in omega arith
+
+  pub try-reads : State-asks t q
+  try-reads = given-reads (a .given) try-below
 
   -- its node is the state's own number
   try-inside : q < product t u v .size

@@ -9,8 +9,9 @@ use lib.Arith.{digits-mod}
 use lib.ListN.{length}
 use Rattle.automata.specs.Lasso.{positions, next-position}
 use Rattle.automata.proofs.Positions.{next-below}
+use Rattle.tables.specs.Access.{State-asks}
 use Rattle.tables.specs.Table.{n-of, m-of, head-of, wide-range}
-use Rattle.tables.proofs.Laws.{Valid, valid}
+use Rattle.tables.proofs.Laws.{Valid, valid, state-asked}
 use Rattle.lassos.specs.Graph.{Leads, Bounded}
 use Rattle.lassos.specs.Product.{Chain-to, node-letter, node-base, product}
 use Rattle.lassos.specs.Search.{Spread-says}
@@ -28,12 +29,16 @@ module _ {t u v : List ℕ} {states size : ℕ} (g : Given t u v states size) wh
   pub given-bounded : Bounded (product t u v)
   given-bounded = product-bounded given-valid u v (g .endless)
 
-  pub given-few : n-of t < 65536
+  given-few : n-of t < 65536
   unfolding wide-range
   given-few = let k = given-valid .states-to in omega arith
 
   pub given-some : 1 ≤ n-of t
   given-some = given-valid .states-from
+
+  -- states are read from the table
+  pub given-reads : {q : ℕ} → q < n-of t → State-asks t q
+  given-reads l = state-asked wide-range t (g .valid) l
 
   -- fewer than 2^30 nodes
   pub given-small : product t u v .size < 1073741824
@@ -54,8 +59,8 @@ module _ {t u v : List ℕ} {states size : ℕ} (g : Given t u v states size) wh
           small = let s = size-is t u v in let k = given-small in omega arith;
         })
 
-    pub given-state : x % states < 65536
-    given-state = let k = mod-lt x given-some in let f = given-few in rw (g .counted) (omega arith)
+    pub given-state : State-asks t (x % states)
+    given-state = given-reads (rw (g .counted) (mod-lt x given-some))
 
     -- the chain of a node's edges
     module _ {letter base : ℕ} (is-letter : letter ≡ node-letter states u v x) (is-base : base ≡ node-base states u v x) where

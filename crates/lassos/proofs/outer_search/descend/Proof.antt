@@ -3,9 +3,9 @@ use borrow.Author.Needs.{needs}
 use Prim.Native.Nat.{ℕ, _+_, _*_, _-_, _<_}
 use native.Mathlib.Omega.{arith}
 use denote.Ref.{now}
-use Rattle.tables.specs.Access.{Record-asks}
+use Rattle.tables.specs.Access.{State-asks, Record-asks}
 use Rattle.lassos.specs.Steps.{Enter-asks}
-use Rattle.lassos.proofs.Descends.{top-node, top-cursor, top-small, top-asks, none-white, is-white, white-record, to-few, to-asks, next-deeper}
+use Rattle.lassos.proofs.Descends.{top-node, top-cursor, top-small, top-asks, none-white, is-white, white-record, to-state, to-asks, next-deeper}
 use Rattle.lassos.proofs.outer_search.descend.Statement.{statement}
 use Rattle.lassos.proofs.outer_search.descend.Tie as tie
 
@@ -73,9 +73,9 @@ module _ (c : tie.After-target-of) where
   abbrev found : tie.Else1
   found = c .before
 
-  target-few : c .target-of .result < 65536
-  target-few =
-      to-few (start found .pre) (known found .before .node-letter .ensures) (known found .node-base .ensures)
+  reads-target : State-asks (now (start found .args .table)) (c .target-of .result)
+  reads-target =
+      to-state (start found .pre) (known found .before .node-letter .ensures) (known found .node-base .ensures)
       (is-white (found .before .next-white .ensures) (found .if1 .left))
       (c .target-of .ensures .is)
 
@@ -96,7 +96,7 @@ add-enter c =
     let asks = enters-white (c .before) few in omega (arith, asks .inside, asks .small)
 
 head-of-requires : tie.Need-head-of-requires
-head-of-requires c κs = target-few (c .before)
+head-of-requires c κs = reads-target (c .before)
 
 enter-requires : tie.Need-enter-requires
 enter-requires c κs = enters-white (c .before .before) (c .head-of .ensures .small)

@@ -1,11 +1,11 @@
 -- `lassos::outer_search::try_state` meets its contract. Assumes nothing.
 use borrow.Author.Needs.{needs}
-use Rattle.lassos.proofs.Explores.{try-few, try-word, not-initial, not-white, try-enter, try-explore, try-end}
+use Rattle.lassos.proofs.Explores.{try-reads, try-word, not-initial, not-white, try-enter, try-explore, try-end}
 use Rattle.lassos.proofs.outer_search.try_state.Statement.{statement}
 use Rattle.lassos.proofs.outer_search.try_state.Tie as tie
 
 flags-of-requires : tie.Need-flags-of-requires
-flags-of-requires c κs = try-few (c .before .before .before .before .pre)
+flags-of-requires c κs = try-reads (c .before .before .before .before .pre)
 
 returns : tie.Need-returns
 returns c =
@@ -37,7 +37,7 @@ module _ (c : tie.Else2) where
   start = flags .before .before .before .before .before
 
 head-of-requires : tie.Need-head-of-requires
-head-of-requires c κs = try-few (start (c .before) .pre)
+head-of-requires c κs = try-reads (start (c .before) .pre)
 
 enter-requires : tie.Need-enter-requires
 enter-requires c κs =
