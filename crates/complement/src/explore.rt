@@ -6,6 +6,7 @@ ghost use mathlib.Core.Path.{_≡_};
 ghost use mathlib.Core.List.{[]};
 ghost use Prim.Native.Nat.{_≤_};
 ghost use lib.ListN.{length};
+ghost use Rattle.sets.specs.Sets.{Narrow};
 ghost use Rattle.automata.specs.System.{an-edge, add-edge, add-all, by-letters};
 ghost use Rattle.ncsb.specs.Moves.{Moves};
 ghost use Rattle.ncsb.specs.Successors.{ncsb, successors, initials};
@@ -97,7 +98,7 @@ fn meet(
 
 // Meets the successors of a state on one letter, by rising choice.
 fn add_successors(
-    masks: [[u32; 16]; 32],
+    masks: &[[u32; 16]; 32],
     shape: Shape,
     words: &mut [u16],
     sets: &mut [u32],
@@ -106,8 +107,8 @@ fn add_successors(
     x: Quadruple,
     letter: usize,
 ) -> Progress
-    requires { ⌜ Step-asks (now words) (now sets) found source letter ⌝ }
-    ensures { λ r. ⌜ Turns (add-all (ncsb (array-moves masks shape)) source letter (successors (array-moves masks shape) x letter))
+    requires { ⌜ Narrow (now masks) × Step-asks (now words) (now sets) found source letter ⌝ }
+    ensures { λ r. ⌜ Turns (add-all (ncsb (array-moves (now (masks .entry)) shape)) source letter (successors (array-moves (now (masks .entry)) shape) x letter))
         (now (words .entry)) (now (sets .entry)) found (now (words .exit)) (now (sets .exit)) r ⌝ }
 {
     let asked = x.on_letter(masks, shape.marks, shape.inner, letter);
@@ -134,8 +135,9 @@ fn add_successors(
     progress
 }
 
-// Adds all edges of a state, by rising letter.
-fn expand(
+// The step from one state: all its edges, by rising letter. The masks come by value and are lent on, since a function that indexes an
+// array which it was given by value copies all of it.
+fn step(
     masks: [[u32; 16]; 32],
     shape: Shape,
     words: &mut [u16],
@@ -152,7 +154,7 @@ fn expand(
     let mut progress = found;
     let mut letter = 0;
     while letter < letters {
-        progress = add_successors(masks, shape, words, sets, progress, source, x, letter);
+        progress = add_successors(&masks, shape, words, sets, progress, source, x, letter);
         if progress.full {
             return progress;
         }
@@ -210,7 +212,7 @@ pub(crate) fn explore(
     }
     let mut number = 0;
     while number < found.states {
-        found = expand(masks, shape, words, sets, found, number);
+        found = step(masks, shape, words, sets, found, number);
         if found.full {
             return found;
         }

@@ -57,14 +57,15 @@ impl Quadruple {
     }
 
     // What the letter asks, in the order of the paper's conditions.
-    pub fn on_letter(self, moves: [[u32; 16]; 32], marks: u32, inner: u32, letter: usize) -> Asked
-        ensures { λ r. ⌜ r ≡ asks (from-array moves 0 marks inner) self letter ⌝ }
+    pub fn on_letter(self, moves: &[[u32; 16]; 32], marks: u32, inner: u32, letter: usize) -> Asked
+        requires { ⌜ Narrow (now moves) ⌝ }
+        ensures { λ r. ⌜ r ≡ asks (from-array (now (moves .entry)) 0 marks inner) self letter ⌝ }
     {
         // Tracing the reachable states: N' is d1 of N; C' and S' together are dt of N joined with d2 of C and S.
-        let reached = sets::targets(&moves, letter, self.N);
-        let leaving = sets::targets(&moves, letter, self.C & marks);
-        let staying = sets::targets(&moves, letter, sets::without(self.C, marks));
-        let safe = sets::targets(&moves, letter, self.S);
+        let reached = sets::targets(moves, letter, self.N);
+        let leaving = sets::targets(moves, letter, self.C & marks);
+        let staying = sets::targets(moves, letter, sets::without(self.C, marks));
+        let safe = sets::targets(moves, letter, self.S);
         let moving = (reached & inner) | leaving;
         // Safe runs stay safe, and only runs that leave an accepting state or enter Q2 can become safe.
         let bound = marks | (safe | staying);
@@ -74,8 +75,8 @@ impl Quadruple {
             staying,
             safe,
             free: sets::without(moving, bound),
-            ends: self.dead_end(&moves, marks, letter),
-            followed: sets::targets(&moves, letter, self.B),
+            ends: self.dead_end(moves, marks, letter),
+            followed: sets::targets(moves, letter, self.B),
         }
     }
 

@@ -10,21 +10,21 @@ use Rattle.complement.proofs.explore.add_successors.Statement.{statemen
 use Rattle.complement.proofs.explore.add_successors.Tie as tie
 
 abbrev Inv-loop : tie.InvT-loop
-Inv-loop words₀ sets₀ source x letter asked choices progress₀ choice₀ words sets progress choice =
+Inv-loop masks words₀ sets₀ source x letter asked choices progress₀ choice₀ words sets progress choice =
     (choice ≤ choices) × Choosing (nth-successor x asked) source letter words₀ sets₀ progress₀ words sets progress choice
 
 abbrev μ-loop : tie.MeasureT-loop
-μ-loop words₀ sets₀ source x letter asked choices progress₀ choice₀ words sets progress choice = choices - choice
+μ-loop masks words₀ sets₀ source x letter asked choices progress₀ choice₀ words sets progress choice = choices - choice
 
 on-letter-requires : tie.Need-on-letter-requires Inv-loop μ-loop
-on-letter-requires c κs = tt
+on-letter-requires c κs = c .before .before .pre .0
 
 blocked-requires : tie.Need-blocked-requires Inv-loop μ-loop
 blocked-requires c κs = tt
 
 returns : tie.Need-returns Inv-loop μ-loop
 returns c =
-    letter-blocked (c .before .before .before .before .before .args .masks) (c .before .before .before .before .before .args .shape) (c .before .before .before .before .before .args .x) (c .before .before .before .before .before .args .source) (c .before .before .before .before .before .args .letter) (c .before .before .on-letter .ensures) (c .before .blocked .ensures) (c .if1 .taken)
+    letter-blocked (c .before .before .before .before .before .args .masks .now) (c .before .before .before .before .before .args .shape) (c .before .before .before .before .before .args .x) (c .before .before .before .before .before .args .source) (c .before .before .before .before .before .args .letter) (c .before .before .on-letter .ensures) (c .before .blocked .ensures) (c .if1 .taken)
 
 choices-requires : tie.Need-choices-requires Inv-loop μ-loop
 choices-requires c κs = tt
@@ -43,7 +43,7 @@ successor-requires c κs = tt
 
 meet-requires : tie.Need-meet-requires Inv-loop μ-loop
 meet-requires c κs =
-    choose-asks (c .before .before .before .before .loop .inv .1) (array-moves (c .before .before .before .before .before .before .before .before .before .before .before .args .masks) (c .before .before .before .before .before .before .before .before .before .before .before .args .shape)) (c .before .before .before .before .before .before .before .before .before .before .before .pre)
+    choose-asks (c .before .before .before .before .loop .inv .1) (array-moves (c .before .before .before .before .before .before .before .before .before .before .before .args .masks .now) (c .before .before .before .before .before .before .before .before .before .before .before .args .shape)) (c .before .before .before .before .before .before .before .before .before .before .before .pre .1)
 
 same-length : tie.Need-same-length Inv-loop μ-loop
 same-length c = c .before .before .before .before .before .meet .kept .0 ∙ (c .before .before .before .before .before .before .before .before .before .before .loop .inv .1 .words-size)
@@ -53,7 +53,7 @@ same-length-2 c = c .before .before .before .before .before .meet .kept .1 .0 �
 
 returns-2 : tie.Need-returns-2 Inv-loop μ-loop
 returns-2 c =
-    letter-full (c .before .before .before .before .before .before .before .before .before .before .before .before .before .before .before .before .before .args .masks) (c .before .before .before .before .before .before .before .before .before .before .before .before .before .before .before .before .before .args .shape) (c .before .before .before .before .before .before .before .before .before .before .before .before .before .before .before .before .before .args .x) (c .before .before .before .before .before .before .before .before .before .before .before .before .before .before .before .before .before .args .source) (c .before .before .before .before .before .before .before .before .before .before .before .before .before .before .before .before .before .args .letter) (c .before .before .before .before .before .before .before .before .before .before .before .before .before .before .on-letter .ensures) (c .before .before .before .before .before .before .before .before .before .before .before .before .before .blocked .ensures) (c .before .before .before .before .before .before .before .before .before .before .before .before .if1 .left) (c .before .before .before .before .before .before .before .before .before .before .before .choices .ensures)
+    letter-full (c .before .before .before .before .before .before .before .before .before .before .before .before .before .before .before .before .before .args .masks .now) (c .before .before .before .before .before .before .before .before .before .before .before .before .before .before .before .before .before .args .shape) (c .before .before .before .before .before .before .before .before .before .before .before .before .before .before .before .before .before .args .x) (c .before .before .before .before .before .before .before .before .before .before .before .before .before .before .before .before .before .args .source) (c .before .before .before .before .before .before .before .before .before .before .before .before .before .before .before .before .before .args .letter) (c .before .before .before .before .before .before .before .before .before .before .before .before .before .before .on-letter .ensures) (c .before .before .before .before .before .before .before .before .before .before .before .before .before .blocked .ensures) (c .before .before .before .before .before .before .before .before .before .before .before .before .if1 .left) (c .before .before .before .before .before .before .before .before .before .before .before .choices .ensures)
     (c .before .before .before .before .before .before .before .before .before .before .loop .inv .1) (c .before .before .before .before .before .before .successor .ensures) (c .before .before .before .before .before .meet .ensures) (c .before .before .before .before .before .before .before .before .before .loop-test .taken) (c .if2 .taken)
 
 add-choice : tie.Need-add-choice Inv-loop μ-loop
@@ -76,7 +76,7 @@ same-length-4 c = c .before .loop .inv .1 .sets-size
 
 returns-3 : tie.Need-returns-3 Inv-loop μ-loop
 returns-3 c =
-    letter-end (c .before .before .before .before .before .before .before .before .args .masks) (c .before .before .before .before .before .before .before .before .args .shape) (c .before .before .before .before .before .before .before .before .args .x) (c .before .before .before .before .before .before .before .before .args .source) (c .before .before .before .before .before .before .before .before .args .letter) (c .before .before .before .before .before .on-letter .ensures) (c .before .before .before .before .blocked .ensures) (c .before .before .before .if1 .left) (c .before .before .choices .ensures)
+    letter-end (c .before .before .before .before .before .before .before .before .args .masks .now) (c .before .before .before .before .before .before .before .before .args .shape) (c .before .before .before .before .before .before .before .before .args .x) (c .before .before .before .before .before .before .before .before .args .source) (c .before .before .before .before .before .before .before .before .args .letter) (c .before .before .before .before .before .on-letter .ensures) (c .before .before .before .before .blocked .ensures) (c .before .before .before .if1 .left) (c .before .before .choices .ensures)
     (c .before .loop .inv .1) (c .before .loop .inv .0) (c .loop-test .left)
 
 pub add-successors-spec : {M : Type 1} → statement M

@@ -1,4 +1,4 @@
--- `explore` expands the states in number order. The invariant: what the buffers keep is what exploring has found before this state. Assumes nothing.
+-- `explore` steps from the states in number order. The invariant: what the buffers keep is what exploring has found before this state. Assumes nothing.
 use mathlib.Core.Path.{_≡_, refl, _∙_}
 use Prim.Native.Nat.{ℕ, _-_}
 use native.Mathlib.Omega.{arith}
@@ -37,22 +37,22 @@ loop-holds c = (
   λ t read. begin-within t (read .passed) (read .masked) (read .shaped) (c .before .before .before .before .before .before .before .pre .words-clear) (c .before .before .before .store-initials .ensures) (c .if1 .left),
 )
 
-expand-requires : tie.Need-expand-requires Inv-loop μ-loop
-expand-requires c κs =
+step-requires : tie.Need-step-requires Inv-loop μ-loop
+step-requires c κs =
     let read = c .before .before .before .before .before .before .before .before .before .before .before .before .pre .read-off in
     expand-asks (c .before .before .before .before .before .before .before .before .before .before .before .before .pre .table) (read .passed) (read .masked) (read .shaped) ((c .before .before .before .before .loop .inv .2) (c .before .before .before .before .before .before .before .before .before .before .before .before .pre .table) read) (c .before .before .if2 .taken)
 
 same-length-2 : tie.Need-same-length-2 Inv-loop μ-loop
-same-length-2 c = c .before .before .before .before .before .expand .kept .1 .1 .0 ∙ (c .before .before .before .before .before .before .before .before .before .before .loop .inv .0)
+same-length-2 c = c .before .before .before .before .before .step .kept .1 .1 .0 ∙ (c .before .before .before .before .before .before .before .before .before .before .loop .inv .0)
 
 same-length-3 : tie.Need-same-length-3 Inv-loop μ-loop
-same-length-3 c = c .before .before .before .before .before .expand .kept .1 .1 .1 .0 ∙ (c .before .before .before .before .before .before .before .before .before .before .loop .inv .1) ∙ (c .before .before .before .before .before .before .before .before .before .before .before .before .before .before .store-initials .kept .1 .0)
+same-length-3 c = c .before .before .before .before .before .step .kept .1 .1 .1 .0 ∙ (c .before .before .before .before .before .before .before .before .before .before .loop .inv .1) ∙ (c .before .before .before .before .before .before .before .before .before .before .before .before .before .before .store-initials .kept .1 .0)
 
 returns-2 : tie.Need-returns-2 Inv-loop μ-loop
 returns-2 c =
     record {
       ends = λ t read.
-          expand-full t (read .passed) (read .masked) (read .shaped) ((c .before .before .before .before .before .before .before .before .before .before .loop .inv .2) t read) (c .before .before .before .before .before .before .before .before .if2 .taken) (c .before .before .before .before .before .expand .ensures) (c .if3 .taken);
+          expand-full t (read .passed) (read .masked) (read .shaped) ((c .before .before .before .before .before .before .before .before .before .before .loop .inv .2) t read) (c .before .before .before .before .before .before .before .before .if2 .taken) (c .before .before .before .before .before .step .ensures) (c .if3 .taken);
     }
 
 add-number : tie.Need-add-number Inv-loop μ-loop
@@ -67,10 +67,10 @@ loop-less c =
 
 loop-again : tie.Need-loop-again Inv-loop μ-loop
 loop-again c = (
-  (c .before .before .before .before .before .expand .kept .1 .1 .0) ∙ (c .before .before .before .before .before .before .before .before .before .before .loop .inv .0),
-  (c .before .before .before .before .before .expand .kept .1 .1 .1 .0) ∙ (c .before .before .before .before .before .before .before .before .before .before .loop .inv .1),
+  (c .before .before .before .before .before .step .kept .1 .1 .0) ∙ (c .before .before .before .before .before .before .before .before .before .before .loop .inv .0),
+  (c .before .before .before .before .before .step .kept .1 .1 .1 .0) ∙ (c .before .before .before .before .before .before .before .before .before .before .loop .inv .1),
   λ t read.
-      expand-turn t (read .passed) (read .masked) (read .shaped) ((c .before .before .before .before .before .before .before .before .before .before .loop .inv .2) t read) (c .before .before .before .before .before .before .before .before .if2 .taken) (c .before .before .before .before .before .expand .ensures) (c .if3 .left),
+      expand-turn t (read .passed) (read .masked) (read .shaped) ((c .before .before .before .before .before .before .before .before .before .before .loop .inv .2) t read) (c .before .before .before .before .before .before .before .before .if2 .taken) (c .before .before .before .before .before .step .ensures) (c .if3 .left),
 )
 
 same-length-4 : tie.Need-same-length-4 Inv-loop μ-loop
@@ -93,7 +93,7 @@ explore-spec =
     same-length
     returns
     loop-holds
-    expand-requires
+    step-requires
     same-length-2
     same-length-3
     returns-2

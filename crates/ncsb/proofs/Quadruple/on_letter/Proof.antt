@@ -5,8 +5,8 @@ use mathlib.Core.List.{List}
 use Prim.Native.Nat.{ℕ}
 use lib.Bits.{bitAnd, bitOr}
 use borrow.Author.Needs.{needs}
-use Rattle.sets.specs.Sets.{Narrow, without}
-use Rattle.sets.proofs.Grid.{narrow}
+use denote.Ref.{now}
+use Rattle.sets.specs.Sets.{without}
 use Rattle.ncsb.specs.Array.{asks, from-array}
 use Rattle.ncsb.specs.Successors.{dead-end, entering, free, leaving, next-N, staying, staying-safe, targets, tracked}
 use Rattle.ncsb.specs.declared.Asked.{Asked}
@@ -36,23 +36,20 @@ asked-of :
 unfolding asks from-array next-N entering staying-safe staying leaving tracked dead-end free
 asked-of m f q2 c x r l a st s o op e fo = rw (fo, e, op, o, s, st, a, l, r)
 
-rows : (start : tie.Start) → Narrow (start .args .t2)
-rows start = narrow (start .args .t2) _ (start .good .1 .0)
-
 targets-requires : tie.Need-targets-requires
-targets-requires c κs = rows (c .before)
+targets-requires c κs = c .pre
 
 targets-requires-2 : tie.Need-targets-requires-2
-targets-requires-2 c κs = rows (c .before .before .before .before)
+targets-requires-2 c κs = c .before .before .pre
 
 without-requires : tie.Need-without-requires
 without-requires c κs = search needs
 
 targets-requires-3 : tie.Need-targets-requires-3
-targets-requires-3 c κs = rows (c .before .before .before .before .before .before .before)
+targets-requires-3 c κs = c .before .before .before .before .pre
 
 targets-requires-4 : tie.Need-targets-requires-4
-targets-requires-4 c κs = rows (c .before .before .before .before .before .before .before .before .before)
+targets-requires-4 c κs = c .before .before .before .before .before .pre
 
 without-requires-2 : tie.Need-without-requires-2
 without-requires-2 c κs = search needs
@@ -61,24 +58,24 @@ without-requires-3 : tie.Need-without-requires-3
 without-requires-3 c κs = search needs
 
 dead-end-requires : tie.Need-dead-end-requires
-dead-end-requires c κs = rows (c .before .before .before .before .before .before .before .before .before .before .before .before .before)
+dead-end-requires c κs = c .before .before .before .before .before .before .before .before .pre
 
 targets-requires-5 : tie.Need-targets-requires-5
-targets-requires-5 c κs = rows (c .before .before .before .before .before .before .before .before .before .before .before .before .before .before .before)
+targets-requires-5 c κs = c .before .before .before .before .before .before .before .before .before .pre
 
 returns : tie.Need-returns
 unfolding targets from-array
 returns c =
-    let args = c .before .before .before .before .before .before .before .before .before .before .before .before .before .before .before .before .args in
-    asked-of (args .t2) (args .marks) (args .inner) (args .letter) (args .self)
-    (c .before .before .before .before .before .before .before .before .before .before .before .before .before .before .targets .ensures)
-    (c .before .before .before .before .before .before .before .before .before .before .before .targets2 .ensures)
-    (c .before .before .before .before .before .before .before .before .before .without .ensures)
-    (c .before .before .before .before .before .before .before .before .targets3 .ensures)
-    (c .before .before .before .before .before .before .targets4 .ensures)
-    (c .before .before .before .before .before .without2 .ensures)
-    (c .before .before .before .before .without3 .ensures)
-    (c .before .before .dead-end .ensures)
+    let args = c .before .before .before .before .before .before .before .before .before .before .args in
+    asked-of (now (args .moves)) (args .marks) (args .inner) (args .letter) (args .self)
+    (c .before .before .before .before .before .before .before .before .before .targets .ensures)
+    (c .before .before .before .before .before .before .before .targets2 .ensures)
+    (c .before .before .before .before .before .before .without .ensures)
+    (c .before .before .before .before .before .targets3 .ensures)
+    (c .before .before .before .before .targets4 .ensures)
+    (c .before .before .before .without2 .ensures)
+    (c .before .before .without3 .ensures)
+    (c .before .dead-end .ensures)
     (c .targets5 .ensures)
 
 pub on-letter-spec : {M : Type 1} → statement M
