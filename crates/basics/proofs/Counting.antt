@@ -54,7 +54,7 @@ count-past j (suc k) f l h =
 
 -- f and g agree but for one number, a hit of f alone
 pub count-one :
-    (k : ℕ) (f g : ℕ → Bool) (j : ℕ) → j < k → f j ≡ true → g j ≡ false → ((i : ℕ) → (i ≡ j → ⊥) → f i ≡ g i) →
+    (k : ℕ) (f g : ℕ → Bool) (j : ℕ) → j < k → f j ≡ true → g j ≡ false → ((i : ℕ) → i < k → (i ≡ j → ⊥) → f i ≡ g i) →
     count k f ≡ suc (count k g)
 unfolding count
 count-one zero f g j l y n h = absurd (omega arith)
@@ -64,11 +64,11 @@ count-one (suc k) f g j l y n h =
           let s = eqb-eq j k e in
           let y′ : f k ≡ true = rw s at y in
           let n′ : g k ≡ false = rw s at n in
-          let same = count-same k f g (λ i m. h i (λ q. omega arith)) in rw (y′, n′) (omega arith)
+          let same = count-same k f g (λ i m. h i (omega arith) (λ q. omega arith)) in rw (y′, n′) (omega arith)
       | inr e ↦
           let d = eqb-ne j k e in
-          let ih = count-one k f g j (omega arith) y n h in
-          let s = h k (λ q. d (sym q)) in rw s (omega arith)
+          let ih = count-one k f g j (omega arith) y n (λ i m. h i (omega arith)) in
+          let s = h k (omega arith) (λ q. d (sym q)) in rw s (omega arith)
     ]
 
 -- the hits of f are those that are hits of g too, and those that are not

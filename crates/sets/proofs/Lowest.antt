@@ -102,7 +102,7 @@ unfolding size
 lowest-size {s} {t} {rest} w q l =
     let out : has rest t ≡ false = w .others t ∙ and-false-r (has s t) (not-true (eqb-self t)) in
     count-one q (has s) (has rest) t l (w .member) out
-    (λ i n.
+    (λ i b n.
     let e = ne-eqb i t n in
     elim (either (has s i)) [ inl h ↦ cc (w .others i) | inr h ↦ cc (w .others i) ])
 

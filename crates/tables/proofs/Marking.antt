@@ -15,87 +15,100 @@ use Rattle.basics.specs.Packed.{digit, packed, raised}
 use Rattle.basics.proofs.Booleans.{either, and-false-l, and-false-r, eqb-eq, eq-eqb, eqb-ne, ne-eqb}
 use Rattle.basics.proofs.Bounded.{each-same, count-le}
 use Rattle.basics.proofs.Counting.{count-hit, count-none, count-one}
-use Rattle.basics.proofs.Packed.{digit-fits, packed-lt, packed-zero, packed-raised, packed-others, raised-length}
-use Rattle.tables.specs.Marks.{marked, marks, Mark, nothing, first, again, Marked, Names, all, wrong, twice, Heads-named, Nexts-named}
+use Rattle.basics.proofs.Packed.{digit-fits, packed-zero, packed-raised, packed-others, raised-length}
+use Rattle.tables.specs.Marks.{place, marked, marks, Mark, nothing, first, again, Marked, Names, all, wrong, twice, Heads-named, Nexts-named}
 use Rattle.tables.specs.Table.{n-of, m-of, head-of, next-of, heads-good, nexts-good, named, chains-good}
 use Rattle.tables.proofs.Scans.{Scan, scan-done, scan-fails}
 
 -- ONE BIT, as the code reads and writes it
-module _ (w : List ℕ) (x : ℕ) where
-  pub bit-clear : getD w (x / 32) 0 / 2 ^ (x % 32) % 2 ≡ 0 → marked w x ≡ 0
-  unfolding marked packed digit
-  bit-clear e = e
+module _ (w : List ℕ) (x : ℕ) (small : x < 65536) where
+  word-of : place x / 32 ≡ x % 2048
+  unfolding place
+  word-of = omega arith
 
-  pub bit-set : (getD w (x / 32) 0 / 2 ^ (x % 32) % 2 ≡ 0 → ⊥) → marked w x ≡ 1
-  unfolding marked packed digit
-  bit-set h = omega arith
+  bit-of : place x % 32 ≡ x / 2048
+  unfolding place
+  bit-of = omega arith
 
-  shifted : 1 * 2 ^ (x % 32) % 2 ^ 32 ≡ 1 * 2 ^ (x % 32)
-  shifted = mod-eq-of-lt (rw (one-mul (2 ^ (x % 32))) (pow-lt {i = x % 32} {j = 32} (omega arith)))
+  same-place : {y : ℕ} → y < 65536 → place y ≡ place x → y ≡ x
+  unfolding place
+  same-place few e = omega arith
+
+  read : marked w x ≡ getD w (x % 2048) 0 / 2 ^ (x / 2048) % 2
+  unfolding marked packed digit
+  read = rw (word-of, bit-of)
+
+  pub bit-clear : getD w (x % 2048) 0 / 2 ^ (x / 2048) % 2 ≡ 0 → marked w x ≡ 0
+  bit-clear e = read ∙ e
+
+  pub bit-set : (getD w (x % 2048) 0 / 2 ^ (x / 2048) % 2 ≡ 0 → ⊥) → marked w x ≡ 1
+  bit-set h = let r = read in omega arith
+
+  shifted : 1 * 2 ^ (x / 2048) % 2 ^ 32 ≡ 1 * 2 ^ (x / 2048)
+  shifted = mod-eq-of-lt (rw (one-mul (2 ^ (x / 2048))) (pow-lt {i = x / 2048} {j = 32} (omega arith)))
 
   pub bit-fits :
-      getD w (x / 32) 0 < 2 ^ 32 → getD w (x / 32) 0 / 2 ^ (x % 32) % 2 ≡ 0 →
-      getD w (x / 32) 0 + 1 * 2 ^ (x % 32) % 2 ^ 32 < 2 ^ 32
+      getD w (x % 2048) 0 < 2 ^ 32 → getD w (x % 2048) 0 / 2 ^ (x / 2048) % 2 ≡ 0 →
+      getD w (x % 2048) 0 + 1 * 2 ^ (x / 2048) % 2 ^ 32 < 2 ^ 32
   unfolding digit
   bit-fits l e =
-      rw shifted (digit-fits 2 (omega arith) 1 32 (getD w (x / 32) 0) (x % 32) l (omega arith) (omega arith))
+      rw shifted (digit-fits 2 (omega arith) 1 32 (getD w (x % 2048) 0) (x / 2048) l (omega arith) (omega arith))
 
-  pub bit-raised : set w (x / 32) (getD w (x / 32) 0 + 1 * 2 ^ (x % 32) % 2 ^ 32) ≡ raised 2 32 w x 1
+  pub bit-raised : set w (x % 2048) (getD w (x % 2048) 0 + 1 * 2 ^ (x / 2048) % 2 ^ 32) ≡ raised 2 32 w (place x) 1
   unfolding raised
-  bit-raised = rw shifted
-
-  bit-lt : marked w x < 2
-  unfolding marked
-  bit-lt = packed-lt 2 (omega arith) 32 w x
+  bit-raised = rw (shifted, word-of, bit-of)
 
   -- a record that was not marked before is marked, and no other is touched
-  module _ (inside : x / 32 < length w) (clear : marked w x ≡ 0) where
-    within : packed 2 32 w x + 1 < 2
+  module _ (long : 2048 ≤ length w) (clear : marked w x ≡ 0) where
+    inside : place x / 32 < length w
+    inside = let e = word-of in omega arith
+
+    within : packed 2 32 w (place x) + 1 < 2
     unfolding marked
     within = let c = clear in omega arith
 
-    here : marked (raised 2 32 w x 1) x ≡ 1
+    here : marked (raised 2 32 w (place x) 1) x ≡ 1
     unfolding marked
-    here = let c = clear in let p = packed-raised 2 (omega arith) 32 w x 1 inside within in omega arith
+    here = let c = clear in let p = packed-raised 2 (omega arith) 32 w (place x) 1 inside within in omega arith
 
-    elsewhere : (y : ℕ) → (y ≡ x → ⊥) → marked (raised 2 32 w x 1) y ≡ marked w y
+    elsewhere : (y : ℕ) → y < 65536 → (y ≡ x → ⊥) → marked (raised 2 32 w (place x) 1) y ≡ marked w y
     unfolding marked
-    elsewhere y ne = packed-others 2 (omega arith) 32 w x 1 inside within y ne
+    elsewhere y few ne = packed-others 2 (omega arith) 32 w (place x) 1 inside within (place y) (λ e. ne (same-place few e))
 
 -- one record more is marked
 raised-counts :
-    (w : List ℕ) (j m : ℕ) → suc j / 32 < length w → marked w (suc j) ≡ 0 → j < m →
-    marks m (raised 2 32 w (suc j) 1) ≡ suc (marks m w)
+    (w : List ℕ) (j m : ℕ) → 2048 ≤ length w → marked w (suc j) ≡ 0 → j < m → m < 65536 →
+    marks m (raised 2 32 w (place (suc j)) 1) ≡ suc (marks m w)
 unfolding marks
-raised-counts w j m inside clear l =
-    count-one m (λ i. eqb (marked (raised 2 32 w (suc j) 1) (suc i)) 1) (λ i. eqb (marked w (suc i)) 1) j l
-    (eq-eqb (here w (suc j) inside clear))
+raised-counts w j m long clear l few =
+    count-one m (λ i. eqb (marked (raised 2 32 w (place (suc j)) 1) (suc i)) 1) (λ i. eqb (marked w (suc i)) 1) j l
+    (eq-eqb (here w (suc j) (omega arith) long clear))
     (ne-eqb (marked w (suc j)) 1 (λ e. omega arith))
-    (λ i ne. rw (elsewhere w (suc j) inside clear (suc i) (λ q. ne (omega arith))))
+    (λ i below ne. rw (elsewhere w (suc j) (omega arith) long clear (suc i) (omega arith) (λ q. ne (omega arith))))
 
 -- ONE LINK: what it adds to a record's mark, and to how many are marked
 mark-adds :
-    {link new : ℕ} {before after : List ℕ} → link / 32 < length before → Mark link before after new → new ≤ 1 → (x : ℕ) → 1 ≤ x →
-    marked after x ≡ marked before x + cond (eqb link x) 1 0
-mark-adds {link} inside (nothing z e) y x o = rw (e, ne-eqb link x (λ q. omega arith)) (omega arith)
-mark-adds {link} {before = before} inside (first p z e) y x o =
+    {link new : ℕ} {before after : List ℕ} → 2048 ≤ length before → link < 65536 → Mark link before after new → new ≤ 1 → (x : ℕ) →
+    1 ≤ x → x < 65536 → marked after x ≡ marked before x + cond (eqb link x) 1 0
+mark-adds {link} long small (nothing z e) y x o few = rw (e, ne-eqb link x (λ q. omega arith)) (omega arith)
+mark-adds {link} {before = before} long small (first p z e) y x o few =
     elim (either (eqb link x)) [
-      | inl q ↦ rw (e, q, ← eqb-eq link x q, here before link inside z, z)
-      | inr q ↦ rw (e, q, elsewhere before link inside z x (λ h. eqb-ne link x q (sym h))) (omega arith)
+      | inl q ↦ rw (e, q, ← eqb-eq link x q, here before link small long z, z)
+      | inr q ↦ rw (e, q, elsewhere before link small long z x few (λ h. eqb-ne link x q (sym h))) (omega arith)
     ]
-mark-adds inside (again p g e) y x o = absurd (omega arith)
+mark-adds long small (again p g e) y x o few = absurd (omega arith)
 
 mark-counts :
-    (link m : ℕ) {new : ℕ} {before after : List ℕ} → link / 32 < length before → Mark link before after new → new ≤ 1 → link ≤ m →
-    marks m after ≡ marks m before + new
-mark-counts link m inside (nothing z e) y l = rw e (omega arith)
-mark-counts zero m inside (first p z e) y l = absurd (omega arith)
-mark-counts (suc j) m {before = before} inside (first p z e) y l = rw (e, raised-counts before j m inside z l) (omega arith)
-mark-counts link m inside (again p g e) y l = absurd (omega arith)
+    (link m : ℕ) {new : ℕ} {before after : List ℕ} → 2048 ≤ length before → m < 65536 → Mark link before after new → new ≤ 1 →
+    link ≤ m → marks m after ≡ marks m before + new
+mark-counts link m long few (nothing z e) y l = rw e (omega arith)
+mark-counts zero m long few (first p z e) y l = absurd (omega arith)
+mark-counts (suc j) m {before = before} long few (first p z e) y l = rw (e, raised-counts before j m long z l few) (omega arith)
+mark-counts link m long few (again p g e) y l = absurd (omega arith)
 
 mark-kept : {link new : ℕ} {before after : List ℕ} → Mark link before after new → length after ≡ length before
 mark-kept (nothing z e) = rw e
-mark-kept {link} {before = before} (first p z e) = rw e (raised-length 2 (omega arith) 32 before link 1)
+mark-kept {link} {before = before} (first p z e) = rw e (raised-length 2 (omega arith) 32 before (place link) 1)
 mark-kept (again p g e) = rw e
 
 mark-again : {link new : ℕ} {before after : List ℕ} → Mark link before after new → 1 < new → (1 ≤ link) × (marked before link ≡ 1)
@@ -117,16 +130,16 @@ marked-few {m = m} {after = after} s =
 
 -- one turn: a is the link that was read
 module _ {link : ℕ → ℕ} {i m names a new : ℕ} {before seen after : List ℕ} (s : Marked link i m names before seen) (read : a ≡ link i) (one : Mark a seen after new) where
-  pub marked-more : a / 32 < length seen → a ≤ m → new ≤ 1 → Marked link (i + 1) m (names + new) before after
+  pub marked-more : 2048 ≤ length seen → m < 65536 → a ≤ m → new ≤ 1 → Marked link (i + 1) m (names + new) before after
   unfolding count
-  marked-more inside small y =
+  marked-more long few small y =
       record {
         kept = mark-kept one ∙ s .kept;
         adds =
             λ x o l.
-            let this : marked after x ≡ marked seen x + cond (eqb (link i) x) 1 0 = rw read at (mark-adds inside one y x o) in
+            let this : marked after x ≡ marked seen x + cond (eqb (link i) x) 1 0 = rw read at (mark-adds long (omega arith) one y x o (omega arith)) in
             let earlier = s .adds x o l in rw (add-one i) (omega arith);
-        counted = let this = mark-counts a m inside one y small in let earlier = s .counted in omega arith;
+        counted = let this = mark-counts a m long few one y small in let earlier = s .counted in omega arith;
       }
 
   pub marked-twice : (good : ℕ → Bool) (k : ℕ) {answer : ℕ} → i < k → a ≤ m → 1 < new → answer ≡ m + 1 → Names good link k m before after answer
@@ -186,7 +199,7 @@ zeros (suc k) (suc i) = zeros k i
 
 clear : (k x : ℕ) → marked (replicate k 0) x ≡ 0
 unfolding marked
-clear k x = packed-zero 2 (omega arith) 32 (replicate k 0) x (zeros k (x / 32))
+clear k x = packed-zero 2 (omega arith) 32 (replicate k 0) (place x) (zeros k (place x / 32))
 
 none-marked : (k m : ℕ) → marks m (replicate k 0) ≡ 0
 unfolding marks

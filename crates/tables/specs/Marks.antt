@@ -3,16 +3,21 @@
 use mathlib.Core.Path.{_≡_}
 use mathlib.Core.Bool.{Bool, true, false, _&&_, _||_}
 use mathlib.Core.List.{List}
-use Prim.Native.Nat.{ℕ, suc, _+_, _≤_}
+use Prim.Native.Nat.{ℕ, suc, _+_, _*_, _/_, _%_, _≤_}
 use lib.Dec.{leb, ltb, eqb}
 use lib.ListN.{length}
 use Rattle.basics.specs.Bounded.{each, count}
 use Rattle.basics.specs.Packed.{packed, raised}
 use Rattle.tables.specs.Table.{n-of, m-of, head-of, next-of}
 
+-- where a record's mark stands: bit x / 2048 of word x % 2048. Records that follow each other have their marks in different words,
+-- so that marking one need not wait until the other is stored
+unfoldable pub place : (number : ℕ) → ℕ
+place x = 32 * (x % 2048) + x / 2048
+
 -- a record's mark: one bit of a word
 unfoldable pub marked : (seen : List ℕ) → (number : ℕ) → ℕ
-marked w x = packed 2 32 w x
+marked w x = packed 2 32 w (place x)
 
 -- how many of the records from 1 to m are marked
 unfoldable pub marks : (m : ℕ) → (seen : List ℕ) → ℕ
@@ -21,7 +26,7 @@ marks m w = count m (λ i. eqb (marked w (suc i)) 1)
 -- one link, and how many records it marks: zero names nothing, a record not named so far is marked; 2 refuses one that was named already
 pub data Mark (link : ℕ) (before after : List ℕ) : ℕ → Type 0 where
   nothing : link ≡ 0 → after ≡ before → Mark link before after 0
-  first : 1 ≤ link → marked before link ≡ 0 → after ≡ raised 2 32 before link 1 → Mark link before after 1
+  first : 1 ≤ link → marked before link ≡ 0 → after ≡ raised 2 32 before (place link) 1 → Mark link before after 1
   again : 1 ≤ link → marked before link ≡ 1 → after ≡ before → Mark link before after 2
 
 -- after k links: each mark has grown by how often they name its record, and so many records more are marked

@@ -143,11 +143,11 @@ fn mark(seen: &mut [u32], link: usize) -> usize
     if link == 0 {
         return 0;
     }
-    let word = seen[link / 32];
-    if (word >> (link % 32)) % 2 != 0 {
+    let word = seen[link % 2048];
+    if (word >> (link / 2048)) % 2 != 0 {
         return 2;
     }
-    seen[link / 32] = word + (1 << (link % 32));
+    seen[link % 2048] = word + (1 << (link / 2048));
     1
 }
 

@@ -1,7 +1,7 @@
 -- `tables::mark` meets its contract: three ways out, one for each case. Assumes nothing.
 use borrow.Author.Needs.{needs}
 use mathlib.Core.Path.{refl}
-use Prim.Native.Nat.{_/_}
+use Prim.Native.Nat.{_%_}
 use native.Mathlib.Omega.{arith}
 use denote.Ref.{now}
 use Rattle.tables.specs.Marks.{nothing, first, again}
@@ -25,7 +25,7 @@ shr-if2 : tie.Need-shr-if2
 shr-if2 c = search needs
 
 returns-2 : tie.Need-returns-2
-returns-2 c = again (omega arith) (bit-set _ _ (c .if2 .taken)) refl
+returns-2 c = again (omega arith) (bit-set _ _ (c .before .before .before .pre .1) (c .if2 .taken)) refl
 
 cast-seen : tie.Need-cast-seen
 cast-seen c = search needs
@@ -37,7 +37,7 @@ add-seen : tie.Need-add-seen
 add-seen c =
     let seen = now (c .before .before .before .args .seen) in
     let link = c .before .before .before .args .link in
-    record { fits = bit-fits seen link (c .before .slice-known .given (link / 32) .fits) (c .if2 .left) }
+    record { fits = bit-fits seen link (c .before .before .before .pre .1) (c .before .slice-known .given (link % 2048) .fits) (c .if2 .left) }
 
 mul-seen : tie.Need-mul-seen
 mul-seen c = search needs
@@ -49,7 +49,7 @@ same-length : tie.Need-same-length
 same-length c = search needs
 
 returns-3 : tie.Need-returns-3
-returns-3 c = first (omega arith) (bit-clear _ _ (c .if2 .left)) (bit-raised _ _)
+returns-3 c = first (omega arith) (bit-clear _ _ (c .before .before .before .pre .1) (c .if2 .left)) (bit-raised _ _ (c .before .before .before .pre .1))
 
 pub mark-spec : {M : Type 1} → statement M
 mark-spec =

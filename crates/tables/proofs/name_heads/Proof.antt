@@ -68,7 +68,8 @@ loop-again : tie.Need-loop-again Inv-loop μ-loop
 loop-again c = (
   scan-more (c .before .before .before .before .before .before .before .before .loop .inv .0) (omega arith) (read-le (c .before .before .before .before .before .before .head-of .ensures .is) (c .before .before .before .before .before .before .before .before .before .records-of .ensures .is) (c .before .before .before .before .before .if1 .left)),
   marked-more (c .before .before .before .before .before .before .before .before .loop .inv .1) (c .before .before .before .before .before .before .head-of .ensures .is) (c .before .before .before .mark .ensures)
-      (omega (arith, c .before .before .before .before .before .before .before .before .before .before .before .before .before .pre .1, c .before .before .before .before .before .before .before .before .loop .inv .1 .kept)) (omega arith) (c .if2 .left),
+      (omega (arith, c .before .before .before .before .before .before .before .before .before .before .before .before .before .pre .1, c .before .before .before .before .before .before .before .before .loop .inv .1 .kept))
+      (omega (arith, c .before .before .before .before .before .before .before .before .before .records-of .ensures .is, c .before .before .before .before .before .before .before .before .before .records-of .ensures .small)) (omega arith) (c .if2 .left),
 )
 
 same-length-3 : tie.Need-same-length-3 Inv-loop μ-loop

@@ -88,6 +88,7 @@ loop-again c =
           (next-passes t i (c .before .before .before .before .before .before .before .before .before .before .records-of .ensures .is) (c .before .before .before .before .before .before .before .next-of .ensures .is) (c .before .before .before .before .before .before .next-good .ensures) (c .before .before .before .before .before .if1 .left)),
       marked-more (c .before .before .before .before .before .before .before .before .before .loop .inv .1) (rw add-one at (c .before .before .before .before .before .before .before .next-of .ensures .is)) (c .before .before .before .mark .ensures)
           (omega (arith, c .before .before .before .before .before .before .before .before .before .before .before .before .before .before .pre .1, c .before .before .before .before .before .before .before .before .before .loop .inv .1 .kept))
+          (omega (arith, c .before .before .before .before .before .before .before .before .before .before .records-of .ensures .is, c .before .before .before .before .before .before .before .before .before .before .records-of .ensures .small))
           (next-small t i (c .before .before .before .before .before .before .before .before .before .before .records-of .ensures .is) (c .before .before .before .before .before .before .before .next-of .ensures .is) (c .before .before .before .before .before .before .next-good .ensures) (c .before .before .before .before .before .if1 .left))
           (c .if2 .left),
     )
