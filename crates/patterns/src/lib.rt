@@ -43,9 +43,11 @@ fn row_of(table: &[u16], states: usize, state: usize) -> [u32; 16]
     let mut row = [0u32; 16];
     let mut at = head_of(table, state);
     while at != 0 {
+        // The next record is read before the set is stored: the walk need not wait for that.
         let letter = letter_of(table, states, at);
-        row[letter] = row[letter] | (1 << target_of(table, states, at));
+        let target = target_of(table, states, at);
         at = next_of(table, states, at);
+        row[letter] = row[letter] | (1 << target);
     }
     row
 }

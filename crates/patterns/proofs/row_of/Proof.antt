@@ -22,37 +22,39 @@ letter-of-requires : tie.Need-letter-of-requires Inv-loop μ-loop
 letter-of-requires c κs =
     walk-record _ _ _ (c .before .before .before .before .pre) _ _ (c .loop-test .taken) (c .before .loop .inv)
 
-array-read-row : tie.Need-array-read-row Inv-loop μ-loop
-array-read-row c =
-    walk-letter _ _ _ (c .before .before .before .before .before .pre) _ _ _ (c .before .loop-test .taken)
-    (c .before .before .loop .inv) (c .letter-of .ensures .is)
-
-mul-row : tie.Need-mul-row Inv-loop μ-loop
-mul-row c = omega (arith, array-read-row c)
-
 target-of-requires : tie.Need-target-of-requires Inv-loop μ-loop
 target-of-requires c κs =
     walk-record _ _ _ (c .before .before .before .before .before .pre) _ _ (c .before .loop-test .taken)
     (c .before .before .loop .inv)
 
+next-of-requires : tie.Need-next-of-requires Inv-loop μ-loop
+next-of-requires c κs =
+    walk-record _ _ _ (c .before .before .before .before .before .before .pre) _ _ (c .before .before .loop-test .taken)
+    (c .before .before .before .loop .inv)
+
+array-read-row : tie.Need-array-read-row Inv-loop μ-loop
+array-read-row c =
+    walk-letter _ _ _ (c .before .before .before .before .before .before .before .pre) _ _ _
+    (c .before .before .before .loop-test .taken)
+    (c .before .before .before .before .loop .inv) (c .before .before .letter-of .ensures .is)
+
+mul-row : tie.Need-mul-row Inv-loop μ-loop
+mul-row c = omega (arith, array-read-row c)
+
 shl-row : tie.Need-shl-row Inv-loop μ-loop
 shl-row c =
-    walk-target _ _ _ (c .before .before .before .before .before .before .pre) _ _ _ (c .before .before .loop-test .taken)
-    (c .before .before .before .loop .inv) (c .target-of .ensures .is)
+    walk-target _ _ _ (c .before .before .before .before .before .before .before .pre) _ _ _
+    (c .before .before .before .loop-test .taken)
+    (c .before .before .before .before .loop .inv) (c .before .target-of .ensures .is)
 
 cast-row : tie.Need-cast-row Inv-loop μ-loop
 cast-row c = omega (arith, shl-row c)
 
 array-write-row : tie.Need-array-write-row Inv-loop μ-loop
-array-write-row c = array-read-row (c .before)
+array-write-row c = array-read-row c
 
 mul-row-2 : tie.Need-mul-row-2 Inv-loop μ-loop
 mul-row-2 c = omega (arith, array-write-row c)
-
-next-of-requires : tie.Need-next-of-requires Inv-loop μ-loop
-next-of-requires c κs =
-    walk-record _ _ _ (c .before .before .before .before .before .before .pre) _ _ (c .before .before .loop-test .taken)
-    (c .before .before .before .loop .inv)
 
 loop-less : tie.Need-loop-less Inv-loop μ-loop
 loop-less c =
@@ -83,14 +85,14 @@ row-of-spec =
     head-of-requires
     loop-holds
     letter-of-requires
+    target-of-requires
+    next-of-requires
     mul-row
     array-read-row
-    target-of-requires
     cast-row
     shl-row
     mul-row-2
     array-write-row
-    next-of-requires
     loop-less
     loop-again
     returns)
