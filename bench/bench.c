@@ -347,18 +347,15 @@ static void fill_loop(uint8_t *loop, size_t len, uint32_t letters)
 /* What a decision of the library took, and how much there was to do. */
 struct cost {
     double seconds, units; /* units: records times positions; 0 where the row was left out */
-    double ratio;          /* beside the reference */
 };
 
-/* What it takes to clear the library's work words once before a decision and once after it. */
+/* What it takes to clear the library's work words once, as it does after a decision. */
 static double clearing(struct input *in, size_t bytes)
 {
     double times[5];
     int i;
     for (i = 0; i < 5; i++) {
         const double start = now();
-        memset(in->work, 0, bytes);
-        in->answer = in->work[0];
         memset(in->work, 0, bytes);
         in->answer = in->work[0];
         times[i] = now() - start;
@@ -374,7 +371,7 @@ static struct cost lasso_row(const char *table_name, const uint16_t *table, size
     struct times times;
     char name[80];
     uint32_t by_library;
-    struct cost cost = {0, 0, 0};
+    struct cost cost = {0, 0};
     snprintf(name, sizeof name, "%s, loop of %zu", table_name, loop_len);
     if (lent > most_lent || (quick && lent > most_lent / 100)) {
         printf("%-44s left out: it would be lent %zu bytes\n", name, lent);
@@ -394,7 +391,6 @@ static struct cost lasso_row(const char *table_name, const uint16_t *table, size
     times = take_turns(lasso_by_library, lasso_by_reference, &in);
     cost.seconds = times.library;
     cost.units = (double)table[2] * (double)loop_len;
-    cost.ratio = times.library / times.reference;
     print_times(name, times);
     printf("%6.2f ns a unit, %s, %zu bytes lent, %.1f us to clear them\n", cost.seconds * 1e9 / cost.units,
            by_library == TUBOCHRE_TAKEN ? "taken" : "not taken", lent, clearing(&in, lent) * 1e6);
@@ -417,37 +413,34 @@ struct spread {
     double least, most;
 };
 
-static void widen(struct spread *s, double unit)
+static void widen(struct spread *s, double value)
 {
-    if (s->least == 0 || unit < s->least)
-        s->least = unit;
-    if (unit > s->most)
-        s->most = unit;
+    if (s->least == 0 || value < s->least)
+        s->least = value;
+    if (value > s->most)
+        s->most = value;
 }
 
-static void print_spread(const char *what, struct spread s, double scale)
+static void print_spread(const char *what, struct spread s, int within)
 {
-    printf("    %s: %.2f to %.2f, %s 30 percent\n", what, s.least * scale, s.most * scale,
-           s.most <= 1.3 * s.least ? "within" : "NOT within");
+    printf("    %s: %.2f to %.2f, %s 30 percent\n", what, s.least, s.most, within ? "within" : "NOT within");
 }
 
-/* Each call also reads its whole table once, however long the lasso is. So units are shown over whole calls, and over
- * what each row has more than the row before it. More work words miss the caches more often, in any search: the ratios
- * beside the reference, whose search is linear too, are free of that. */
+/* Each call also reads its whole table once, however long the lasso is. So growth is shown over whole calls, beside what
+ * the first of them would grow to in proportion, and over what each row has more than the row before it. */
 static void print_growth(const char *what, const struct cost *cost, int count)
 {
-    struct spread whole = {0, 0}, added = {0, 0}, ratio = {0, 0};
+    const double first = cost[0].seconds / cost[0].units;
+    struct spread whole = {0, 0}, added = {0, 0};
     int i;
     for (i = 0; i < count && cost[i].units > 0; i++) {
-        widen(&whole, cost[i].seconds / cost[i].units);
-        widen(&ratio, cost[i].ratio);
+        widen(&whole, cost[i].seconds / cost[i].units / first);
         if (i > 0)
-            widen(&added, (cost[i].seconds - cost[i - 1].seconds) / (cost[i].units - cost[i - 1].units));
+            widen(&added, (cost[i].seconds - cost[i - 1].seconds) / (cost[i].units - cost[i - 1].units) * 1e9);
     }
     printf("%s, %d times doubled:\n", what, i - 1);
-    print_spread("whole calls, ns a unit", whole, 1e9);
-    print_spread("added work, ns a unit", added, 1e9);
-    print_spread("ratio beside the reference", ratio, 1);
+    print_spread("whole calls beside proportional growth", whole, whole.least >= 0.7 && whole.most <= 1.3);
+    print_spread("added work, ns a unit", added, added.most <= 1.3 * added.least);
 }
 
 /* `reach`: how far a state's edges lead: to itself and its next ("own"), or all over the table ("scattered"), which
@@ -637,7 +630,7 @@ int main(int argc, char **argv)
         else
             some = wanted[part_of(argv[i])] = 1;
     printf("Medians of whole calls, by turns in one process, after a warm-up. Reference: compiler %s.\n", __VERSION__);
-    puts("Timed with the library: clearing unused words after a build, and all work words around a decision.");
+    puts("Timed with both: clearing unused words after a build, and the lent work words after a decision.");
     for (i = 0; i < PARTS; i++)
         if (wanted[i] || !some)
             parts[i].run();

@@ -7,36 +7,49 @@ import math
 import re
 import sys
 
+HEADING = re.compile(r"^(\S.*?)\s+library\s+reference\s+ratio")
 ROW = re.compile(r"^(.{10,}?)\s+([\d.]+) us\s+([\d.]+) us\s+([\d.]+)\s+\d+")
 WIDTH, LEFT, HEIGHT = 420, 330, 17
 
 
+def read(lines):
+    """Headings, without a ratio, and rows, with theirs."""
+    for line in lines:
+        heading, row = HEADING.match(line), ROW.match(line)
+        if heading:
+            yield heading.group(1), None
+        elif row:
+            yield row.group(1).strip(), float(row.group(4))
+
+
+def text(x, y, words, more=""):
+    words = words.replace("&", "&amp;").replace("<", "&lt;")
+    print('<text x="%.1f" y="%d"%s>%s</text>' % (x, y, more, words))
+
+
 def main():
-    rows = []
-    for line in sys.stdin:
-        found = ROW.match(line)
-        if found:
-            rows.append((found.group(1).strip(), float(found.group(4))))
-    if not rows:
+    rows = list(read(sys.stdin))
+    ratios = [math.log2(ratio) for _, ratio in rows if ratio]
+    if not ratios:
         sys.exit("no row of the benchmark was read")
-    most = max(2, math.ceil(math.log2(max(r for _, r in rows))))
-    unit = WIDTH / (most + 2)
-    at = lambda ratio: LEFT + unit * (math.log2(max(ratio, 0.5)) + 1)
+    low, high = min(-1, math.floor(min(ratios))), max(1, math.ceil(max(ratios)))
+    at = lambda power: LEFT + WIDTH * (power - low) / (high - low)
     tall = 60 + HEIGHT * len(rows)
     print('<svg xmlns="http://www.w3.org/2000/svg" width="%d" height="%d" font-family="sans-serif" font-size="11">' % (LEFT + WIDTH + 60, tall))
     print('<rect width="100%" height="100%" fill="#fff"/>')
-    title = "time of the library by time of the reference; " + (sys.argv[1] if len(sys.argv) > 1 else "")
-    print('<text x="10" y="18" font-size="13" font-weight="bold">%s</text>' % title)
-    for power in range(-1, most + 1):
-        x = at(2.0 ** power)
-        print('<path d="M %.1f 30 V %d" stroke="%s"/>' % (x, tall - 20, "#000" if power == 0 else "#ccc"))
-        print('<text x="%.1f" y="%d" text-anchor="middle">%g</text>' % (x, tall - 6, 2.0 ** power))
+    text(10, 18, "time of the library by time of the reference; " + " ".join(sys.argv[1:]), ' font-size="13" font-weight="bold"')
+    for power in range(low, high + 1):
+        print('<path d="M %.1f 30 V %d" stroke="%s"/>' % (at(power), tall - 20, "#000" if power == 0 else "#ccc"))
+        text(at(power), tall - 6, "%g" % 2.0 ** power, ' text-anchor="middle"')
     for i, (name, ratio) in enumerate(rows):
         y = 34 + HEIGHT * i
-        a, b = sorted((at(1), at(ratio)))
+        if ratio is None:
+            text(10, y + 10, name, ' font-weight="bold"')
+            continue
+        a, b = sorted((at(0), at(math.log2(ratio))))
         print('<rect x="%.1f" y="%d" width="%.1f" height="%d" fill="#48a"/>' % (a, y, max(b - a, 1), HEIGHT - 5))
-        print('<text x="%d" y="%d" text-anchor="end">%s</text>' % (LEFT - 8, y + 10, name.replace("&", "&amp;").replace("<", "&lt;")))
-        print('<text x="%.1f" y="%d">%.2f</text>' % (b + 4, y + 10, ratio))
+        text(LEFT - 8, y + 10, name, ' text-anchor="end"')
+        text(b + 4, y + 10, "%.2f" % ratio)
     print("</svg>")
 
 
