@@ -1,4 +1,4 @@
--- A scan of records finds the number of a quadruple; how two quadruples are told apart, field by field. Assumes nothing.
+-- A scan of records finds the number of a quadruple. Assumes nothing.
 use mathlib.Core.Path.{_≡_, refl, sym, ap}
 use mathlib.Core.Bool.{Bool, true, false}
 use mathlib.Core.List.{List}
@@ -17,24 +17,6 @@ use Rattle.ncsb.specs.declared.Quadruple.{Quadruple}
 use Rattle.patterns.proofs.General.{tabulate-length}
 use Rattle.complement.specs.Complement.{record-width}
 use Rattle.complement.specs.Records.{quadruple-at, records-of, capacity, Looked-up}
-
--- FIELD BY FIELD
-module _ (x y : Quadruple) where
-  pub differ-N : (x .N ≡ y .N → ⊥) → false ≡ same x y
-  unfolding same
-  differ-N ne = rw (ne-eqb (x .N) (y .N) ne) refl
-
-  pub differ-C : x .N ≡ y .N → (x .C ≡ y .C → ⊥) → false ≡ same x y
-  unfolding same
-  differ-C n ne = rw (eq-eqb n, ne-eqb (x .C) (y .C) ne) refl
-
-  pub differ-S : x .N ≡ y .N → x .C ≡ y .C → (x .S ≡ y .S → ⊥) → false ≡ same x y
-  unfolding same
-  differ-S n c ne = rw (eq-eqb n, eq-eqb c, ne-eqb (x .S) (y .S) ne) refl
-
-  pub alike : x .N ≡ y .N → x .C ≡ y .C → x .S ≡ y .S → eqb (x .B) (y .B) ≡ same x y
-  unfolding same
-  alike n c s = rw (eq-eqb n, eq-eqb c, eq-eqb s) refl
 
 -- what a comparison with a loaded record says
 pub compared : (x : Quadruple) {y z : Quadruple} {r b : Bool} → r ≡ same x y → y ≡ z → r ≡ b → same x z ≡ b

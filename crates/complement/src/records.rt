@@ -43,20 +43,11 @@ pub(crate) fn store(sets: &mut [u32], number: usize, x: Quadruple)
     sets[at + 3] = x.B;
 }
 
-// Two quadruples are the same.
+// Two quadruples are the same. C and S are compared first, since they tell most of a build's quadruples apart.
 fn equal(x: Quadruple, y: Quadruple) -> bool
     ensures { λ r. ⌜ r ≡ same x y ⌝ }
 {
-    if x.N != y.N {
-        return false;
-    }
-    if x.C != y.C {
-        return false;
-    }
-    if x.S != y.S {
-        return false;
-    }
-    x.B == y.B
+    ((x.C == y.C) & (x.S == y.S)) & ((x.N == y.N) & (x.B == y.B))
 }
 
 // Looks a quadruple up among the first records: its place, or their count where it is none of them.
