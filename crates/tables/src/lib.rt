@@ -135,7 +135,8 @@ fn next_good(next: usize, number: usize, m: usize) -> bool
     number < next
 }
 
-// Marks the record that a link names, and answers how many that are: one, and none for zero. Two where it was marked already.
+// Marks the record that a link names, and answers how many that are: one, and none for zero. Two where it was marked already. Records
+// that follow each other have their bits in different words, so that no store waits for the one before it.
 fn mark(seen: &mut [u32], link: usize) -> usize
     requires { ⌜ (2048 ≤ length (now seen)) × (link < 65536) ⌝ }
     ensures { λ r. ⌜ Mark link (now (seen .entry)) (now (seen .exit)) r ⌝ }
