@@ -1,12 +1,12 @@
 -- Reaching in a finite graph: as many rounds as there are nodes find exactly the nodes that edges lead to. Assumes nothing.
-use mathlib.Core.Path.{_≡_, refl}
+use mathlib.Core.Path.{_≡_, refl, ap}
 use mathlib.Core.Bool.{Bool, true, false, _&&_, _||_, not}
 use mathlib.Core.List.{List}
 use mathlib.Core.Logic.{_⊎_, inl, inr}
 use Prim.Native.Nat.{ℕ, zero, suc, _≤_, _<_}
 use native.Mathlib.Omega.{arith}
 use lib.Dec.{eqb}
-use lib.ListN.{getD}
+use lib.ListN.{length, getD}
 use Rattle.basics.specs.Bounded.{any, count}
 use Rattle.basics.proofs.Booleans.{either, clash, and-l, and-r, and-make, or-l, or-r, or-true, not-false, true-not, eqb-eq, eqb-ne}
 use Rattle.basics.proofs.Bounded.{any-find, any-make, count-le, count-less, search-to}
@@ -17,6 +17,11 @@ unfolding tabulate
 tabulate-at zero f i d l = absurd (omega arith)
 tabulate-at (suc k) f zero d l = refl
 tabulate-at (suc k) f (suc i) d l = tabulate-at k (λ j. f (suc j)) i d (omega arith)
+
+pub tabulate-length : {A : Type 0} (k : ℕ) (f : ℕ → A) → length (tabulate k f) ≡ k
+unfolding tabulate
+tabulate-length zero f = refl
+tabulate-length (suc k) f = ap suc (tabulate-length k (λ i. f (suc i)))
 
 pub tabulate-marked : (k : ℕ) (f : ℕ → Bool) (i : ℕ) → i < k → marked (tabulate k f) i ≡ f i
 unfolding marked

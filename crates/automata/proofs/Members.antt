@@ -61,6 +61,13 @@ module _ {X : Type 0} where
   member-cases (y ∷ xs) (there m) =
       elim (member-cases xs m) [ inl n ↦ inl (there n) | inr n ↦ inr n ]
 
+  -- each member stands at some index
+  pub member-index :
+      {x : X} {xs : List X} (blank : X) → Member x xs → (i : ℕ) × (i < length xs) × (getD xs i blank ≡ x)
+  member-index blank here = (0, (omega arith), refl)
+  member-index blank (there m) =
+      let r = member-index blank m in (suc (r .0), (let l = r .1 in omega arith), r .2)
+
 module _ {X : Type 0} (s : System X) where
   -- THE NUMBER OF A STATE is below the length exactly if the state is listed
   pub number-le : (x : X) (xs : List X) → number-of s x xs ≤ length xs

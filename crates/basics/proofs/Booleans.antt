@@ -1,8 +1,8 @@
 -- Laws of Booleans as facts: b ≡ true and b ≡ false. Assumes nothing.
 use mathlib.Core.Path.{_≡_, refl, sym, _∙_}
-use mathlib.Core.Bool.{Bool, true, false, _&&_, _||_, not, cond, true≢false}
+use mathlib.Core.Bool.{Bool, true, false, _&&_, _||_, not, true≢false}
 use mathlib.Core.Logic.{_⊎_, inl, inr}
-use Prim.Native.Nat.{ℕ, zero, suc, _+_, _≤_, _<_, compare}
+use Prim.Native.Nat.{ℕ, _≤_, _<_}
 use lib.Dec.{ltb, leb, eqb, T, leb→le, nleb→lt, ltb→lt, nltb→le, eqb→eq, eqb-refl}
 use native.Mathlib.Omega.{arith}
 
@@ -91,9 +91,13 @@ not-both true f = absurd (f refl)
 not-both false f = refl
 
 -- tests of numbers as facts
-T-true : (b : Bool) → T b → b ≡ true
+pub T-true : (b : Bool) → T b → b ≡ true
 T-true true t = refl
 T-true false t = absurd t
+
+pub T-false : (b : Bool) → T (not b) → b ≡ false
+T-false true t = absurd t
+T-false false t = refl
 
 true-T : (b : Bool) → b ≡ true → T b
 true-T true p = tt
@@ -141,3 +145,11 @@ le-leb {m} {n} l = elim (either (leb m n)) [ inl e ↦ e | inr e ↦ absurd (let
 
 pub gt-leb : {m n : ℕ} → n < m → leb m n ≡ false
 gt-leb {m} {n} l = not-both (leb m n) (λ p. let g = leb-le m n p in omega arith)
+
+-- the same number, or not
+pub same-or : (x y : ℕ) → (x ≡ y) ⊎ (x ≡ y → ⊥)
+same-or x y = elim (either (eqb x y)) [ inl e ↦ inl (eqb-eq x y e) | inr e ↦ inr (eqb-ne x y e) ]
+
+-- below, or not
+pub below-or : (i k : ℕ) → (i < k) ⊎ (k ≤ i)
+below-or i k = elim (either (ltb i k)) [ inl e ↦ inl (ltb-lt i k e) | inr e ↦ inr (ltb-ge i k e) ]

@@ -1,12 +1,12 @@
 -- Laws of tests over all numbers below a limit, of counting them, and two pigeonholes. Assumes nothing.
 use mathlib.Core.Path.{_≡_, refl, sym, _∙_, ap}
-use mathlib.Core.Bool.{Bool, true, false, _&&_, _||_, not, cond}
-use mathlib.Core.Logic.{_⊎_, inl, inr, _↔_}
-use Prim.Native.Nat.{ℕ, zero, suc, _+_, _-_, _≤_, _<_}
+use mathlib.Core.Bool.{Bool, true, false, _||_, cond}
+use mathlib.Core.Logic.{_⊎_, inl, inr}
+use Prim.Native.Nat.{ℕ, zero, suc, _-_, _≤_, _<_}
 use native.Mathlib.Omega.{arith}
-use lib.Dec.{ltb, leb, eqb}
+use lib.Dec.{ltb, eqb}
 use Rattle.basics.specs.Bounded.{each, any, count}
-use Rattle.basics.proofs.Booleans.{either, clash, and-l, and-r, and-make, or-l, or-r, or-true, or-none, or-assoc, or-false, or-false-l, or-false-r, eqb-eq, eq-eqb, ltb-lt, ltb-ge, eqb-ne}
+use Rattle.basics.proofs.Booleans.{either, clash, and-l, and-r, and-make, or-l, or-r, or-none, or-assoc, or-false, eqb-eq, ltb-lt, ltb-ge, eqb-ne}
 
 -- what holds of each number below the limit
 pub each-all : (k : ℕ) (f : ℕ → Bool) → each k f ≡ true → (i : ℕ) → i < k → f i ≡ true
@@ -64,6 +64,15 @@ any-find k f h = go (search-to k f)
 
 pub any-no : (k : ℕ) (f : ℕ → Bool) → any k f ≡ false → (i : ℕ) → i < k → f i ≡ false
 any-no k f h i l = elim (either (f i)) [ inl e ↦ absurd (clash (any-make k f i l e) h) | inr e ↦ e ]
+
+-- one number more
+pub any-zero : (f : ℕ → Bool) → any 0 f ≡ false
+unfolding any
+any-zero f = refl
+
+pub any-suc : (k : ℕ) (f : ℕ → Bool) → any (suc k) f ≡ (any k f || f k)
+unfolding any
+any-suc k f = refl
 
 -- the first number apart
 pub any-front : (k : ℕ) (f : ℕ → Bool) → any (suc k) f ≡ (f 0 || any k (λ i. f (suc i)))

@@ -1,10 +1,10 @@
--- Laws of clearing a buffer: word by word from the front, and that only its length matters. Assumes nothing.
-use mathlib.Core.Path.{_≡_, _∙_}
+-- Laws of clearing a buffer: word by word from the front, that only its length matters, and what zero words are. Assumes nothing.
+use mathlib.Core.Path.{_≡_, refl, _∙_}
 use mathlib.Core.List.{List, _++_, append-nil}
-use Prim.Native.Nat.{ℕ, _+_, _≤_, _<_}
+use Prim.Native.Nat.{ℕ, zero, suc, _+_, _≤_, _<_}
 use native.Mathlib.Omega.{arith}
 use borrow.Author.Fill.{fill-none, fill-more}
-use lib.ListN.{length, set, drop, replicate, length-append, length-replicate, length-drop, drop-of-length-le}
+use lib.ListN.{length, getD, set, drop, replicate, length-append, length-replicate, length-drop, drop-of-length-le}
 use Rattle.basics.specs.Buffers.{zeros}
 
 -- the first i words are zero, and the others as they were
@@ -39,3 +39,9 @@ zeros-same w w1 e = rw e
 pub zeros-length : (w : List ℕ) → length (zeros w) ≡ length w
 unfolding zeros
 zeros-length w = length-replicate (length w) 0
+
+-- zero in every place
+pub zeros-at : (k i : ℕ) → getD (replicate {A = ℕ} k 0) i 0 ≡ 0
+zeros-at zero i = refl
+zeros-at (suc k) zero = refl
+zeros-at (suc k) (suc i) = zeros-at k i

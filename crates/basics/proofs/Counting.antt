@@ -5,9 +5,9 @@ use mathlib.Core.Logic.{inl, inr}
 use Prim.Native.Nat.{ℕ, zero, suc, _+_, _≤_, _<_}
 use native.Mathlib.Omega.{arith}
 use lib.Dec.{ltb, eqb}
-use Rattle.basics.specs.Bounded.{count}
-use Rattle.basics.proofs.Booleans.{either, eqb-eq, eqb-ne, ltb-lt, ltb-ge, lt-ltb, ge-ltb}
-use Rattle.basics.proofs.Bounded.{count-same}
+use Rattle.basics.specs.Bounded.{each, count}
+use Rattle.basics.proofs.Booleans.{either, and-false-r, eqb-eq, eq-eqb, eqb-ne, ne-eqb, ltb-lt, ltb-ge, lt-ltb, ge-ltb}
+use Rattle.basics.proofs.Bounded.{count-same, count-le}
 
 -- the first number apart
 pub count-front : (k : ℕ) (f : ℕ → Bool) → count (suc k) f ≡ cond (f 0) 1 0 + count k (λ i. f (suc i))
@@ -105,4 +105,26 @@ count-only (suc k) f j h =
             | inr p ↦ let l = ltb-ge j k p in let m : ltb j (suc k) ≡ false = ge-ltb {m = j} {n = suc k} (omega arith) in cc
           ] in
           rw (before, last, same) (omega arith)
+    ]
+
+-- as many hits as numbers is a hit at each
+pub count-full : (k : ℕ) (f : ℕ → Bool) → eqb (count k f) k ≡ each k f
+unfolding count each
+count-full zero f = refl
+count-full (suc k) f =
+    let h = count-full k f in
+    let l = count-le k f in
+    elim (either (f k)) [
+      | inl e ↦
+          elim (either (eqb (count k f) k)) [
+            | inl q ↦
+                let same = eqb-eq (count k f) k q in
+                let full : eqb (count k f + 1) (suc k) ≡ true = eq-eqb {m = count k f + 1} {n = suc k} (omega arith) in cc
+            | inr q ↦
+                let other = eqb-ne (count k f) k q in
+                let less : eqb (count k f + 1) (suc k) ≡ false = ne-eqb (count k f + 1) (suc k) (λ e. omega arith) in cc
+          ]
+      | inr e ↦
+          let less : eqb (count k f + 0) (suc k) ≡ false = ne-eqb (count k f + 0) (suc k) (λ e. omega arith) in
+          let out = and-false-r (each k f) e in cc
     ]

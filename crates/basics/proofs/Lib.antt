@@ -2,5 +2,9 @@ pub mod Booleans
 pub mod Bounded
 pub mod Clears
 pub mod Counting
+pub mod Lists
 pub mod Packed
+pub mod Radix
+pub mod Refusing
 pub mod Rows
+pub mod Scans

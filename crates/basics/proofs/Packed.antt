@@ -1,13 +1,14 @@
 -- Entries packed into words: one that grows within its base changes no other, and its word does not overflow. Assumes nothing.
 use mathlib.Core.Path.{_≡_, refl, sym, ap, _∙_}
 use mathlib.Core.List.{List}
-use mathlib.Core.Logic.{_⊎_, inl, inr}
+use mathlib.Core.Logic.{inl, inr}
 use Prim.Native.Nat.{ℕ, zero, suc, _+_, _*_, _/_, _%_, _^_, _≤_, _<_}
 use native.Mathlib.Omega.{arith}
-use native.Mathlib.Nat.{pow-zero, pow-suc, div-one, zero-div, zero-mod, mod-lt, mul-comm, mul-assoc, add-mul, div-add-mod', div-div-eq-div-mul, add-mul-div-right, div-lt-iff-lt-mul, add-mul-mod-self-right}
+use native.Mathlib.Nat.{pow-zero, pow-suc, div-one, zero-div, zero-mod, mod-lt, mod-eq-of-lt, one-mul, mul-comm, mul-assoc, add-mul, div-add-mod', div-div-eq-div-mul, add-mul-div-right, div-lt-iff-lt-mul, add-mul-mod-self-right}
 use lib.Arith.{digits-lt, digits-div, digits-mod}
 use lib.Dec.{eqb}
-use lib.ListN.{length, getD, set, length-set}
+use lib.ListN.{length, getD, length-set}
+use lib.Pow.{pow-lt}
 use lib.Seq.{getD-set-same, getD-set-other}
 use Rattle.basics.specs.Packed.{digit, packed, raised}
 use Rattle.basics.proofs.Booleans.{either, eqb-eq, eqb-ne}
@@ -117,3 +118,7 @@ pairs (suc i) =
     let twice : 2 * suc i ≡ suc (suc (2 * i)) = omega arith in
     let h = pairs i in
     rw (pow-suc 4 i, twice, pow-suc 2 (suc (2 * i)), pow-suc 2 (2 * i), h) (omega arith)
+
+-- 1 << t, in k digits
+pub shift-one : (k t : ℕ) → t < k → 1 * 2 ^ t % 2 ^ k ≡ 2 ^ t
+shift-one k t l = rw (one-mul (2 ^ t)) (mod-eq-of-lt (pow-lt l))

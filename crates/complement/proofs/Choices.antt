@@ -7,6 +7,7 @@ use Prim.Native.Nat.{ℕ, _^_, _≤_, _<_}
 use native.Mathlib.Omega.{arith}
 use lib.ListN.{length, getD, length-map}
 use lib.Pow.{pow-mono}
+use Rattle.basics.proofs.Lists.{getD-map}
 use Rattle.sets.specs.Sets.{size, subsets}
 use Rattle.sets.proofs.Size.{size-le}
 use Rattle.sets.proofs.Subsets.{subsets-length}
@@ -15,7 +16,6 @@ use Rattle.ncsb.specs.Successors.{quadruple, initial-for, initial-free, initial
 use Rattle.ncsb.specs.declared.Asked.{Asked}
 use Rattle.ncsb.specs.declared.Quadruple.{Quadruple}
 use Rattle.ncsb.proofs.Array.{blocked-asked, nth-initial-at, nth-successor-at}
-use Rattle.ncsb.proofs.Lists.{getD-map}
 
 pub choices-fit : (s : ℕ) → 2 ^ size 32 s ≤ 2 ^ 32
 choices-fit s = pow-mono (size-le 32 s)

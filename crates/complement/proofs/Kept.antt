@@ -10,11 +10,10 @@ use lib.Seq.{sets, length-sets, take-all, take-append-le, ext-getD}
 use Rattle.basics.proofs.Booleans.{either, ltb-lt, ltb-ge}
 use Rattle.automata.specs.Decision.{tabulate}
 use Rattle.automata.specs.System.{Edge}
-use Rattle.automata.proofs.Graphs.{tabulate-at}
+use Rattle.automata.proofs.Graphs.{tabulate-at, tabulate-length}
 use Rattle.tables.specs.Table.{wide-range}
 use Rattle.ncsb.specs.Successors.{quadruple}
 use Rattle.ncsb.specs.declared.Quadruple.{Quadruple}
-use Rattle.patterns.proofs.General.{tabulate-length}
 use Rattle.complement.specs.Complement.{quadruple-words, record-width}
 use Rattle.complement.specs.Records.{quadruple-at, records-of, with-quadruple, capacity}
 use Rattle.complement.specs.Found.{Begins, records, States-kept, triple, triples, edge-room, counted-to, Edges-kept, with-edge, one-more}

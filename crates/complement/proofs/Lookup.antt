@@ -10,11 +10,11 @@ use lib.ListN.{length}
 use Rattle.basics.proofs.Booleans.{either, eq-eqb, ne-eqb, eqb-eq, eqb-ne}
 use Rattle.automata.specs.Decision.{tabulate}
 use Rattle.automata.specs.System.{System, number-of}
+use Rattle.automata.proofs.Graphs.{tabulate-length}
 use Rattle.automata.proofs.Members.{number-le}
 use Rattle.tables.specs.Table.{wide-range}
 use Rattle.ncsb.specs.Successors.{same, ncsb}
 use Rattle.ncsb.specs.declared.Quadruple.{Quadruple}
-use Rattle.patterns.proofs.General.{tabulate-length}
 use Rattle.complement.specs.Complement.{record-width}
 use Rattle.complement.specs.Records.{quadruple-at, records-of, capacity, Looked-up}
 

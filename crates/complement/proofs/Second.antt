@@ -1,7 +1,7 @@
 -- The second demand: what is built of a pattern that passes the check is its reachable NCSB complement, exactly; its words are a wide
 -- table that means it; and they are what an accepted build leaves. Assumes nothing.
 use mathlib.Core.Path.{_≡_, refl, sym, _∙_, ap}
-use mathlib.Core.Bool.{Bool, true, false, _||_, cond}
+use mathlib.Core.Bool.{_||_, cond}
 use mathlib.Core.List.{List}
 use Prim.Native.Nat.{ℕ, zero, suc, _*_, _-_, _^_, _≤_}
 use native.Mathlib.Omega.{arith}
@@ -11,6 +11,7 @@ use lib.Pow.{pow-pos}
 use lib.Seq.{take-at}
 use Rattle.basics.specs.Buffers.{filled}
 use Rattle.basics.proofs.Booleans.{ltb-ge, or-false-l, or-false-r}
+use Rattle.basics.proofs.Refusing.{passed, or-else-none}
 use Rattle.basics.proofs.Rows.{rows-length}
 use Rattle.automata.specs.Automaton.{Same}
 use Rattle.automata.specs.System.{At-most, Decides, Exactly, state-at, numbered}
@@ -27,7 +28,7 @@ use Rattle.ncsb.proofs.Initials.{initials-length}
 use Rattle.ncsb.proofs.Reached.{decides, initials-apart}
 use Rattle.patterns.specs.Check.{check-refusal}
 use Rattle.patterns.specs.Pattern.{moves}
-use Rattle.patterns.proofs.Passed.{or-else-none, checked-table, checked-split}
+use Rattle.patterns.proofs.Passed.{checked-table, checked-split}
 use Rattle.layout.specs.Orderly.{Orderly, Lists}
 use Rattle.layout.proofs.Meaning.{chained-meaning}
 use Rattle.layout.proofs.Valid.{chained-valid}
@@ -103,11 +104,6 @@ unfolding as-counts
 counts-accepted zero n m h = (refl, refl, refl)
 counts-accepted (suc r) n m h = absurd (omega arith)
 
--- a refusal that is not met, and those behind it
-passes : (b : Bool) (k other : ℕ) → cond b (suc k) other ≡ 0 → (b ≡ false) × (other ≡ 0)
-passes true k other h = absurd (omega arith)
-passes false k other h = (refl, h)
-
 room-enough :
     (r : Room) (n m : ℕ) → room-refusal wide-range r n m ≡ 0 →
     (n ≤ r .records) × (n ≤ wide-range .states) × (m ≤ wide-range .records) × (words-needed n m ≤ r .words)
@@ -115,8 +111,8 @@ unfolding room-refusal
 room-enough r n m h =
     let states = ltb (r .records) n || ltb (wide-range .states) n in
     let edges = ltb (wide-range .records) m || ltb (r .words) (words-needed n m) in
-    let (few, after) = passes states 10 (cond edges 12 0) h in
-    let (fewer, done) = passes edges 11 0 after in (
+    let (few, after) = passed states 10 (cond edges 12 0) h in
+    let (fewer, done) = passed edges 11 0 after in (
       ltb-ge (r .records) n (or-false-l (ltb (r .records) n) (ltb (wide-range .states) n) few),
       ltb-ge (wide-range .states) n (or-false-r (ltb (r .records) n) (ltb (wide-range .states) n) few),
       ltb-ge (wide-range .records) m (or-false-l (ltb (wide-range .records) m) (ltb (r .words) (words-needed n m)) fewer),

@@ -30,7 +30,7 @@ number-not-taken zero true e = absurd (let z : _≡_ {A = ℕ} 0 1 = cc in omega
 number-not-taken zero false e = (refl, refl)
 number-not-taken (suc r) b e = absurd (let z : _≡_ {A = ℕ} 0 1 = cc in omega arith)
 
-number-refused : (n r : ℕ) (b : Bool) → Refused n ≡ as-decision r b → (r ≡ n) × (1 ≤ n)
+pub number-refused : (n r : ℕ) (b : Bool) → Refused n ≡ as-decision r b → (r ≡ n) × (1 ≤ n)
 unfolding as-decision
 number-refused n zero true e = absurd (let z : _≡_ {A = ℕ} 0 1 = cc in omega arith)
 number-refused n zero false e = absurd (let z : _≡_ {A = ℕ} 0 1 = cc in omega arith)

@@ -4,30 +4,19 @@ use mathlib.Core.Path.{_≡_, refl, sym, _∙_}
 use mathlib.Core.Bool.{Bool, true, false}
 use mathlib.Core.List.{List}
 use mathlib.Core.Logic.{_⊎_, inl, inr}
-use Prim.Native.Nat.{ℕ, zero, suc, _+_, _-_, _/_, _≤_, _<_}
+use Prim.Native.Nat.{ℕ, _+_, _/_, _≤_, _<_}
 use native.Mathlib.Omega.{arith}
 use lib.Dec.{eqb}
 use lib.ListN.{length}
 use Rattle.basics.proofs.Booleans.{and-l, and-r, and-false, and-false-l, eqb-eq, eq-eqb, eqb-ne, ne-eqb}
 use Rattle.tables.specs.Access.{Record-asks}
 use Rattle.tables.specs.Table.{m-of, letter-of, target-of, next-of, wide-range}
+use Rattle.tables.proofs.Chains.{left, left-less}
 use Rattle.tables.proofs.Laws.{Valid, valid, record-asked}
 use Rattle.lassos.specs.Product.{Chain-to, here, later}
 use Rattle.lassos.specs.Search.{colour}
 use Rattle.lassos.specs.Steps.{Chain-asks, Edge-asks, white-edge, Next-white, no-white, white-at}
 use Rattle.lassos.proofs.Product.{chain-zero, chain-parts, chain-edge}
-
--- how many records can follow at most, this one among them
-pub left : (records number : ℕ) → ℕ
-left m zero = 0
-left m (suc r) = m - r
-
-pub left-less : (m r next : ℕ) → (r ≡ 0 → ⊥) → r ≤ m → (next ≡ 0) ⊎ (r < next) → left m next < left m r
-unfolding left
-left-less m zero next ne l f = absurd (ne refl)
-left-less m (suc r) zero ne l f = omega arith
-left-less m (suc r) (suc k) ne l (inl e) = absurd (omega arith)
-left-less m (suc r) (suc k) ne l (inr b) = omega arith
 
 module _ {t : List ℕ} {states nodes base r : ℕ} (a : Chain-asks t states nodes base r) where
   pub sound : Valid wide-range t
@@ -57,8 +46,7 @@ module _ {t : List ℕ} {states nodes base r : ℕ} (a : Chain-asks t states nod
       }
 
   pub next-less : (r ≡ 0 → ⊥) → (next : ℕ) → next ≡ next-of t r → left (m-of t) next < left (m-of t) r
-  next-less ne next e =
-      left-less (m-of t) r next ne (a .number-to) (rw e (sound .rises r (omega arith) (a .number-to)))
+  next-less ne next e = left-less sound ne (a .number-to) e
 
 -- THE OUTER SEARCH along a chain: what was passed by leads to visited nodes
 pub record Walked (t w : List ℕ) (states letter base first r : ℕ) : Type 0 where

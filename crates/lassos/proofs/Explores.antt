@@ -11,7 +11,7 @@ use native.Mathlib.Numerals.{add-one}
 use lib.Arith.{digits-lt}
 use lib.Dec.{ltb}
 use lib.ListN.{length, getD}
-use Rattle.basics.proofs.Booleans.{clash, and-l, and-r, and-make, eqb-eq, eq-eqb, ltb-lt, lt-ltb, gt-leb, le-leb}
+use Rattle.basics.proofs.Booleans.{clash, and-l, and-r, and-make, eqb-eq, eq-eqb, ltb-lt, lt-ltb, gt-leb, le-leb, same-or}
 use Rattle.automata.specs.Lasso.{positions}
 use Rattle.automata.proofs.Positions.{next-below}
 use Rattle.tables.specs.Access.{State-asks}
@@ -23,7 +23,7 @@ use Rattle.lassos.specs.Steps.{Raise-asks, Given, Meets-asks, Top-asks, 
 use Rattle.lassos.proofs.Colours.{grows-grows, grows-same, stays-grey}
 use Rattle.lassos.proofs.Given.{size-is, given-bounded, given-reads, given-some, given-small, given-first, given-state}
 use Rattle.lassos.proofs.Outer.{enter-grows, enter-keeps, none-found, Left-off, black-leaves, red-leaves, grey-cycle}
-use Rattle.lassos.proofs.Stores.{same-or, recolours, Enters, enters}
+use Rattle.lassos.proofs.Stores.{recolours, Enters, enters}
 
 -- A FINISHED NODE
 module _ {t u v w : List ℕ} {states size x : ℕ} (a : Meets-asks t u v w states size x) where

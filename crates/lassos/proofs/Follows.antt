@@ -6,6 +6,7 @@ use Prim.Native.Nat.{ℕ, _+_, _*_, _/_, _≤_, _<_}
 use native.Mathlib.Omega.{arith}
 use native.Mathlib.Numerals.{add-one}
 use lib.ListN.{length, set}
+use Rattle.basics.proofs.Booleans.{same-or}
 use Rattle.tables.specs.Access.{Record-asks}
 use Rattle.tables.specs.Table.{letter-of, target-of, next-of}
 use Rattle.lassos.specs.Product.{Chain-to, here, later}
@@ -15,7 +16,7 @@ use Rattle.lassos.proofs.Chains.{reads-edge, edge-target, chain-inside,
 use Rattle.lassos.proofs.Colours.{colour-to, coloured-one, was-grey}
 use Rattle.lassos.proofs.Inner.{spread-start, spread-skip, spread-push}
 use Rattle.lassos.proofs.Product.{chain-zero, chain-parts}
-use Rattle.lassos.proofs.Stores.{same-or, reddens}
+use Rattle.lassos.proofs.Stores.{reddens}
 
 -- ONE EDGE, as it is read
 module _ {t w : List ℕ} {states size base r wait : ℕ} (a : Follow-asks t w states size base r wait) where

@@ -7,10 +7,11 @@ use mathlib.Core.Logic.{_⊎_, inl, inr}
 use Prim.Native.Nat.{ℕ, suc, _+_, _*_, _≤_, _<_}
 use native.Mathlib.Omega.{arith}
 use lib.ListN.{length}
+use Rattle.basics.proofs.Booleans.{same-or, below-or}
 use Rattle.lassos.specs.Graph.{Graph, Leads, Bounded, Way, stay, onward}
 use Rattle.lassos.specs.Search.{colour, waiting, blacks, Redder, Red-closed, Inner-asks, Inner-says, Spread, None, Waiting, Since, Drained, met, none}
 use Rattle.lassos.proofs.Colours.{coloured-le, coloured-less, redder-same, redder-redder, stays-red, was-grey, was-white, was-black, was-finished, stays-visited, red-or-new}
-use Rattle.lassos.proofs.Stores.{same-or, below-or, Reddens}
+use Rattle.lassos.proofs.Stores.{Reddens}
 
 -- ONE NODE'S EDGES
 pub spread-start : {n : ℕ} {To : ℕ → Type 0} {w : List ℕ} {a : ℕ} → Spread n To To w w a a

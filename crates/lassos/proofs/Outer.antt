@@ -7,11 +7,11 @@ use mathlib.Core.Logic.{_⊎_, inl, inr}
 use Prim.Native.Nat.{ℕ, zero, suc, _≤_, _<_}
 use native.Mathlib.Omega.{arith}
 use lib.ListN.{length}
-use Rattle.basics.proofs.Booleans.{clash}
+use Rattle.basics.proofs.Booleans.{clash, same-or}
 use Rattle.lassos.specs.Graph.{Graph, Leads, Bounded, Way, stay, onward, Reached, Cycle, Found}
 use Rattle.lassos.specs.Search.{colour, stacked, cursor, whites, Search, Grows, Redder, Red-closed}
 use Rattle.lassos.proofs.Colours.{grows-grows, coloured-mono, coloured-less, stays-visited, stays-grey, was-grey, was-white, was-visited, was-finished}
-use Rattle.lassos.proofs.Stores.{same-or, Recolours, Enters, Advances}
+use Rattle.lassos.proofs.Stores.{Recolours, Enters, Advances}
 
 -- WAYS
 pub way-way : {g : Graph} {x y z : ℕ} → Way g x y → Way g y z → Way g x z

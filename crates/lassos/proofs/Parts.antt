@@ -1,48 +1,24 @@
 -- Laws of refusals 13 to 16: what each test finds, and what holds of a table and a lasso that none refuses. Assumes nothing.
-use mathlib.Core.Path.{_≡_, refl, sym, _∙_}
-use mathlib.Core.Bool.{Bool, true, false, _&&_, _||_, not, cond}
+use mathlib.Core.Path.{_≡_, sym, _∙_}
+use mathlib.Core.Bool.{Bool, true, false, _&&_, _||_, not}
 use mathlib.Core.List.{List}
-use mathlib.Core.Logic.{inl, inr}
-use Prim.Native.Nat.{ℕ, suc, _+_, _*_, _^_, _≤_, _<_}
+use Prim.Native.Nat.{ℕ, _+_, _*_, _^_, _≤_, _<_}
 use native.Mathlib.Omega.{arith}
 use native.Mathlib.Nat.{mul-le-mul}
 use lib.Dec.{ltb, eqb}
 use lib.ListN.{length, getD}
-use Rattle.basics.specs.Bounded.{each}
 use Rattle.basics.specs.Buffers.{or-else}
-use Rattle.basics.proofs.Booleans.{either, not-both, eq-eqb, eqb-eq, eqb-ne, ne-eqb, lt-ltb, ge-ltb, ltb-lt, ltb-ge, or-false-l, or-false-r}
-use Rattle.basics.proofs.Bounded.{each-all, each-make}
+use Rattle.basics.proofs.Booleans.{eq-eqb, eqb-ne, ne-eqb, lt-ltb, ge-ltb, ltb-ge, or-false-l, or-false-r}
+use Rattle.basics.proofs.Refusing.{passed, or-else-none}
+use Rattle.basics.proofs.Scans.{scan-fails}
 use Rattle.automata.specs.Lasso.{all-below}
 use Rattle.tables.specs.Table.{n-of, k-of, wide-range, table-refusal}
 use Rattle.lassos.specs.Refusals.{parts-refusal, lasso-refusal}
 
--- LETTERS of a part
-pub record Below (k : ℕ) (u : List ℕ) (i : ℕ) : Type 0 where
-  pub upto : i ≤ length u
-  pub small : (j : ℕ) → j < i → getD u j 0 < k
-
-pub below-start : (k : ℕ) (u : List ℕ) → Below k u 0
-below-start k u = record { upto = omega arith; small = λ j l. absurd (omega arith) }
-
-pub below-turn : {k : ℕ} {u : List ℕ} {i : ℕ} → Below k u i → i < length u → getD u i 0 < k → Below k u (i + 1)
-below-turn {k} {u} {i} h l b =
-    record {
-      upto = omega arith;
-      small =
-          λ j m. elim (either (eqb j i)) [ inl e ↦ rw (eqb-eq j i e) b | inr e ↦ (let ne = eqb-ne j i e in h .small j (omega arith)) ];
-    }
-
-pub below-all : {k : ℕ} {u : List ℕ} {i : ℕ} → Below k u i → length u ≤ i → true ≡ all-below k u
-unfolding all-below
-below-all {k} {u} {i} h l =
-    sym (each-make (length u) (λ j. ltb (getD u j 0) k) (λ j m. lt-ltb (h .small j (omega arith))))
-
+-- A LETTER of a part that is none
 pub not-below : (k : ℕ) (u : List ℕ) (i : ℕ) → i < length u → k ≤ getD u i 0 → false ≡ all-below k u
 unfolding all-below
-not-below k u i l b =
-    sym
-    (not-both (each (length u) (λ j. ltb (getD u j 0) k))
-    (λ e. let m = ltb-lt (getD u i 0) k (each-all (length u) (λ j. ltb (getD u j 0) k) e i l) in omega arith))
+not-below k u i l b = scan-fails (λ j. ltb (getD u j 0) k) (length u) i l (ge-ltb b)
 
 -- THE TESTS one after the other
 module _ (n k : ℕ) (u v : List ℕ) (w : ℕ) where
@@ -110,28 +86,15 @@ pub record Accepted (t u v : List ℕ) (w : ℕ) : Type 0 where
   pub loop-short : length v ≤ 4096
   pub room : 4 * n-of t * (length u + length v) ≤ w
 
-past : (b : Bool) (k : ℕ) (others : ℕ) → cond b (suc k) others ≡ 0 → (b ≡ false) × (others ≡ 0)
-past true k others h = absurd (omega arith)
-past false k others h = (refl, h)
-
--- the first of two refusals is none, and neither is the second
-both-past : (a b : ℕ) → or-else a b ≡ 0 → (a ≡ 0) × (b ≡ 0)
-unfolding or-else
-both-past a b h =
-    elim (either (eqb a 0)) [
-      | inl e ↦ let z = eqb-eq a 0 e in (z, rw e at h)
-      | inr e ↦ absurd (eqb-ne a 0 e (rw e at h))
-    ]
-
 parts-past :
     (n k : ℕ) (u v : List ℕ) (w : ℕ) → parts-refusal n k u v w ≡ 0 →
     (1 ≤ length v) × (length u ≤ 4096) × (length v ≤ 4096) × (4 * n * (length u + length v) ≤ w)
 unfolding parts-refusal
 parts-past n k u v w h =
-    let a = past (eqb (length v) 0) 12 _ h in
-    let b = past (ltb 4096 (length u) || ltb 4096 (length v)) 13 _ (a .1) in
-    let c = past (not (all-below k u && all-below k v)) 14 _ (b .1) in
-    let d = past (ltb w (4 * n * (length u + length v))) 15 0 (c .1) in
+    let a = passed (eqb (length v) 0) 12 _ h in
+    let b = passed (ltb 4096 (length u) || ltb 4096 (length v)) 13 _ (a .1) in
+    let c = passed (not (all-below k u && all-below k v)) 14 _ (b .1) in
+    let d = passed (ltb w (4 * n * (length u + length v))) 15 0 (c .1) in
     let some = eqb-ne (length v) 0 (a .0) in (
       omega arith,
       ltb-ge 4096 (length u) (or-false-l (ltb 4096 (length u)) (ltb 4096 (length v)) (b .0)),
@@ -142,7 +105,7 @@ parts-past n k u v w h =
 pub accepted : (t u v : List ℕ) (w : ℕ) → lasso-refusal t u v w ≡ 0 → Accepted t u v w
 unfolding lasso-refusal
 accepted t u v w h =
-    let both = both-past (table-refusal wide-range t) (parts-refusal (n-of t) (k-of t) u v w) h in
+    let both = or-else-none (table-refusal wide-range t) (parts-refusal (n-of t) (k-of t) u v w) h in
     let parts = parts-past (n-of t) (k-of t) u v w (both .1) in
     record {
       valid = both .0;

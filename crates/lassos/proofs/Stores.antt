@@ -1,26 +1,15 @@
 -- What a store in one block of the work words changes, and that it changes nothing else. Assumes nothing.
 use mathlib.Core.Path.{_≡_, refl, sym, _∙_}
 use mathlib.Core.List.{List}
-use mathlib.Core.Logic.{_⊎_, inl, inr}
 use Prim.Native.Nat.{ℕ, _+_, _*_, _/_, _%_, _^_, _≤_, _<_}
 use native.Mathlib.Omega.{arith}
 use native.Mathlib.Nat.{mod-eq-of-lt}
-use lib.Dec.{eqb, ltb}
 use lib.ListN.{length, getD, set, length-set}
 use lib.Seq.{getD-set-same, getD-set-other}
 use Rattle.basics.specs.Packed.{digit, packed, raised}
-use Rattle.basics.proofs.Booleans.{either, eqb-eq, eqb-ne, ltb-lt, ltb-ge}
 use Rattle.basics.proofs.Packed.{pairs, digit-fits, packed-raised, packed-others, raised-length, raised-beyond}
 use Rattle.lassos.specs.Search.{colour, stacked, cursor, waiting, risen, entered, advanced, reddened}
 use Rattle.lassos.specs.Steps.{Raise-asks}
-
--- the same number, or not
-pub same-or : (x y : ℕ) → (x ≡ y) ⊎ (x ≡ y → ⊥)
-same-or x y = elim (either (eqb x y)) [ inl e ↦ inl (eqb-eq x y e) | inr e ↦ inr (eqb-ne x y e) ]
-
--- below, or not
-pub below-or : (i k : ℕ) → (i < k) ⊎ (k ≤ i)
-below-or i k = elim (either (ltb i k)) [ inl e ↦ inl (ltb-lt i k e) | inr e ↦ inr (ltb-ge i k e) ]
 
 -- A COLOUR, as it is read and stored
 pub colour-read : (w : List ℕ) (x : ℕ) → getD w (x / 16) 0 / 2 ^ (2 * (x % 16)) % 4 ≡ colour w x

@@ -11,19 +11,19 @@ use lib.Dec.{eqb}
 use lib.ListN.{length, getD}
 use Rattle.basics.specs.Bounded.{count}
 use Rattle.basics.proofs.Booleans.{either, clash, and-make, and-false-l, and-false-r, not-true, not-false, not-both}
+use Rattle.basics.proofs.Lists.{distinct-short}
+use Rattle.basics.proofs.Radix.{number, numbers, number-lt, number-digits, numbers-le}
 use Rattle.automata.specs.Automaton.{Automaton}
 use Rattle.automata.specs.System.{state-at, At-most}
 use Rattle.sets.specs.Sets.{has, size, without}
 use Rattle.sets.proofs.Members.{has-without, ext}
-use Rattle.sets.proofs.Size.{size-le}
+use Rattle.sets.proofs.Size.{size-le, size-grows, size-stays}
 use Rattle.ncsb.specs.Bound.{bound}
 use Rattle.ncsb.specs.Moves.{Moves, Spread, Split}
 use Rattle.ncsb.specs.Step.{Fine}
 use Rattle.ncsb.specs.Successors.{quadruple, ncsb}
 use Rattle.ncsb.specs.declared.Quadruple.{Quadruple}
 use Rattle.ncsb.proofs.Parting.{same-parts}
-use Rattle.ncsb.proofs.Pigeon.{distinct-short}
-use Rattle.ncsb.proofs.Radix.{number, numbers, number-lt, number-digits, numbers-le}
 use Rattle.ncsb.proofs.Reached.{reached-fine}
 
 -- ONE STATE: where it may be, by whether it is in Q2 and in F
@@ -144,14 +144,6 @@ code-same {d} {x} {y} f g e =
     (ext (d .states) (x .B) (y .B) (f .small .small-B) (g .small .small-B) (same-B f g e))
 
 -- THE COUNT: the radices multiplied
-size-in : (k s : ℕ) → has s k ≡ true → size (suc k) s ≡ suc (size k s)
-unfolding size count
-size-in k s h = rw h (omega arith)
-
-size-out : (k s : ℕ) → has s k ≡ false → size (suc k) s ≡ size k s
-unfolding size count
-size-out k s h = rw h (omega arith)
-
 product : (p a r : ℕ) → ℕ
 product p a r = 2 ^ p * 3 ^ a * 4 ^ r
 
@@ -205,27 +197,27 @@ module _ (d : Moves) (k : ℕ) where
   unfolding counts
   counts-outer i m =
       let low = size-le k (d .inner) in
-      let si = size-out k (d .inner) i in
-      let sm = size-out k (d .marks) m in
-      let sr = size-out k (without (d .inner) (d .marks)) (has-without (d .inner) (d .marks) k ∙ and-false-l (not (has (d .marks) k)) i) in
+      let si = size-stays k (d .inner) i in
+      let sm = size-stays k (d .marks) m in
+      let sr = size-stays k (without (d .inner) (d .marks)) (has-without (d .inner) (d .marks) k ∙ and-false-l (not (has (d .marks) k)) i) in
       let p : suc k - size (suc k) (d .inner) ≡ suc (k - size k (d .inner)) = omega arith in
       cc (more-p (k - size k (d .inner)) (size k (d .marks)) (size k (without (d .inner) (d .marks))))
 
   counts-marked : has (d .inner) k ≡ true → has (d .marks) k ≡ true → counts d k * 3 ≡ counts d (suc k)
   unfolding counts
   counts-marked i m =
-      let si = size-in k (d .inner) i in
-      let sm = size-in k (d .marks) m in
-      let sr = size-out k (without (d .inner) (d .marks)) (has-without (d .inner) (d .marks) k ∙ and-false-r (has (d .inner) k) (not-true m)) in
+      let si = size-grows k (d .inner) i in
+      let sm = size-grows k (d .marks) m in
+      let sr = size-stays k (without (d .inner) (d .marks)) (has-without (d .inner) (d .marks) k ∙ and-false-r (has (d .inner) k) (not-true m)) in
       let p : suc k - size (suc k) (d .inner) ≡ k - size k (d .inner) = omega arith in
       cc (more-a (k - size k (d .inner)) (size k (d .marks)) (size k (without (d .inner) (d .marks))))
 
   counts-other : has (d .inner) k ≡ true → has (d .marks) k ≡ false → counts d k * 4 ≡ counts d (suc k)
   unfolding counts
   counts-other i m =
-      let si = size-in k (d .inner) i in
-      let sm = size-out k (d .marks) m in
-      let sr = size-in k (without (d .inner) (d .marks)) (has-without (d .inner) (d .marks) k ∙ and-make i (not-false m)) in
+      let si = size-grows k (d .inner) i in
+      let sm = size-stays k (d .marks) m in
+      let sr = size-grows k (without (d .inner) (d .marks)) (has-without (d .inner) (d .marks) k ∙ and-make i (not-false m)) in
       let p : suc k - size (suc k) (d .inner) ≡ k - size k (d .inner) = omega arith in
       cc (more-r (k - size k (d .inner)) (size k (d .marks)) (size k (without (d .inner) (d .marks))))
 

@@ -8,11 +8,10 @@ use lib.Bits.{bitAnd, bitOr}
 use Rattle.basics.proofs.Booleans.{clash, and-l, and-r, and-make, or-false, not-true, not-both, eqb-eq, eq-eqb}
 use Rattle.basics.proofs.Bounded.{any-find, any-make}
 use Rattle.sets.specs.Sets.{has, without}
-use Rattle.sets.proofs.Members.{has-or, has-without}
+use Rattle.sets.proofs.Members.{has-or, has-without, apart-make, apart-has}
 use Rattle.ncsb.specs.Moves.{Moves}
 use Rattle.ncsb.specs.Successors.{entering, staying-safe, staying, leaving, tracked, dead-end, blocked, free}
 use Rattle.ncsb.specs.declared.Quadruple.{Quadruple}
-use Rattle.ncsb.proofs.Parting.{meet-none, none-meet}
 
 free-parts :
     (f m s t : Bool) → (f && not (m || (s || t))) ≡ true → (f ≡ true) × (m ≡ false) × (s ≡ false) × (t ≡ false)
@@ -114,8 +113,8 @@ module _ (d : Moves) (x : Quadruple) (c : ℕ) where
       block-parts (dead-end d x c) (eqb (bitAnd safe (d .marks)) 0) (eqb (bitAnd safe (staying d x c)) 0) h in
       record {
         no-dead-end = λ p l m e. clash (dead-end-means .1 (p, l, m, e)) (r .0);
-        safe-unmarked = none-meet safe (d .marks) (eqb-eq (bitAnd safe (d .marks)) 0 (r .1));
-        apart = none-meet safe (staying d x c) (eqb-eq (bitAnd safe (staying d x c)) 0 (r .2));
+        safe-unmarked = λ q. apart-has safe (d .marks) q (eqb-eq (bitAnd safe (d .marks)) 0 (r .1));
+        apart = λ q. apart-has safe (staying d x c) q (eqb-eq (bitAnd safe (staying d x c)) 0 (r .2));
       }
 
   pub no-blocked : Unblocked d x c → blocked d x c ≡ false
@@ -124,5 +123,5 @@ module _ (d : Moves) (x : Quadruple) (c : ℕ) where
       or-false
       (not-both (dead-end d x c)
       (λ h. let r = dead-end-means .0 h in u .no-dead-end (r .0) (r .1) (r .2) (r .3)))
-      (or-false (not-true (eq-eqb (meet-none (staying-safe d x c) (d .marks) (u .safe-unmarked))))
-      (not-true (eq-eqb (meet-none (staying-safe d x c) (staying d x c) (u .apart)))))
+      (or-false (not-true (eq-eqb (apart-make (staying-safe d x c) (d .marks) (u .safe-unmarked))))
+      (not-true (eq-eqb (apart-make (staying-safe d x c) (staying d x c) (u .apart)))))

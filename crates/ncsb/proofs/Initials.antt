@@ -9,9 +9,10 @@ use native.Mathlib.Nat.{lt-of-le-of-lt}
 use lib.Bits.{bitAnd, and-le-l}
 use lib.ListN.{length, getD, length-map}
 use Rattle.basics.proofs.Booleans.{clash, and-l, and-r, and-make, not-false, true-not, not-both, or-r, same-truth}
+use Rattle.basics.proofs.Lists.{getD-map}
 use Rattle.automata.specs.Automaton.{Automaton}
 use Rattle.automata.specs.System.{Member, state-at}
-use Rattle.automata.proofs.Members.{member-at}
+use Rattle.automata.proofs.Members.{member-at, member-index}
 use Rattle.sets.specs.Sets.{has, size, subsets}
 use Rattle.sets.proofs.Members.{has-and, has-without, ext, without-lt}
 use Rattle.sets.proofs.Subsets.{subsets-length, subsets-rises}
@@ -19,7 +20,6 @@ use Rattle.ncsb.specs.Moves.{Moves, Spread}
 use Rattle.ncsb.specs.Step.{Small, Start}
 use Rattle.ncsb.specs.Successors.{quadruple, initial-free, initial-for, initials, ncsb}
 use Rattle.ncsb.specs.declared.Quadruple.{Quadruple}
-use Rattle.ncsb.proofs.Lists.{member-index, getD-map}
 use Rattle.ncsb.proofs.Parting.{Choice, choice-at, choice-index, same-parts, parted-all, parted-apart, rest-of}
 
 -- ONE STATE at a time

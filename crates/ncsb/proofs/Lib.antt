@@ -6,10 +6,7 @@ pub mod Exists
 pub mod Fine
 pub mod Free
 pub mod Initials
-pub mod Lists
 pub mod Parting
-pub mod Pigeon
-pub mod Radix
 pub mod Rational
 pub mod Reached
 pub mod Successors

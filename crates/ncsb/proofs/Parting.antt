@@ -1,13 +1,9 @@
 -- Choices among the states of a set, and a set parted by one into what is chosen and the rest. Assumes nothing.
-use mathlib.Core.Path.{_≡_, refl, sym, _∙_}
+use mathlib.Core.Path.{_≡_, refl, sym}
 use mathlib.Core.Bool.{Bool, true, false, _&&_, _||_, not}
-use mathlib.Core.Logic.{inl, inr}
 use Prim.Native.Nat.{ℕ, _<_, _^_}
-use lib.Bits.{bitAnd}
 use lib.ListN.{length, getD}
-use Rattle.basics.proofs.Booleans.{either, and-make, and-false-l, and-false-r, not-both}
 use Rattle.sets.specs.Sets.{has, subsets}
-use Rattle.sets.proofs.Members.{has-and, has-zero, has-nonzero, ext-all}
 use Rattle.sets.proofs.Subsets.{subsets-all}
 use Rattle.ncsb.specs.declared.Quadruple.{Quadruple}
 
@@ -40,18 +36,6 @@ rest-of true true h = sym h
 rest-of true false h = refl
 rest-of false true h = refl
 rest-of false false h = refl
-
--- two sets that do not meet
-pub meet-none : (s t : ℕ) → ((q : ℕ) → has s q ≡ true → has t q ≡ false) → bitAnd s t ≡ 0
-meet-none s t h =
-    ext-all (bitAnd s t) 0
-    (λ q.
-    has-and s t q
-    ∙ elim (either (has s q)) [ inl e ↦ and-false-r (has s q) (h q e) | inr e ↦ and-false-l (has t q) e ]
-    ∙ sym (has-zero q))
-
-pub none-meet : (s t : ℕ) → bitAnd s t ≡ 0 → (q : ℕ) → has s q ≡ true → has t q ≡ false
-none-meet s t e q h = not-both (has t q) (λ g. has-nonzero (bitAnd s t) q (has-and s t q ∙ and-make h g) e)
 
 -- quadruples with the same sets are equal
 pub same-parts : {x y : Quadruple} → x .N ≡ y .N → x .C ≡ y .C → x .S ≡ y .S → x .B ≡ y .B → x ≡ y

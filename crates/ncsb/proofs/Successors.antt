@@ -12,19 +12,19 @@ use lib.Bits.{bitAnd, bitOr, and-le-l, and-le-r, or-disjoint, or-lt}
 use lib.Pow.{pow-pos}
 use lib.ListN.{length, getD, length-map}
 use Rattle.basics.proofs.Booleans.{either, clash, and-l, and-r, and-make, or-l, or-r, or-true, or-false, not-false, true-not, not-both, same-truth, eqb-eq, eq-eqb, eqb-ne, ne-eqb}
+use Rattle.basics.proofs.Lists.{getD-map}
 use Rattle.automata.specs.Automaton.{Automaton}
 use Rattle.automata.specs.System.{Member, state-at}
-use Rattle.automata.proofs.Members.{member-at}
+use Rattle.automata.proofs.Members.{member-at, member-index}
 use Rattle.sets.specs.Sets.{has, size, without, subsets}
-use Rattle.sets.proofs.Members.{has-and, has-or, has-without, has-lt, has-some, has-nonzero, ext, without-lt}
+use Rattle.sets.proofs.Members.{has-and, has-or, has-without, has-lt, has-some, has-nonzero, ext, apart-make, without-lt}
 use Rattle.sets.proofs.Subsets.{subsets-length, subsets-rises}
 use Rattle.ncsb.specs.Moves.{Moves, Spread, Split}
 use Rattle.ncsb.specs.Step.{Small, Leads, Step, Fine}
 use Rattle.ncsb.specs.Successors.{quadruple, targets, next-N, entering, staying-safe, staying, leaving, tracked, blocked, free, next-B, successor-for, successors, ncsb}
 use Rattle.ncsb.specs.declared.Quadruple.{Quadruple}
 use Rattle.ncsb.proofs.Free.{free-from, free-unmarked, free-not-safe, free-not-staying, free-make, has-tracked, Unblocked, blocked-no, no-blocked}
-use Rattle.ncsb.proofs.Lists.{member-index, getD-map}
-use Rattle.ncsb.proofs.Parting.{Choice, choice-at, choice-index, parted-all, parted-apart, rest-of, meet-none, same-parts}
+use Rattle.ncsb.proofs.Parting.{Choice, choice-at, choice-index, parted-all, parted-apart, rest-of, same-parts}
 use Rattle.ncsb.proofs.Targets.{targets-small, targets-lead, lead-targets}
 use Rattle.ncsb.proofs.Tracked.{safe-lead, lead-safe, staying-lead, lead-staying, Tracked-by, tracked-lead, lead-tracked, safe-small, tracked-small}
 
@@ -381,7 +381,7 @@ module _ (d : Moves) (x : Quadruple) (c : ℕ) where
   unfolding successor-for quadruple
   choice-adds {f} choice =
       or-disjoint (staying-safe d x c) f
-      (meet-none (staying-safe d x c) f
+      (apart-make (staying-safe d x c) f
       (λ q h. not-both (has f q) (λ g. clash h (free-not-safe d x c q (choice .within q g)))))
 
   -- successors come by rising S'

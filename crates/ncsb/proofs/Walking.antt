@@ -1,8 +1,8 @@
 -- A search among the members of a set, from the lowest one up. Assumes nothing.
-use mathlib.Core.Path.{_≡_, refl, sym, _∙_, ap}
+use mathlib.Core.Path.{_≡_, _∙_}
 use mathlib.Core.Bool.{Bool, true, false, _&&_, not}
 use mathlib.Core.Logic.{inl, inr}
-use Prim.Native.Nat.{ℕ, _-_, _^_, _≤_, _<_}
+use Prim.Native.Nat.{ℕ, _-_, _^_, _<_}
 use lib.Bits.{bitAnd}
 use lib.Count.{trailingZeros}
 use lib.Dec.{eqb}
@@ -11,7 +11,7 @@ use Rattle.basics.proofs.Booleans.{either, clash, and-false-l, and-l, and-make,
 use Rattle.basics.proofs.Bounded.{any-find, any-make, any-none}
 use Rattle.sets.specs.Sets.{has}
 use Rattle.sets.proofs.Lowest.{Lowest, lowest, lowest-part}
-use Rattle.sets.proofs.Members.{has-lt, has-some, has-zero}
+use Rattle.sets.proofs.Members.{has-lt, has-zero}
 
 -- some member of the set passes the test
 unfoldable pub some-member : (k set : ℕ) → (ℕ → Bool) → Bool

@@ -9,13 +9,13 @@ use native.Mathlib.Nat.{one-mul, add-comm, add-zero}
 use lib.Dec.{ltb, leb, eqb}
 use lib.Bits.{bitOr, or-shifted-r}
 use Rattle.basics.proofs.Booleans.{and-make, and-false-r, lt-ltb, eq-eqb, ne-eqb, le-leb, gt-leb}
+use Rattle.basics.proofs.Packed.{shift-one}
 use Rattle.sets.specs.Sets.{set-of}
 use Rattle.sets.proofs.Members.{set-of-lt}
 use Rattle.tables.specs.Access.{State-asks}
 use Rattle.tables.specs.Table.{pattern-range, table-refusal, n-of, flags-of, is-initial, is-accepting, meaning}
 use Rattle.tables.proofs.Laws.{valid, state-asked}
 use Rattle.patterns.specs.Pattern.{initial-states, accepting-states}
-use Rattle.patterns.proofs.General.{shifted}
 
 -- the set so far is that of the states below `state` of which the test holds
 pub record Gathered (f : ℕ → Bool) (n set state : ℕ) : Type 0 where
@@ -33,7 +33,7 @@ module _ (f : ℕ → Bool) (n : ℕ) where
       Gathered f n (bitOr set (1 * 2 ^ state % 2 ^ 32)) (state + 1)
   unfolding set-of
   gathered-in set state l few h g =
-      let bit = shifted state (omega arith) in
+      let bit = shift-one 32 state (omega arith) in
       let apart : bitOr (set-of state f) (2 ^ state) ≡ 2 ^ state + set-of state f =
       rw (one-mul (2 ^ state)) at (or-shifted-r 1 state (set-of state f) (set-of-lt state f)) in
       let turned = add-comm (2 ^ state) (set-of state f) in

@@ -1,7 +1,6 @@
 pub mod Answers
 pub mod Flags
 pub mod Forks
-pub mod General
 pub mod Inner
 pub mod Masks
 pub mod Passed

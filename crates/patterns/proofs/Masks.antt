@@ -10,15 +10,15 @@ use lib.Dec.{ltb, eqb}
 use lib.ListN.{length, getD, set, replicate, length-set, length-replicate, getD-replicate, List·getD-eq-default}
 use lib.Seq.{getD-set-same, getD-set-other, ext-getD}
 use Rattle.basics.proofs.Booleans.{either, not-both, eqb-eq, eqb-ne, ltb-lt, ltb-ge}
+use Rattle.basics.proofs.Clears.{zeros-at}
 use Rattle.automata.specs.Automaton.{Automaton, Closed}
 use Rattle.automata.specs.Decision.{tabulate}
-use Rattle.automata.proofs.Graphs.{tabulate-at}
+use Rattle.automata.proofs.Graphs.{tabulate-at, tabulate-length}
 use Rattle.sets.proofs.Members.{empty, set-of-lt}
 use Rattle.tables.specs.Table.{pattern-range, table-refusal, n-of, meaning}
 use Rattle.tables.proofs.Laws.{valid, meaning-closed}
 use Rattle.patterns.specs.Pattern.{targets-of, moves}
 use Rattle.patterns.specs.Masks.{row-of, masks-of, Row-asks}
-use Rattle.patterns.proofs.General.{tabulate-length, zeros-at}
 use Rattle.patterns.proofs.Split.{has-targets}
 
 -- an automaton that the table has room for

@@ -3,12 +3,9 @@
 use mathlib.Core.Path.{_≡_, refl}
 use mathlib.Core.Bool.{Bool, true, false, cond}
 use mathlib.Core.List.{List}
-use mathlib.Core.Logic.{inl, inr}
 use Prim.Native.Nat.{ℕ}
 use native.Mathlib.Omega.{arith}
-use lib.Dec.{eqb}
-use Rattle.basics.specs.Buffers.{or-else}
-use Rattle.basics.proofs.Booleans.{either, eqb-eq, eqb-ne}
+use Rattle.basics.proofs.Refusing.{or-else-none}
 use Rattle.automata.specs.Automaton.{Closed}
 use Rattle.tables.specs.Table.{pattern-range, wide-range, table-refusal, meaning}
 use Rattle.tables.proofs.Laws.{valid, meaning-closed, pattern-is-wide}
@@ -16,15 +13,6 @@ use Rattle.ncsb.specs.Moves.{Spread, Split}
 use Rattle.patterns.specs.Pattern.{semi-deterministic, moves}
 use Rattle.patterns.specs.Check.{check-refusal}
 use Rattle.patterns.proofs.Split.{spread, split}
-
--- two refusals, and none is met
-pub or-else-none : (x y : ℕ) → or-else x y ≡ 0 → (x ≡ 0) × (y ≡ 0)
-unfolding or-else
-or-else-none x y h =
-    elim (either (eqb x 0)) [
-      | inl e ↦ (eqb-eq x 0 e, rw e at h)
-      | inr e ↦ let n = eqb-ne x 0 e in let z : x ≡ 0 = rw e at h in absurd (n z)
-    ]
 
 ten-none : (b : Bool) → _≡_ {A = ℕ} (cond b 0 10) 0 → b ≡ true
 ten-none true h = refl

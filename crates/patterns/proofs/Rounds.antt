@@ -12,13 +12,12 @@ use lib.Bits.{bitOr, or-lt}
 use lib.ListN.{getD}
 use Rattle.basics.specs.Bounded.{any}
 use Rattle.basics.proofs.Booleans.{and-l, and-make, and-r, either, eqb-eq, eqb-ne, lt-ltb, or-assoc, or-none, same-truth}
-use Rattle.basics.proofs.Bounded.{any-make, any-find}
+use Rattle.basics.proofs.Bounded.{any-make, any-find, any-zero, any-suc}
 use Rattle.automata.specs.Automaton.{Automaton}
 use Rattle.sets.specs.Sets.{has, union}
 use Rattle.sets.proofs.Members.{ext, has-or, has-union, union-lt}
 use Rattle.patterns.specs.Pattern.{accepting-states, grown, reached-in, inner-of, moves}
 use Rattle.patterns.specs.Masks.{masks-of, joined, joined-in}
-use Rattle.patterns.proofs.General.{any-zero, any-suc}
 use Rattle.patterns.proofs.Inner.{led, led-make, led-find, has-grown, grown-lt, reached-lt, accepting-lt}
 use Rattle.patterns.proofs.Masks.{Fits-masks, mask-right, targets-lt}
 use Rattle.patterns.proofs.Split.{has-targets}

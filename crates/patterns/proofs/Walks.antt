@@ -1,9 +1,9 @@
 -- The walk along a state's chain: the sets so far, with what the rest of the chain still has, are the state's edges. Assumes nothing.
 use mathlib.Core.Path.{_≡_, sym, _∙_, ap}
-use mathlib.Core.Bool.{true, false, _||_, cond}
+use mathlib.Core.Bool.{true, false, _||_}
 use mathlib.Core.List.{List}
 use mathlib.Core.Logic.{_⊎_, inl, inr}
-use Prim.Native.Nat.{ℕ, suc, _*_, _-_, _%_, _^_, _≤_, _<_}
+use Prim.Native.Nat.{ℕ, _*_, _%_, _^_, _≤_, _<_}
 use native.Mathlib.Omega.{arith}
 use lib.Dec.{ltb, eqb}
 use lib.Pow.{pow-pos, pow-lt}
@@ -11,16 +11,18 @@ use lib.Bits.{bitOr, or-lt}
 use lib.ListN.{length, getD, set, replicate, length-set, length-replicate}
 use lib.Seq.{getD-set-same, getD-set-other, ext-getD}
 use Rattle.basics.proofs.Booleans.{either, eq-eqb, eqb-eq, eqb-ne, lt-ltb, ne-eqb, or-assoc, or-none}
+use Rattle.basics.proofs.Clears.{zeros-at}
+use Rattle.basics.proofs.Packed.{shift-one}
 use Rattle.automata.specs.Decision.{tabulate}
-use Rattle.automata.proofs.Graphs.{tabulate-at}
+use Rattle.automata.proofs.Graphs.{tabulate-at, tabulate-length}
 use Rattle.sets.specs.Sets.{has}
 use Rattle.sets.proofs.Members.{has-zero, has-or, has-single, ext, set-of-lt}
 use Rattle.tables.specs.Access.{State-asks, Record-asks}
 use Rattle.tables.specs.Table.{pattern-range, n-of, m-of, head-of, letter-of, target-of, next-of, chain-has, edge, meaning}
-use Rattle.tables.proofs.Laws.{Valid, valid, state-asked, record-asked, next-later, chain-ends, chain-step, meaning-closed}
+use Rattle.tables.proofs.Chains.{left, left-less}
+use Rattle.tables.proofs.Laws.{Valid, valid, state-asked, record-asked, chain-ends, chain-step, meaning-closed}
 use Rattle.patterns.specs.Pattern.{targets-of, moves}
 use Rattle.patterns.specs.Masks.{row-of, Row-asks}
-use Rattle.patterns.proofs.General.{zeros-at, tabulate-length, shifted}
 use Rattle.patterns.proofs.Split.{has-targets}
 
 -- the sets so far, with what the chain from record `at` on still has, are the state's edges
@@ -29,10 +31,6 @@ pub record Walked (t : List ℕ) (state : ℕ) (row : List ℕ) (at : ℕ) : Typ
   pub link : at ≤ m-of t
   pub small : (c : ℕ) → getD row c 0 < 2 ^ n-of t
   pub rest : (c q : ℕ) → c < 16 → (has (getD row c 0) q || chain-has (m-of t) t at c q) ≡ edge t state c q
-
--- what is left of a chain: none past its end, and less with each record
-unfoldable pub left : (m at : ℕ) → ℕ
-left m at = cond (eqb at 0) 0 (suc m - at)
 
 module _ (t : List ℕ) (states s : ℕ) (asks : Row-asks t states s) where
   v : Valid pattern-range t
@@ -90,7 +88,7 @@ module _ (t : List ℕ) (states s : ℕ) (asks : Row-asks t states s) where
       below-n = let a = v .target at from (w .link) in omega arith
 
       bit : 1 * 2 ^ q % 2 ^ 32 ≡ 2 ^ q
-      bit = shifted q (walk-target row at q some w eq)
+      bit = shift-one 32 q (walk-target row at q some w eq)
 
       -- the set that is written
       put : getD (set row l (bitOr (getD row l 0) (1 * 2 ^ q % 2 ^ 32))) l 0 ≡ bitOr (getD row l 0) (2 ^ q)
@@ -129,17 +127,7 @@ module _ (t : List ℕ) (states s : ℕ) (asks : Row-asks t states s) where
 
   pub walk-less :
       (row : List ℕ) (at x : ℕ) → (at ≡ 0 → ⊥) → Walked t s row at → x ≡ next-of t at → left (m-of t) x < left (m-of t) at
-  unfolding left
-  walk-less row at x some w ex =
-      let l = w .link in
-      rw ex
-      let this : eqb at 0 ≡ false = ne-eqb at 0 some in
-      elim (next-later v at (omega arith) l) [
-        | inl e ↦ let ended : eqb (next-of t at) 0 ≡ true = rw e in rw (this, ended) (omega arith)
-        | inr f ↦
-            let more : eqb (next-of t at) 0 ≡ false = ne-eqb (next-of t at) 0 (λ e. omega arith) in
-            rw (this, more) (omega arith)
-      ]
+  walk-less row at x some w ex = left-less v some (w .link) ex
 
   -- past the end of the chain the sets are the state's targets
   pub walk-end : (row : List ℕ) (at : ℕ) → at ≡ 0 → Walked t s row at → row ≡ row-of (moves (meaning t)) s

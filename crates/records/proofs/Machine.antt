@@ -1,7 +1,5 @@
 -- What the walks share of a record in memory: the bytes before it fit a machine word, and its machine value has the struct's type.
 -- Assumes nothing.
-use mathlib.Core.Path.{_≡_, refl}
-use mathlib.Core.Bool.{Bool, true, false, not}
 use Prim.Native.Nat.{ℕ, _*_, _<_, _^_}
 use native.Mathlib.Omega.{arith}
 use mathlib.Core.List.{[], _∷_}
@@ -23,12 +21,3 @@ bytes-fit l g = omega arith
 
 pub typed : {M : Type 1} (𝓤 : URA M) (H : Heap 𝓤) (A : Atoms 𝓤) → Given 𝓤 H A → {x : Quadruple} → Is Q.the-row x (Q′.lowered x ∷ []) → T (hasTy Q′.mir (Q′.lowered x)) × WT (Q′.lowered x)
 typed 𝓤 H A W {x} is = LL.lawful Q.the-type Q′.the-laws 𝓤 H A W .typed x _ is .0
-
--- what a branch knows of its test
-pub holds : (t : Bool) → T t → t ≡ true
-holds true h = refl
-holds false h = absurd h
-
-pub fails : (t : Bool) → T (not t) → t ≡ false
-fails true h = absurd h
-fails false h = refl

@@ -11,7 +11,7 @@ use lib.Arith.{mod-mul}
 use lib.Pow.{pow-pos, pow-mono}
 use lib.Bits.{bitAnd, bitOr, and-step, or-step, and-le-l, or-lt, or-shifted, or-disjoint}
 use Rattle.basics.specs.Bounded.{any}
-use Rattle.basics.proofs.Booleans.{either, false-not, clash, eqb-eq, eq-eqb, eqb-ne, ne-eqb, lt-ltb, ge-ltb, ltb-lt, ltb-ge, same-truth}
+use Rattle.basics.proofs.Booleans.{either, false-not, clash, eqb-eq, eq-eqb, eqb-ne, ne-eqb, lt-ltb, ge-ltb, ltb-lt, ltb-ge, or-none, same-truth}
 use Rattle.basics.proofs.Bounded.{search-to}
 use Rattle.sets.specs.Sets.{has, without, set-of, union}
 
@@ -295,10 +295,6 @@ set-of-same zero f g h = refl
 set-of-same (suc k) f g h = let ih = set-of-same k f g (λ q l. h q (omega arith)) in let e = h k (omega arith) in cc
 
 -- the rows of the members, joined
-or-false-right : (b : Bool) → (b || false) ≡ b
-or-false-right true = refl
-or-false-right false = refl
-
 pub union-lt : (n k s : ℕ) (row : ℕ → ℕ) → ((q : ℕ) → row q < 2 ^ n) → union k s row < 2 ^ n
 unfolding union
 union-lt n zero s row h = pow-pos n
@@ -315,5 +311,5 @@ has-union (suc k) s row r =
     let j = has-or (union k s row) (row k) r in
     elim (either (has s k)) [
       | inl e ↦ cc
-      | inr e ↦ rw e (ih ∙ sym (or-false-right (any k (λ q. has s q && has (row q) r))))
+      | inr e ↦ rw e (ih ∙ sym (or-none (any k (λ q. has s q && has (row q) r))))
     ]

@@ -4,7 +4,8 @@ use mathlib.Core.Bool.{Bool, true, false, _&&_, not}
 use mathlib.Core.Logic.{inl, inr}
 use Prim.Native.Nat.{ℕ, zero, suc, _+_, _/_, _%_, _^_, _≤_, _<_}
 use native.Mathlib.Omega.{arith}
-use native.Mathlib.Nat.{pow-suc}
+use native.Mathlib.Nat.{pow-suc, add-zero}
+use native.Mathlib.Numerals.{add-one}
 use lib.Bits.{bitAnd}
 use lib.Count.{ones, onesIn, ones-step}
 use lib.Dec.{ltb}
@@ -25,6 +26,15 @@ size-step k s =
       | inl e ↦ let d = first-in s e in let f′ = rw e at f in omega arith
       | inr e ↦ let d = first-out s e in let f′ = rw e at f in omega arith
     ]
+
+-- one state more: it is a member, or it is not
+pub size-grows : (k s : ℕ) → has s k ≡ true → size (suc k) s ≡ suc (size k s)
+unfolding size count
+size-grows k s h = rw h (add-one (size k s))
+
+pub size-stays : (k s : ℕ) → has s k ≡ false → size (suc k) s ≡ size k s
+unfolding size count
+size-stays k s h = rw h (add-zero (size k s))
 
 -- the size of a set is the count of its number's set digits
 pub size-ones : (k s : ℕ) → s < 2 ^ k → size k s ≡ ones s

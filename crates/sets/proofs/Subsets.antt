@@ -2,7 +2,7 @@
 -- The i-th one takes the members of the set that stand at the set digits of i. Assumes nothing.
 use mathlib.Core.Path.{_≡_, refl, sym, _∙_, ap}
 use mathlib.Core.Bool.{Bool, true, false, _&&_, _||_, not, cond}
-use mathlib.Core.List.{List, [], _∷_, map}
+use mathlib.Core.List.{map}
 use mathlib.Core.Logic.{_⊎_, inl, inr, _↔_}
 use Prim.Native.Nat.{ℕ, zero, suc, _+_, _-_, _/_, _%_, _^_, _≤_, _<_}
 use native.Mathlib.Omega.{arith}
@@ -13,10 +13,11 @@ use lib.ListN.{length, getD, length-append, length-map, List·getD-append}
 use lib.Pow.{pow-mono}
 use lib.Seq.{getD-append-add}
 use Rattle.basics.proofs.Booleans.{either, clash, and-l, and-r, and-false-l, and-false-r, eqb-eq, eqb-ne, eqb-self, ne-eqb, lt-ltb, ltb-lt, ltb-ge, not-true, or-l, or-r}
+use Rattle.basics.proofs.Lists.{getD-map}
 use Rattle.sets.specs.Sets.{has, size, set-of, subsets}
 use Rattle.sets.proofs.Lowest.{Lowest, lowest-size, lowest-none}
 use Rattle.sets.proofs.Members.{ext-all, has-half, has-lt, has-mod, has-out, has-put, has-set-of, has-top, has-zero, set-of-lt, set-of-same}
-use Rattle.sets.proofs.Size.{size-hit, size-longer}
+use Rattle.sets.proofs.Size.{size-grows, size-stays, size-hit, size-longer}
 
 -- the part of s that i chooses: the member with j members below it is taken where digit j of i is set
 unfoldable pub spread : (limit set choice : ℕ) → ℕ
@@ -35,14 +36,6 @@ spread-part k s i q h =
     and-l (has i (size q s)) (and-r (ltb q k) (sym (has-spread k s i q) ∙ h))
 
 -- one more state: it is no member, or it is left out, or it is taken
-size-grows : (k s : ℕ) → has s k ≡ true → size (suc k) s ≡ suc (size k s)
-unfolding size Rattle.basics.specs.Bounded.count
-size-grows k s h = rw h (add-one (size k s))
-
-size-stays : (k s : ℕ) → has s k ≡ false → size (suc k) s ≡ size k s
-unfolding size Rattle.basics.specs.Bounded.count
-size-stays k s h = rw h (add-zero (size k s))
-
 spread-no : (k s i : ℕ) → has s k ≡ false → spread (suc k) s i ≡ spread k s i
 unfolding spread set-of
 spread-no k s i h = rw h (add-zero (spread k s i))
@@ -83,12 +76,6 @@ subsets-length (suc k) s =
     ]
 
 -- the i-th part is the one that i chooses
-getD-map-in :
-    (f : ℕ → ℕ) (l : List ℕ) (i : ℕ) → i < length l → getD (map f l) i 0 ≡ f (getD l i 0)
-getD-map-in f [] i m = absurd (omega arith)
-getD-map-in f (x ∷ l) zero m = refl
-getD-map-in f (x ∷ l) (suc i) m = getD-map-in f l i (omega arith)
-
 grown-low : (k s i : ℕ) → i < 2 ^ size k s → getD (subsets (suc k) s) i 0 ≡ getD (subsets k s) i 0
 unfolding subsets
 grown-low k s i l =
@@ -109,7 +96,7 @@ grown-high k s i h l =
     let n = subsets-length k s in
     let m : i < length r = omega arith in
     rw (h, ← n)
-    (getD-append-add r (map (λ x. 2 ^ k + x) r) i 0 ∙ getD-map-in (λ x. 2 ^ k + x) r i m)
+    (getD-append-add r (map (λ x. 2 ^ k + x) r) i 0 ∙ getD-map (λ x. 2 ^ k + x) r 0 0 i m)
 
 -- a choice among the parts of s below k + 1 leaves the state k out, or takes it
 data Choice (k s i : ℕ) : Type 0 where

@@ -1,18 +1,19 @@
 -- Laws for walking the members of a set from the lowest one up, and for the operations of 32-bit words. Assumes nothing.
 use mathlib.Core.Path.{_≡_, refl, sym, _∙_, ap}
-use mathlib.Core.Bool.{Bool, true, false, _&&_, _||_, not}
+use mathlib.Core.Bool.{Bool, true, _&&_, _||_, not}
 use mathlib.Core.Logic.{inl, inr}
 use Prim.Native.Nat.{ℕ, zero, suc, _+_, _-_, _*_, _/_, _%_, _^_, _<_}
 use native.Mathlib.Omega.{arith}
-use native.Mathlib.Nat.{pow-suc, one-mul, mod-eq-of-lt, mod-lt, lt-of-le-of-lt}
+use native.Mathlib.Nat.{pow-suc, mod-lt, lt-of-le-of-lt}
 use lib.Bits.{bitAnd, bitOr, and-le-l, or-zero-r}
 use lib.Count.{trailingZeros}
 use lib.Dec.{eqb}
 use lib.ListN.{getD}
-use lib.Pow.{pow-lt, pow-pos}
+use lib.Pow.{pow-pos}
 use Rattle.basics.specs.Bounded.{any}
 use Rattle.basics.proofs.Booleans.{and-l, and-make, and-r, either, eqb-eq, not-false, or-assoc as or-assoc-bool, or-l, or-r, or-true, same-truth}
 use Rattle.basics.proofs.Bounded.{any-find, any-make}
+use Rattle.basics.proofs.Packed.{shift-one}
 use Rattle.sets.specs.Sets.{has, size, subsets, union, without}
 use Rattle.sets.proofs.Lowest.{Lowest, lowest, lowest-less, lowest-lt, lowest-part}
 use Rattle.sets.proofs.Members.{ext, ext-all, first-in, first-made, first-out, first-unmade, has-and, has-half, has-lt, has-or, has-union, has-without, has-zero, without-lt}
@@ -129,10 +130,6 @@ pub join-end :
 join-end k row all left whole z e =
     let e′ : bitOr all (union k 0 row) ≡ whole = rw z at e in
     sym (or-zero-r all) ∙ ap (λ (x : ℕ). bitOr all x) (sym (union-zero k row)) ∙ e′
-
--- 1 << t, in k digits
-pub shift-one : (k t : ℕ) → t < k → 1 * 2 ^ t % 2 ^ k ≡ 2 ^ t
-shift-one k t l = rw (one-mul (2 ^ t)) (mod-eq-of-lt (pow-lt l))
 
 -- choosing members: what was taken so far, with what the digits left choose of the members left, stays the same
 module _

@@ -1,10 +1,10 @@
 -- The starred trial pieces: one computation over all rows, and what it says of each. Assumes nothing.
-use mathlib.Core.Path.{_≡_, refl, sym, _∙_, ap}
+use mathlib.Core.Path.{_≡_, refl, sym}
 use mathlib.Core.Bool.{Bool, true, false, _&&_, Bool·beq}
 use mathlib.Core.List.{List, [], _∷_}
-use Prim.Native.Nat.{ℕ, zero, suc, _<_}
+use Prim.Native.Nat.{ℕ, _<_}
 use lib.Dec.{eqb}
-use lib.ListN.{length, getD}
+use lib.ListN.{length}
 use Rattle.basics.specs.Bounded.{each, any, count}
 use Rattle.basics.specs.Buffers.{or-else}
 use Rattle.basics.specs.Rows.{rows}
@@ -13,11 +13,10 @@ use Rattle.basics.proofs.Bounded.{each-all}
 use Rattle.sets.specs.Sets.{has, size, without, set-of, union, subsets}
 use Rattle.automata.specs.Decision.{takes?, nodes, product, starts, leads, grown as grown-nodes, grow, row, marked, tabulate, on-cycle}
 use Rattle.automata.specs.Lasso.{positions, position-letter, next-position}
-use Rattle.automata.specs.System.{an-edge, built, number-of, with-state, with-states, add-edge, add-all, by-letters, expand, state-at, explore-from, begin, explore, edge-at, listed, numbered, Built}
+use Rattle.automata.specs.System.{an-edge, built, number-of, with-state, with-states, add-edge, add-all, by-letters, expand, state-at, explore-from, begin, explore, edge-at, listed, numbered}
 use Rattle.tables.specs.Rows.{pattern-A, pattern-B, no-initial, forked, doubled}
 use Rattle.tables.specs.Table.{pattern-range, n-of, k-of, m-of, flags-of, head-of, record-at, letter-of, target-of, next-of, is-initial, is-accepting, chain-has, edge, meaning, flags-good, records-good, named, heads-good, nexts-good, chains-good, table-refusal}
 use Rattle.ncsb.specs.Successors.{quadruple, same, accepting, targets, initial-free, initial-for, initials, next-N, entering, staying-safe, staying, leaving, tracked, dead-end, blocked, free, next-B, successor-for, successors, ncsb}
-use Rattle.ncsb.specs.declared.Quadruple.{Quadruple}
 use Rattle.patterns.specs.Check.{check-refusal}
 use Rattle.patterns.specs.Pattern.{targets-of, initial-states, accepting-states, grown, reached-in, inner-of, marks-of, forks, semi-deterministic, moves}
 use Rattle.layout.specs.Chained.{first-record, next-record, flags-word, state-row, record-row, chained-words}

@@ -6,9 +6,9 @@ use Prim.Native.Nat.{ℕ, suc, _+_, _≤_, _<_}
 use native.Mathlib.Numerals.{add-one}
 use lib.Dec.{ltb, leb, eqb}
 use Rattle.basics.proofs.Booleans.{and-make, and-l, leb-le, and-false-l, and-false-r, true-not, false-not, le-leb, gt-leb, eq-eqb, ne-eqb}
+use Rattle.basics.proofs.Scans.{scan-fails, read-lt, read-ge}
 use Rattle.tables.specs.Marks.{next-good}
 use Rattle.tables.specs.Table.{n-of, k-of, m-of, letter-of, target-of, next-of, records-good}
-use Rattle.tables.proofs.Scans.{scan-fails, read-lt, read-ge}
 
 -- the test of record i + 1 in refusal 8
 abbrev pub record-good : List ℕ → ℕ → Bool

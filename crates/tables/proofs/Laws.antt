@@ -1,7 +1,7 @@
 -- Laws of chained tables: what refusals 2 to 9 leave is a valid table, and back; its words fit 16 bits; a pattern is a wide table; its meaning is
 -- closed; its chains rise, so that the fuel of a walk does not matter. Assumes nothing.
 use mathlib.Core.Path.{_≡_, refl, sym, _∙_}
-use mathlib.Core.Bool.{Bool, true, false, _&&_, _||_, not, cond}
+use mathlib.Core.Bool.{Bool, true, false, _&&_, _||_, not}
 use mathlib.Core.List.{List}
 use mathlib.Core.Logic.{_⊎_, inl, inr}
 use Prim.Native.Nat.{ℕ, zero, suc, _+_, _*_, _-_, _/_, _%_, _≤_, _<_}
@@ -11,6 +11,7 @@ use lib.ListN.{length, getD, List·getD-eq-default}
 use Rattle.basics.specs.Bounded.{each}
 use Rattle.basics.proofs.Booleans.{either, clash, and-l, and-r, and-make, or-l, or-r, or-true, true-not, false-not, eqb-eq, eq-eqb, eqb-ne, ne-eqb, ltb-lt, ltb-ge, lt-ltb, ge-ltb, leb-le, le-leb}
 use Rattle.basics.proofs.Bounded.{each-all, each-make}
+use Rattle.basics.proofs.Refusing.{passed}
 use Rattle.automata.specs.Automaton.{Closed}
 use Rattle.tables.specs.Access.{State-asks, Record-asks}
 use Rattle.tables.specs.Table.{Limits, pattern-range, wide-range, n-of, k-of, m-of, flags-of, head-of, record-at, letter-of, target-of, next-of, is-initial, chain-has, edge, meaning, flags-good, records-good, named, heads-good, nexts-good, chains-good, table-refusal}
@@ -30,14 +31,6 @@ pub record Valid (r : Limits) (t : List ℕ) : Type 0 where
   pub next : (x : ℕ) → 1 ≤ x → x ≤ m-of t → next-of t x ≤ m-of t
   pub rises : (x : ℕ) → 1 ≤ x → x ≤ m-of t → (next-of t x ≡ 0) ⊎ (x < next-of t x)
   pub once : (x : ℕ) → 1 ≤ x → x ≤ m-of t → named t x ≡ 1
-
--- a check that passes, and the checks after it
-pub passed : (b : Bool) (k : ℕ) (others : ℕ) → cond b (suc k) others ≡ 0 → (b ≡ false) × (others ≡ 0)
-passed true k others h = absurd (omega arith)
-passed false k others h = (refl, h)
-
-passes : {b : Bool} (k : ℕ) {others : ℕ} → b ≡ false → others ≡ 0 → cond b k others ≡ 0
-passes k p q = cc
 
 -- what holds of each record, from what holds of each number below m, and back
 each-record : (m : ℕ) (f : ℕ → Bool) → each m (λ i. f (suc i)) ≡ true → (x : ℕ) → 1 ≤ x → x ≤ m → f x ≡ true

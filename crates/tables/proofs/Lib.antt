@@ -1,6 +1,6 @@
+pub mod Chains
 pub mod Checks
 pub mod Laws
 pub mod Marking
 pub mod Refusals
 pub mod Rows
-pub mod Scans

@@ -6,19 +6,19 @@ use mathlib.Core.Logic.{inl, inr}
 use Prim.Native.Nat.{ℕ, zero, suc, _+_, _*_, _/_, _%_, _^_, _≤_, _<_}
 use native.Mathlib.Omega.{arith}
 use native.Mathlib.Numerals.{add-one}
-use native.Mathlib.Nat.{one-mul, mod-eq-of-lt}
+use native.Mathlib.Nat.{one-mul}
 use lib.Dec.{eqb}
-use lib.Pow.{pow-lt}
 use lib.ListN.{length, getD, set, replicate}
 use Rattle.basics.specs.Bounded.{each, count}
 use Rattle.basics.specs.Packed.{digit, packed, raised}
 use Rattle.basics.proofs.Booleans.{either, and-false-l, and-false-r, eqb-eq, eq-eqb, eqb-ne, ne-eqb}
 use Rattle.basics.proofs.Bounded.{each-same, count-le}
-use Rattle.basics.proofs.Counting.{count-hit, count-none, count-one}
-use Rattle.basics.proofs.Packed.{digit-fits, packed-zero, packed-raised, packed-others, raised-length}
+use Rattle.basics.proofs.Clears.{zeros-at}
+use Rattle.basics.proofs.Counting.{count-hit, count-none, count-one, count-full}
+use Rattle.basics.proofs.Packed.{digit-fits, packed-zero, packed-raised, packed-others, raised-length, shift-one}
+use Rattle.basics.proofs.Scans.{Scan, scan-done, scan-fails}
 use Rattle.tables.specs.Marks.{place, marked, marks, Mark, nothing, first, again, Marked, Names, all, wrong, twice, Heads-named, Nexts-named}
 use Rattle.tables.specs.Table.{n-of, m-of, head-of, next-of, heads-good, nexts-good, named, chains-good}
-use Rattle.tables.proofs.Scans.{Scan, scan-done, scan-fails}
 
 -- ONE BIT, as the code reads and writes it
 module _ (w : List ℕ) (x : ℕ) (small : x < 65536) where
@@ -45,7 +45,7 @@ module _ (w : List ℕ) (x : ℕ) (small : x < 65536) where
   bit-set h = let r = read in omega arith
 
   shifted : 1 * 2 ^ (x / 2048) % 2 ^ 32 ≡ 1 * 2 ^ (x / 2048)
-  shifted = mod-eq-of-lt (rw (one-mul (2 ^ (x / 2048))) (pow-lt {i = x / 2048} {j = 32} (omega arith)))
+  shifted = shift-one 32 (x / 2048) (omega arith) ∙ sym (one-mul (2 ^ (x / 2048)))
 
   pub bit-fits :
       getD w (x % 2048) 0 < 2 ^ 32 → getD w (x % 2048) 0 / 2 ^ (x / 2048) % 2 ≡ 0 →
@@ -169,37 +169,10 @@ names-few (all g p) = let few = marked-few p in omega arith
 names-few (wrong a g) = omega arith
 names-few (twice a x o l g) = omega arith
 
--- NAMED EXACTLY ONCE: as many hits as numbers is a hit at each
-count-full : (k : ℕ) (f : ℕ → Bool) → eqb (count k f) k ≡ each k f
-unfolding count each
-count-full zero f = refl
-count-full (suc k) f =
-    let h = count-full k f in
-    let l = count-le k f in
-    elim (either (f k)) [
-      | inl e ↦
-          elim (either (eqb (count k f) k)) [
-            | inl q ↦
-                let same = eqb-eq (count k f) k q in
-                let full : eqb (count k f + 1) (suc k) ≡ true = eq-eqb {m = count k f + 1} {n = suc k} (omega arith) in cc
-            | inr q ↦
-                let other = eqb-ne (count k f) k q in
-                let less : eqb (count k f + 1) (suc k) ≡ false = ne-eqb (count k f + 1) (suc k) (λ e. omega arith) in cc
-          ]
-      | inr e ↦
-          let less : eqb (count k f + 0) (suc k) ≡ false = ne-eqb (count k f + 0) (suc k) (λ e. omega arith) in
-          let out = and-false-r (each k f) e in cc
-    ]
-
--- all bits clear
-zeros : (k i : ℕ) → getD (replicate {A = ℕ} k 0) i 0 ≡ 0
-zeros zero i = refl
-zeros (suc k) zero = refl
-zeros (suc k) (suc i) = zeros k i
-
+-- NAMED EXACTLY ONCE, from clear bits on
 clear : (k x : ℕ) → marked (replicate k 0) x ≡ 0
 unfolding marked
-clear k x = packed-zero 2 (omega arith) 32 (replicate k 0) (place x) (zeros k (place x / 32))
+clear k x = packed-zero 2 (omega arith) 32 (replicate k 0) (place x) (zeros-at k (place x / 32))
 
 none-marked : (k m : ℕ) → marks m (replicate k 0) ≡ 0
 unfolding marks

@@ -7,10 +7,10 @@ use native.Mathlib.Omega.{arith}
 use lib.Dec.{ltb, leb, eqb}
 use lib.ListN.{length}
 use Rattle.basics.proofs.Booleans.{and-make, and-false-l, and-false-r, true-not, false-not, le-leb, gt-leb, lt-ltb, ge-ltb, eq-eqb, eqb-eq, ne-eqb}
+use Rattle.basics.proofs.Refusing.{passed}
 use Rattle.tables.specs.Access.{Sized}
 use Rattle.tables.specs.Sizes.{sizes-refusal}
 use Rattle.tables.specs.Table.{Limits, n-of, k-of, m-of, flags-good, records-good, chains-good, table-refusal}
-use Rattle.tables.proofs.Laws.{passed}
 
 -- refusals 2 to 6 first, then the others
 by-parts :

@@ -1,7 +1,7 @@
 -- What the answer of a lasso decision says: taken or not where it does not refuse, and where a valid table and a lasso over its letters
 -- are refused. Assumes nothing.
 use mathlib.Core.Path.{_≡_, refl, sym, _∙_}
-use mathlib.Core.Bool.{Bool, true, false, _&&_, _||_, not}
+use mathlib.Core.Bool.{Bool, false, _&&_, _||_, not}
 use mathlib.Core.List.{List}
 use mathlib.Core.Logic.{_⊎_, inl, inr}
 use Prim.Native.Nat.{ℕ, zero, suc, _+_, _*_}
@@ -20,19 +20,14 @@ use Rattle.lassos.specs.Decision.{as-decision, decision, Lasso-says}
 use Rattle.lassos.specs.Refusals.{parts-refusal, lasso-refusal}
 use Rattle.lassos.specs.declared.Decision.{Decision}
 use Rattle.lassos.specs.declared.Decision.the-variants.{Taken, NotTaken, Refused}
+use Rattle.lassos.proofs.Answers.{number-refused}
 use Rattle.tubochre.specs.Demand.{Not-refused}
 
--- the answer for each number
+-- an answer that refuses nothing has number zero
 number-zero : (number : ℕ) (taken : Bool) → Not-refused (as-decision number taken) → number ≡ 0
 unfolding Not-refused as-decision
 number-zero zero taken h = refl
 number-zero (suc r) taken h = absurd (h (suc r) refl)
-
-refused-as : (number : ℕ) (taken : Bool) (r : ℕ) → as-decision number taken ≡ Refused r → (number ≡ r) × (number ≡ 0 → ⊥)
-unfolding as-decision
-refused-as zero true r h = let z : _≡_ {A = ℕ} 0 1 = cc in absurd (omega arith)
-refused-as zero false r h = let z : _≡_ {A = ℕ} 0 1 = cc in absurd (omega arith)
-refused-as (suc n) taken r h = ((cc), λ z. omega arith)
 
 -- a lasso over the letters meets neither 13 nor 15
 lasso-number :
@@ -76,6 +71,6 @@ module _ {t u v : List ℕ} {d : Decision} {w w-now : List ℕ} (says : Lasso-sa
     pub says-refused : (number : ℕ) → d ≡ Refused number → (number ≡ 14) ⊎ (number ≡ 16)
     unfolding decision lasso-refusal or-else
     says-refused number h =
-        let (same, met) = refused-as (lasso-refusal t u v (length w)) (takes? (meaning t) u v) number (sym (says .answer) ∙ h) in
+        let (same, some) = number-refused number (lasso-refusal t u v (length w)) (takes? (meaning t) u v) (sym h ∙ says .answer) in
         let e : lasso-refusal t u v (length w) ≡ parts-refusal (n-of t) (k-of t) u v (length w) = rw table in
-        rw (sym same ∙ e) (lasso-number (n-of t) (k-of t) u v (length w) lasso (λ z. met (e ∙ z)))
+        rw (sym same ∙ e) (lasso-number (n-of t) (k-of t) u v (length w) lasso (λ z. let none = e ∙ z in omega arith))

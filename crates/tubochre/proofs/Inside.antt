@@ -1,9 +1,9 @@
 -- What a trial needs of a build: the used part lies inside the words. Assumes nothing.
-use mathlib.Core.Path.{_≡_, refl, sym, _∙_, ap}
+use mathlib.Core.Path.{_≡_, sym, _∙_, ap}
 use mathlib.Core.List.{List}
-use Prim.Native.Nat.{ℕ, _+_, _*_, _≤_, min}
+use Prim.Native.Nat.{ℕ, min}
 use native.Mathlib.Omega.{arith}
-use lib.ListN.{length, take, length-take}
+use lib.ListN.{length, length-take}
 use Rattle.automata.specs.System.{numbered}
 use Rattle.layout.proofs.Words.{chained-length}
 use Rattle.complement.specs.Build.{Build-says, used, words-needed}

@@ -1,5 +1,5 @@
 -- What the four calls of a trial say together. Assumes nothing.
-use mathlib.Core.Path.{_≡_, refl, sym, _∙_, ap}
+use mathlib.Core.Path.{_≡_, refl, _∙_, ap}
 use mathlib.Core.Logic.{inl, inr}
 use mathlib.Core.List.{List}
 use Prim.Native.Nat.{ℕ}
@@ -10,9 +10,9 @@ use Rattle.basics.proofs.Booleans.{either, eqb-eq, eqb-ne}
 use Rattle.basics.proofs.Clears.{zeros-length, zeros-same}
 use Rattle.patterns.specs.Check.{check-refusal, as-checked}
 use Rattle.patterns.specs.declared.Checked.the-variants.{Passed}
-use Rattle.complement.specs.Build.{Build-says, used}
+use Rattle.complement.specs.Build.{Build-says}
 use Rattle.complement.proofs.Second.{build-passed}
-use Rattle.lassos.specs.Decision.{Lasso-says, decision}
+use Rattle.lassos.specs.Decision.{Lasso-says}
 use Rattle.tubochre.specs.Calls.{Decided-built, Trial-says}
 use Rattle.tubochre.specs.Demand.{Third-demand}
 use Rattle.tubochre.specs.declared.Trial.{Trial}

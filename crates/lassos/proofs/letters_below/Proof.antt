@@ -1,19 +1,23 @@
 -- `lassos::letters_below` meets its contract. The invariant: the letters so far are below k. Assumes nothing.
 use Prim.Native.Nat.{_-_}
 use native.Mathlib.Omega.{arith}
-use lib.ListN.{length}
-use Rattle.lassos.proofs.Parts.{Below, below-start, below-turn, below-all, not-below}
+use lib.Dec.{ltb}
+use lib.ListN.{length, getD}
+use Rattle.basics.proofs.Booleans.{lt-ltb}
+use Rattle.basics.proofs.Scans.{Scan, scan-start, scan-more, scan-done}
+use Rattle.automata.specs.Lasso.{all-below}
+use Rattle.lassos.proofs.Parts.{not-below}
 use Rattle.lassos.proofs.letters_below.Statement.{statement}
 use Rattle.lassos.proofs.letters_below.Tie as tie
 
 abbrev Inv-loop : tie.InvT-loop
-Inv-loop part k i₀ i = Below k part i
+Inv-loop part k i₀ i = Scan (λ j. ltb (getD part j 0) k) (length part) i
 
 abbrev μ-loop : tie.MeasureT-loop
 μ-loop part k i₀ i = length part - i
 
 loop-holds : tie.Need-loop-holds Inv-loop μ-loop
-loop-holds c = below-start _ _
+loop-holds c = scan-start
 
 shared-slice-read-letter : tie.Need-shared-slice-read-letter Inv-loop μ-loop
 shared-slice-read-letter c = omega arith
@@ -31,10 +35,11 @@ loop-less : tie.Need-loop-less Inv-loop μ-loop
 loop-less c = omega arith
 
 loop-again : tie.Need-loop-again Inv-loop μ-loop
-loop-again c = below-turn (c .before .before .before .loop .inv) (c .before .before .loop-test .taken) (c .if1 .left)
+loop-again c = scan-more (c .before .before .before .loop .inv) (c .before .before .loop-test .taken) (lt-ltb (c .if1 .left))
 
 returns-2 : tie.Need-returns-2 Inv-loop μ-loop
-returns-2 c = below-all (c .before .loop .inv) (c .loop-test .left)
+unfolding all-below
+returns-2 c = scan-done (c .before .loop .inv) (c .loop-test .left)
 
 pub letters-below-spec : {M : Type 1} → statement M
 letters-below-spec =

@@ -2,7 +2,8 @@
 -- Assumes nothing.
 use native.Mathlib.Omega.{arith}
 use Rattle.tables.specs.Table.{m-of}
-use Rattle.patterns.proofs.Walks.{Walked, left, walk-state, walk-record, walk-letter, walk-target, walk-start, walk-turn, walk-less, walk-end}
+use Rattle.tables.proofs.Chains.{left}
+use Rattle.patterns.proofs.Walks.{Walked, walk-state, walk-record, walk-letter, walk-target, walk-start, walk-turn, walk-less, walk-end}
 use Rattle.patterns.proofs.row_of.Statement.{statement}
 use Rattle.patterns.proofs.row_of.Tie as tie
 

@@ -51,14 +51,14 @@ use denote.Triple.Spec.{Meets, tripleOf}
 use denote.Triple.Table.{entered, cited}
 use denote.Triple.Walked.{says, Stays, stay-none, stay-none-slice, walkOf, goes-none, goes-none-slice, Walks, ends-at, walked, walk-meets}
 use denote.Exit.{yes}
-use Rattle.basics.proofs.Booleans.{either, ltb-lt, ltb-ge, lt-ltb, ge-ltb}
+use Rattle.basics.proofs.Booleans.{either, T-true, T-false, ltb-lt, ltb-ge, lt-ltb, ge-ltb}
 use Rattle.ncsb.specs.Successors.{same}
 use Rattle.ncsb.specs.declared.Quadruple.{Quadruple}
 use Rattle.ncsb.proofs.Quadruple as Q
 use Rattle.ncsb.proofs.Quadruple.Laws as Q′
 use Rattle.records.specs.Records.{blank, place-of}
 use Rattle.records.proofs.First.{Scanned, scanned-none, scanned-met, scanned-more, scanned-all}
-use Rattle.records.proofs.Machine.{bytes-fit, typed, holds, fails}
+use Rattle.records.proofs.Machine.{bytes-fit, typed}
 use Rattle.records.proofs.equal as equal
 use Rattle.records.proofs.equal.Symbol as equal-def
 use Rattle.records.proofs.equal.Symbol.{name as #records·equal}
@@ -200,12 +200,12 @@ module _ {M : Type 1} (𝓤 : URA M) (H : Heap 𝓤) (A : Atoms 𝓤) (W : Given
         (λ yes-x. shuts-slice ! tt Q.the-row q′ ys b o $
         assigns ! (of-opd ! (load ! (from ! (stop !)) (look ! 13 refl))) (from ! (stop !)) (init ! 19 refl (tt, record { fits = small })) $
         returns-within ! Post refl (look ! 19 refl) $ forget ! 3 refl $ forget ! 5 refl $ forget ! 7 refl $ forget ! 9 refl $ forget ! 11 refl $ forget ! 13 refl $ forget ! 15 refl $ forget ! 17 refl $ forget ! 19 refl $
-        leave k (scanned-met x ys k less s (sym e ∙ holds r yes-x)) small)
+        leave k (scanned-met x ys k less s (sym e ∙ T-true r yes-x)) small)
         -- it is not: one more is scanned
         (λ not-x. skips ! $ exec ! C Λ En counts (anyQ (Turned (k, le, s))) $
         assigns-last ! (bin ! (load ! (from ! (stop !)) (look ! 14 refl)) (lit ! tt) (record { fits = next-fits })) (from ! (stop !)) (store ! 14 refl (tt, record { fits = next-fits })) $
         forget ! 4 refl $ forget ! 6 refl $ forget ! 8 refl $ forget ! 10 refl $ forget ! 12 refl $
-        again ! Nearer At (k, le, s) (k + 1, next-le, scanned-more x ys k less s (sym e ∙ fails r not-x)) nearer))))))
+        again ! Nearer At (k, le, s) (k + 1, next-le, scanned-more x ys k less s (sym e ∙ T-false r not-x)) nearer))))))
       where
         small : k < 2 ^ 64
         small = let g = gn .0 in omega arith

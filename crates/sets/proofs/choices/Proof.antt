@@ -3,10 +3,10 @@ use mathlib.Core.Path.{_≡_, sym, _∙_, ap}
 use Prim.Native.Nat.{ℕ, _*_, _%_, _^_, _<_}
 use native.Mathlib.Omega.{arith}
 use lib.Count.{ones, ones-le}
+use Rattle.basics.proofs.Packed.{shift-one}
 use Rattle.sets.specs.Sets.{size}
 use Rattle.sets.proofs.Size.{size-ones}
 use Rattle.sets.proofs.Subsets.{subsets-length}
-use Rattle.sets.proofs.Walk.{shift-one}
 use Rattle.sets.proofs.choices.Statement.{statement}
 use Rattle.sets.proofs.choices.Tie as tie
 

@@ -5,8 +5,8 @@ use Prim.Native.Nat.{_-_}
 use mathlib.Core.Path.{refl}
 use denote.Ref.{now}
 use lib.Dec.{leb}
+use Rattle.basics.proofs.Scans.{Scan, scan-start, scan-more, scan-done, scan-fails, read-le, read-gt}
 use Rattle.tables.specs.Table.{n-of, flags-of, flags-good}
-use Rattle.tables.proofs.Scans.{Scan, scan-start, scan-more, scan-done, scan-fails, read-le, read-gt}
 use Rattle.tables.proofs.flags_good.Statement.{statement}
 use Rattle.tables.proofs.flags_good.Tie as tie
 

@@ -4,10 +4,10 @@ use native.Mathlib.Omega.{arith}
 use Prim.Native.Nat.{_-_}
 use mathlib.Core.Path.{_∙_}
 use denote.Ref.{now}
+use Rattle.basics.proofs.Scans.{Scan, scan-start, scan-more, read-le, read-gt}
 use Rattle.tables.specs.Marks.{Marked, head-good}
 use Rattle.tables.specs.Table.{n-of, m-of, head-of}
 use Rattle.tables.proofs.Marking.{marked-start, marked-few, marked-more, marked-twice, names-wrong, names-all}
-use Rattle.tables.proofs.Scans.{Scan, scan-start, scan-more, read-le, read-gt}
 use Rattle.tables.proofs.name_heads.Statement.{statement}
 use Rattle.tables.proofs.name_heads.Tie as tie
 

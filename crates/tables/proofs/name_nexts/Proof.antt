@@ -5,11 +5,11 @@ use native.Mathlib.Numerals.{add-one}
 use Prim.Native.Nat.{suc, _-_}
 use mathlib.Core.Path.{_∙_}
 use denote.Ref.{now}
+use Rattle.basics.proofs.Scans.{Scan, scan-start, scan-more}
 use Rattle.tables.specs.Marks.{Marked, next-good}
 use Rattle.tables.specs.Table.{m-of, next-of}
 use Rattle.tables.proofs.Checks.{next-fails, next-passes, next-small}
 use Rattle.tables.proofs.Marking.{marked-start, marked-few, marked-more, marked-twice, names-wrong, names-all}
-use Rattle.tables.proofs.Scans.{Scan, scan-start, scan-more}
 use Rattle.tables.proofs.name_nexts.Statement.{statement}
 use Rattle.tables.proofs.name_nexts.Tie as tie
 

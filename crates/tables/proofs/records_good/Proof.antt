@@ -3,9 +3,9 @@ use borrow.Author.Needs.{needs}
 use native.Mathlib.Omega.{arith}
 use Prim.Native.Nat.{_-_}
 use denote.Ref.{now}
+use Rattle.basics.proofs.Scans.{Scan, scan-start, scan-more, scan-done}
 use Rattle.tables.specs.Table.{m-of, records-good}
 use Rattle.tables.proofs.Checks.{record-good, letter-bad, target-bad, record-passes}
-use Rattle.tables.proofs.Scans.{Scan, scan-start, scan-more, scan-done}
 use Rattle.tables.proofs.records_good.Statement.{statement}
 use Rattle.tables.proofs.records_good.Tie as tie
 

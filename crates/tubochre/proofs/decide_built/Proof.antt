@@ -1,5 +1,5 @@
 -- `decide_built` meets its contract. Assumes nothing.
-use mathlib.Core.Path.{_≡_, refl, sym}
+use mathlib.Core.Path.{refl, sym}
 use lib.Seq.{length-take-le}
 use Rattle.complement.specs.Build.{used, words-needed}
 use borrow.Author.Needs.{needs}

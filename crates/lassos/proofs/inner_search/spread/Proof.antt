@@ -2,7 +2,8 @@
 -- The measure is how many records can follow. Assumes nothing.
 use mathlib.Core.Path.{_∙_}
 use Rattle.tables.specs.Table.{m-of}
-use Rattle.lassos.proofs.Chains.{left, next-less}
+use Rattle.tables.proofs.Chains.{left}
+use Rattle.lassos.proofs.Chains.{next-less}
 use Rattle.lassos.proofs.Follows.{Spreading, spreading-start, spreading-follow, spreading-record, spreading-met, spreading-turn, spreading-end}
 use Rattle.lassos.proofs.inner_search.spread.Statement.{statement}
 use Rattle.lassos.proofs.inner_search.spread.Tie as tie

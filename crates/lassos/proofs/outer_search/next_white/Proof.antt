@@ -1,7 +1,8 @@
 -- `lassos::outer_search::next_white` meets its contract. The invariant: the records passed by lead to visited nodes on the letter.
 -- The measure is how many records can follow. Assumes nothing.
 use Rattle.tables.specs.Table.{m-of}
-use Rattle.lassos.proofs.Chains.{left, next-less, Walked, walked-start, walked-edge, walked-record, walked-turn, walked-found, walked-none}
+use Rattle.tables.proofs.Chains.{left}
+use Rattle.lassos.proofs.Chains.{next-less, Walked, walked-start, walked-edge, walked-record, walked-turn, walked-found, walked-none}
 use Rattle.lassos.proofs.outer_search.next_white.Statement.{statement}
 use Rattle.lassos.proofs.outer_search.next_white.Tie as tie
 

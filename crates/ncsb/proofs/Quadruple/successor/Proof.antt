@@ -1,5 +1,5 @@
 -- `Quadruple::successor` meets its contract. Assumes nothing.
-use mathlib.Core.Path.{_≡_, refl, sym, _∙_}
+use mathlib.Core.Path.{_≡_}
 use Prim.Native.Nat.{ℕ}
 use lib.Bits.{bitAnd, bitOr}
 use borrow.Author.Needs.{needs}
