@@ -9,7 +9,7 @@
 #include <stdlib.h>
 #include <string.h>
 
-enum { STACK_PROMISED = 128 * 1024, THREADS = 4, ROUNDS = 20 };
+enum { STACK_PROMISED = 32 * 1024, THREADS = 4, ROUNDS = 20 };
 
 static void *room_for(size_t bytes)
 {
@@ -189,7 +189,7 @@ int main(void)
     try_most_records();
     section("lassos on the largest wide tables");
     try_stack();
-    section("less than 128 KiB of stack");
+    section("less than 32 KiB of stack");
     try_threads();
     section("calls from several threads at once");
     return summary("test_limits");

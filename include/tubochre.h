@@ -29,7 +29,7 @@
  *   - Tables, prefixes and loops are only read. Nothing is assumed of what the written buffers hold before.
  *   - It has no state from call to call, no global variables, and allocates nothing, so any number of threads may call
  *     at the same time, each with written buffers of its own.
- *   - It needs less than 128 KiB of stack.
+ *   - It needs less than 32 KiB of stack.
  *
  * The calls are proved against contracts that say the same. This header, the programs that call, and the compiler's
  * back end are outside those proofs. The archive is for x86-64 Linux.
