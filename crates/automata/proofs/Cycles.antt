@@ -11,6 +11,7 @@ use lib.Dec.{eqb}
 use lib.ListN.{length}
 use Rattle.basics.proofs.Booleans.{either, eqb-eq, eqb-ne}
 use Rattle.basics.proofs.Bounded.{pigeonhole}
+use Rattle.basics.proofs.Upward.{upward}
 use Rattle.automata.specs.Automaton.{Automaton, Path, Takes, Closed}
 use Rattle.automata.specs.Lasso.{letter-at, position-at, position-letter, next-position, positions, Walk, stay, onward, Accepting-cycle}
 use Rattle.automata.proofs.Positions.{position-zero, position-next, position-below, letter-position}
@@ -32,14 +33,9 @@ module _ (a : Automaton) (u v : List ℕ) (o : 1 ≤ length v) (run : ℕ → �
   -- a run walks through the product
   walk-along :
       (i j : ℕ) → i ≤ j → Walk a u v (position-at u v i) (run i) (position-at u v j) (run j)
-  walk-along i zero l = let z : i ≡ 0 = omega arith in rw z stay
-  walk-along i (suc j) l =
-      elim (either (eqb i (suc j))) [
-        | inl e ↦ rw (eqb-eq i (suc j) e) stay
-        | inr e ↦
-            let ne = eqb-ne i (suc j) e in
-            rw (position-next u v j) (onward (run (suc j)) (walk-along i j (omega arith)) (edge-at j))
-      ]
+  walk-along i j l =
+      upward (λ j. Walk a u v (position-at u v i) (run i) (position-at u v j) (run j)) i stay
+      (λ j _ h. rw (position-next u v j) (onward (run (suc j)) h (edge-at j))) j l
 
   -- two places with the same accepting node make the cycle
   cycle-between :

@@ -5,10 +5,11 @@ use mathlib.Core.List.{List, [], _∷_, _++_}
 use mathlib.Core.Logic.{inl, inr}
 use Prim.Native.Nat.{ℕ, zero, suc, _+_, _≤_, _<_}
 use native.Mathlib.Omega.{arith}
-use lib.Dec.{leb, eqb}
+use lib.Dec.{leb}
 use lib.ListN.{length, take, drop, take-append-drop}
 use lib.Seq.{take-suc, take-all}
-use Rattle.basics.proofs.Booleans.{either, eqb-eq, eqb-ne, leb-le, leb-gt}
+use Rattle.basics.proofs.Booleans.{either, leb-le, leb-gt}
+use Rattle.basics.proofs.Upward.{upward}
 use Rattle.automata.specs.System.{System, Decides, Reached, onward, state-at, Distinct, At-most}
 use Rattle.automata.specs.System.{an-edge, Built, built, number-of}
 use Rattle.automata.specs.System.{add-edge, add-all, by-letters, expand, explore-from, begin, explore, edges-of}
@@ -48,14 +49,9 @@ module _ {X : Type 0} (s : System X) where
 
   pub grows-letters : (c d i : ℕ) (x : X) (b : Built X) → c ≤ d → Grows (by-letters s c i x b) (by-letters s d i x b)
   unfolding by-letters
-  grows-letters c zero i x b l = let q : c ≡ 0 = omega arith in rw q (grows-self b)
-  grows-letters c (suc d) i x b l =
-      elim (either (eqb c (suc d))) [
-        | inl e ↦ rw (eqb-eq c (suc d) e) (grows-self (by-letters s (suc d) i x b))
-        | inr e ↦
-            let ne = eqb-ne c (suc d) e in
-            grows-then (grows-letters c d i x b (omega arith)) (grows-all i d (s .nexts x d) (by-letters s d i x b))
-      ]
+  grows-letters c d i x b l =
+      upward (λ d. Grows (by-letters s c i x b) (by-letters s d i x b)) c (grows-self (by-letters s c i x b))
+      (λ d _ h. grows-then h (grows-all i d (s .nexts x d) (by-letters s d i x b))) d l
 
   pub grows-expand : (i : ℕ) (b : Built X) → Grows b (expand s i b)
   unfolding expand by-letters

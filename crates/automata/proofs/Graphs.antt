@@ -5,11 +5,11 @@ use mathlib.Core.List.{List}
 use mathlib.Core.Logic.{_⊎_, inl, inr}
 use Prim.Native.Nat.{ℕ, zero, suc, _≤_, _<_}
 use native.Mathlib.Omega.{arith}
-use lib.Dec.{eqb}
 use lib.ListN.{length, getD}
 use Rattle.basics.specs.Bounded.{any, count}
-use Rattle.basics.proofs.Booleans.{either, clash, and-l, and-r, and-make, or-l, or-r, or-true, not-false, true-not, eqb-eq, eqb-ne}
+use Rattle.basics.proofs.Booleans.{either, clash, and-l, and-r, and-make, or-l, or-r, or-true, not-false, true-not}
 use Rattle.basics.proofs.Bounded.{any-find, any-make, count-le, count-less, search-to}
+use Rattle.basics.proofs.Upward.{upward}
 use Rattle.automata.specs.Decision.{tabulate, marked, row, grow, grown}
 
 pub tabulate-at : {A : Type 0} (k : ℕ) (f : ℕ → A) (i : ℕ) (d : A) → i < k → getD (tabulate k f) i d ≡ f i
@@ -71,14 +71,8 @@ module _ (n : ℕ) (g : List (List Bool)) where
 
     grown-keeps : (j k y : ℕ) → j ≤ k → y < n → marked (grown j n g s) y ≡ true → marked (grown k n g s) y ≡ true
     unfolding grown
-    grown-keeps j zero y l m e = let z : j ≡ 0 = omega arith in rw z at e
-    grown-keeps j (suc k) y l m e =
-        elim (either (eqb j (suc k))) [
-          | inl q ↦ rw (eqb-eq j (suc k) q) at e
-          | inr q ↦
-              let ne = eqb-ne j (suc k) q in
-              grow-keeps (grown k n g s) y m (grown-keeps j k y (omega arith) m e)
-        ]
+    grown-keeps j k y l m e =
+        upward (λ k. marked (grown k n g s) y ≡ true) j e (λ k _ h. grow-keeps (grown k n g s) y m h) k l
 
     -- a round that adds nothing: by then every reached node is marked
     record Still (k : ℕ) : Type 0 where

@@ -1,3 +1,4 @@
+pub mod Agreeing
 pub mod Cycles
 pub mod Decision
 pub mod Explore

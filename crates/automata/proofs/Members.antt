@@ -1,5 +1,6 @@
 -- Laws of lists of states: prefixes, members, the number of a state, and appending one that is new. Assumes nothing.
 use mathlib.Core.Path.{_≡_, refl, sym, _∙_, ap}
+use mathlib.Core.Bool.{true, false}
 use mathlib.Core.List.{List, [], _∷_, _++_, append-assoc, append-nil}
 use mathlib.Core.Logic.{_⊎_, inl, inr}
 use Prim.Native.Nat.{ℕ, zero, suc, _+_, _≤_, _<_}
@@ -8,6 +9,7 @@ use lib.Dec.{ltb}
 use lib.ListN.{length, getD, take, drop, length-append, take-append-drop, List·getD-append}
 use lib.Seq.{append-snoc, getD-append-seam, take-append-seam}
 use Rattle.basics.proofs.Booleans.{either, ltb-lt, ltb-ge, lt-ltb, ge-ltb}
+use Rattle.automata.specs.Decision.{tabulate}
 use Rattle.automata.specs.System.{System, Decides, Member, here, there, state-at, Distinct, number-of, with-state, with-states}
 
 -- PREFIXES: the second list goes on from the first
@@ -67,6 +69,24 @@ module _ {X : Type 0} where
   member-index blank here = (0, (omega arith), refl)
   member-index blank (there m) =
       let r = member-index blank m in (suc (r .0), (let l = r .1 in omega arith), r .2)
+
+-- THE NUMBER of the first state in a row that is the same
+module _ {X : Type 0} (s : System X) (x : X) where
+  pub number-met :
+      (n r : ℕ) (f : ℕ → X) → r < n → ((i : ℕ) → i < r → s .same x (f i) ≡ false) → s .same x (f r) ≡ true →
+      number-of s x (tabulate n f) ≡ r
+  unfolding number-of tabulate
+  number-met zero r f l before met = absurd (omega arith)
+  number-met (suc n) zero f l before met = rw met refl
+  number-met (suc n) (suc r) f l before met =
+      rw (before 0 (omega arith))
+      (ap suc (number-met n r (λ i. f (suc i)) (omega arith) (λ i m. before (suc i) (omega arith)) met))
+
+  pub number-missed : (n : ℕ) (f : ℕ → X) → ((i : ℕ) → i < n → s .same x (f i) ≡ false) → number-of s x (tabulate n f) ≡ n
+  unfolding number-of tabulate
+  number-missed zero f before = refl
+  number-missed (suc n) f before =
+      rw (before 0 (omega arith)) (ap suc (number-missed n (λ i. f (suc i)) (λ i m. before (suc i) (omega arith))))
 
 module _ {X : Type 0} (s : System X) where
   -- THE NUMBER OF A STATE is below the length exactly if the state is listed

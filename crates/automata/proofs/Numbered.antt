@@ -10,7 +10,7 @@ use lib.ListN.{length}
 use Rattle.basics.proofs.Booleans.{clash, and-l, and-r, and-make, or-l, or-r, or-true, eqb-eq, eqb-self, ltb-lt, lt-ltb, either, eqb-ne}
 use Rattle.automata.specs.Automaton.{Run, Takes, Single-run, Closed}
 use Rattle.automata.specs.System.{System, Decides, Member, here, there, Reached, at-start, onward, state-at}
-use Rattle.automata.specs.System.{Edge, an-edge, Built, number-of, edges-to, edges-on, edges-of, Exactly, listed, numbered, System-run}
+use Rattle.automata.specs.System.{Edge, an-edge, edge-at, Built, number-of, edges-to, edges-on, edges-of, Exactly, listed, numbered, System-run}
 use Rattle.automata.proofs.Members.{Prefix, prefix-length, prefix-same, member-at, number-found, number-first, number-at, number-member, number-prefix, state-prefix}
 use Rattle.automata.proofs.Explore.{exactly-distinct}
 
@@ -31,6 +31,36 @@ listed-right i c j es fs h = rw (listed-append i c j es fs) (or-r (listed i c j 
 listed-cases :
     (i c j : ℕ) (es fs : List Edge) → listed i c j (es ++ fs) ≡ true → (listed i c j es ≡ true) ⊎ (listed i c j fs ≡ true)
 listed-cases i c j es fs h = or-true (listed i c j es) (listed i c j fs) (sym (listed-append i c j es fs) ∙ h)
+
+-- an edge is listed where some place holds it
+pub listed-at : (es : List Edge) (e : ℕ) → e < length es → listed (edge-at es e .source) (edge-at es e .letter) (edge-at es e .target) es ≡ true
+unfolding listed edge-at
+listed-at [] e l = absurd (omega arith)
+listed-at (f ∷ es) zero l =
+    or-l (listed (f .source) (f .letter) (f .target) es)
+    (and-make (eqb-self (f .source)) (and-make (eqb-self (f .letter)) (eqb-self (f .target))))
+listed-at (f ∷ es) (suc e) l =
+    let g = edge-at es e in
+    or-r (eqb (f .source) (g .source) && (eqb (f .letter) (g .letter) && eqb (f .target) (g .target)))
+    (listed-at es e (omega arith))
+
+pub listed-find :
+    (i c j : ℕ) (es : List Edge) → listed i c j es ≡ true →
+    (e : ℕ) × (e < length es) × (edge-at es e .source ≡ i) × (edge-at es e .letter ≡ c) × (edge-at es e .target ≡ j)
+unfolding listed edge-at
+listed-find i c j [] h = absurd (clash h refl)
+listed-find i c j (f ∷ es) h =
+    elim (or-true (eqb (f .source) i && (eqb (f .letter) c && eqb (f .target) j)) (listed i c j es) h) [
+      | inl e ↦
+          let after = and-r (eqb (f .source) i) e in (
+            0,
+            omega arith,
+            eqb-eq (f .source) i (and-l (eqb (f .letter) c && eqb (f .target) j) e),
+            eqb-eq (f .letter) c (and-l (eqb (f .target) j) after),
+            eqb-eq (f .target) j (and-r (eqb (f .letter) c) after),
+          )
+      | inr e ↦ let (d, l, x, y, z) = listed-find i c j es e in (suc d, (omega arith), x, y, z)
+    ]
 
 -- an edge of the closed form: the successor that it leads to
 pub record Leads {X : Type 0} (s : System X) (all : List X) (x : X) (letter number : ℕ) : Type 0 where

@@ -1,6 +1,6 @@
 -- Laws of a lasso's positions: each place of u·v·v·v… has a position of u or v with the same letter, and each letter of a
 -- lasso is one of its alphabet. Assumes nothing.
-use mathlib.Core.Path.{_≡_, refl}
+use mathlib.Core.Path.{_≡_, refl, sym, _∙_, ap}
 use mathlib.Core.Bool.{true}
 use mathlib.Core.List.{List}
 use mathlib.Core.Logic.{inl, inr}
@@ -85,6 +85,18 @@ letter-position u v o i =
           let f : length u ≤ length u + m = omega arith in
           let d : length u + m - length u ≡ m = omega arith in rw (p, e, ge-ltb f, d)
     ]
+
+-- what follows a place is decided by its position
+pub position-add :
+    (u v : List ℕ) (i j : ℕ) → position-at u v i ≡ position-at u v j → (k : ℕ) → position-at u v (i + k) ≡ position-at u v (j + k)
+position-add u v i j e zero = rw (add-zero i, add-zero j) e
+position-add u v i j e (suc k) =
+    let h = position-add u v i j e k in
+    rw (add-suc i k, add-suc j k) (position-next u v (i + k) ∙ ap (next-position u v) h ∙ sym (position-next u v (j + k)))
+
+pub letter-same :
+    (u v : List ℕ) → 1 ≤ length v → (i j : ℕ) → position-at u v i ≡ position-at u v j → letter-at u v i ≡ letter-at u v j
+letter-same u v o i j e = letter-position u v o i ∙ ap (position-letter u v) e ∙ sym (letter-position u v o j)
 
 -- each letter of a lasso over k letters is one of them
 part-below : (k : ℕ) (u : List ℕ) → all-below k u ≡ true → (i : ℕ) → i < length u → getD u i 0 < k

@@ -7,6 +7,7 @@ use native.Mathlib.Omega.{arith}
 use lib.Dec.{ltb, eqb}
 use Rattle.basics.specs.Bounded.{each, any, count}
 use Rattle.basics.proofs.Booleans.{either, clash, and-l, and-r, and-make, or-l, or-r, or-none, or-assoc, or-false, eqb-eq, ltb-lt, ltb-ge, eqb-ne}
+use Rattle.basics.proofs.Upward.{upward}
 
 -- what holds of each number below the limit
 pub each-all : (k : ℕ) (f : ℕ → Bool) → each k f ≡ true → (i : ℕ) → i < k → f i ≡ true
@@ -73,6 +74,12 @@ any-zero f = refl
 pub any-suc : (k : ℕ) (f : ℕ → Bool) → any (suc k) f ≡ (any k f || f k)
 unfolding any
 any-suc k f = refl
+
+-- a limit beyond the last hit
+pub any-past : (j k : ℕ) (f : ℕ → Bool) → j ≤ k → ((i : ℕ) → j ≤ i → f i ≡ false) → any k f ≡ any j f
+unfolding any
+any-past j k f l none =
+    upward (λ k. any k f ≡ any j f) j refl (λ k m same. rw (none k m) (or-none (any k f) ∙ same)) k l
 
 -- the first number apart
 pub any-front : (k : ℕ) (f : ℕ → Bool) → any (suc k) f ≡ (f 0 || any k (λ i. f (suc i)))

@@ -6,8 +6,9 @@ use Prim.Native.Nat.{ℕ, zero, suc, _+_, _≤_, _<_}
 use native.Mathlib.Omega.{arith}
 use lib.Dec.{ltb, eqb}
 use Rattle.basics.specs.Bounded.{each, count}
-use Rattle.basics.proofs.Booleans.{either, and-false-r, eqb-eq, eq-eqb, eqb-ne, ne-eqb, ltb-lt, ltb-ge, lt-ltb, ge-ltb}
-use Rattle.basics.proofs.Bounded.{count-same, count-le}
+use Rattle.basics.proofs.Booleans.{either, clash, and-l, and-make, and-false-r, eqb-self, eqb-eq, eq-eqb, eqb-ne, ne-eqb, ltb-lt, ltb-ge, lt-ltb, ge-ltb}
+use Rattle.basics.proofs.Bounded.{count-same, count-le, count-less}
+use Rattle.basics.proofs.Upward.{upward}
 
 -- the first number apart
 pub count-front : (k : ℕ) (f : ℕ → Bool) → count (suc k) f ≡ cond (f 0) 1 0 + count k (λ i. f (suc i))
@@ -25,12 +26,7 @@ count-none (suc k) f h =
 -- a longer limit counts no less
 pub count-longer : (j k : ℕ) (f : ℕ → Bool) → j ≤ k → count j f ≤ count k f
 unfolding count
-count-longer j zero f l = let e : j ≡ 0 = omega arith in rw e (omega arith)
-count-longer j (suc k) f l =
-    elim (either (eqb j (suc k))) [
-      | inl e ↦ rw (eqb-eq j (suc k) e) (omega arith)
-      | inr e ↦ let n = eqb-ne j (suc k) e in let ih = count-longer j k f (omega arith) in omega arith
-    ]
+count-longer j k f l = upward (λ k. count j f ≤ count k f) j (omega arith) (λ k m h. omega arith) k l
 
 -- a hit is counted
 pub count-hit : (i k : ℕ) (f : ℕ → Bool) → i < k → f i ≡ true → count i f < count k f
@@ -42,15 +38,8 @@ count-hit i k f l e =
 -- a limit beyond the last hit
 pub count-past : (j k : ℕ) (f : ℕ → Bool) → j ≤ k → ((i : ℕ) → j ≤ i → f i ≡ false) → count k f ≡ count j f
 unfolding count
-count-past j zero f l h = let e : j ≡ 0 = omega arith in rw e
-count-past j (suc k) f l h =
-    elim (either (eqb j (suc k))) [
-      | inl e ↦ rw (eqb-eq j (suc k) e)
-      | inr e ↦
-          let n = eqb-ne j (suc k) e in
-          let ih = count-past j k f (omega arith) h in
-          let out = h k (omega arith) in rw out (omega arith)
-    ]
+count-past j k f l h =
+    upward (λ k. count k f ≡ count j f) j refl (λ k m same. let out = h k m in rw out (omega arith)) k l
 
 -- f and g agree but for one number, a hit of f alone
 pub count-one :
@@ -70,6 +59,16 @@ count-one (suc k) f g j l y n h =
           let ih = count-one k f g j (omega arith) y n (λ i m. h i (omega arith)) in
           let s = h k (omega arith) (λ q. d (sym q)) in rw s (omega arith)
     ]
+
+-- two different hits are counted twice
+pub count-two :
+    (k : ℕ) (f : ℕ → Bool) (i j : ℕ) → i < k → j < k → (i ≡ j → ⊥) → f i ≡ true → f j ≡ true → 1 < count k f
+count-two k f i j li lj apart hi hj =
+    let one =
+    count-less k (λ _. false) (λ x. f x && eqb i x) (λ x _ h. absurd (clash h refl)) i li refl (and-make hi (eqb-self i)) in
+    let two =
+    count-less k (λ x. f x && eqb i x) f (λ x _ h. and-l (eqb i x) h) j lj (and-false-r (f j) (ne-eqb i j apart)) hj in
+    omega arith
 
 -- the hits of f are those that are hits of g too, and those that are not
 pub count-split :

@@ -2,9 +2,11 @@ pub mod Booleans
 pub mod Bounded
 pub mod Clears
 pub mod Counting
+pub mod Filled
 pub mod Lists
 pub mod Packed
 pub mod Radix
 pub mod Refusing
 pub mod Rows
 pub mod Scans
+pub mod Upward

@@ -1,13 +1,14 @@
--- A loop that tests each number below a limit and leaves at the first that fails: it computes `each`. Assumes nothing.
+-- Loops that test each number below a limit. One that leaves at the first that fails computes `each`, one that leaves at the first that
+-- passes computes `any`. Assumes nothing.
 use mathlib.Core.Path.{_≡_, sym}
 use mathlib.Core.Bool.{Bool, true, false}
 use Prim.Native.Nat.{ℕ, _+_, _≤_, _<_}
 use native.Mathlib.Omega.{arith}
 use borrow.Author.Count.{below-more}
 use lib.Dec.{leb, ltb}
-use Rattle.basics.specs.Bounded.{each}
+use Rattle.basics.specs.Bounded.{each, any}
 use Rattle.basics.proofs.Booleans.{clash, not-both, le-leb, gt-leb, lt-ltb, ge-ltb}
-use Rattle.basics.proofs.Bounded.{each-all, each-make}
+use Rattle.basics.proofs.Bounded.{each-all, each-make, any-none}
 
 -- the test holds of every number passed
 pub record Scan (f : ℕ → Bool) (limit i : ℕ) : Type 0 where
@@ -26,6 +27,21 @@ scan-done {f} {limit} s l = sym (each-make limit f (λ j m. s .passed j (omega a
 
 pub scan-fails : (f : ℕ → Bool) (limit i : ℕ) → i < limit → f i ≡ false → false ≡ each limit f
 scan-fails f limit i l e = sym (not-both (each limit f) (λ h. clash (each-all limit f h i l) e))
+
+-- the test fails of every number passed
+pub record None-below (f : ℕ → Bool) (limit i : ℕ) : Type 0 where
+  pub upto : i ≤ limit
+  pub none : (j : ℕ) → j < i → f j ≡ false
+
+module _ (f : ℕ → Bool) (limit : ℕ) where
+  pub none-start : None-below f limit 0
+  none-start = record { upto = omega arith; none = λ j l. absurd (omega arith) }
+
+  pub none-turn : (i : ℕ) → i < limit → f i ≡ false → None-below f limit i → None-below f limit (i + 1)
+  none-turn i l e s = record { upto = omega arith; none = below-more (λ j. f j ≡ false) i (s .none) e }
+
+  pub none-end : (i : ℕ) → limit ≤ i → None-below f limit i → any limit f ≡ false
+  none-end i l s = any-none limit f (λ j m. s .none j (omega arith))
 
 -- a test of what was read, as the test of the words themselves
 module _ {a b x y : ℕ} (p : a ≡ x) (q : b ≡ y) where

@@ -2,13 +2,11 @@
 use mathlib.Core.Path.{_≡_, refl, sym, _∙_, ap}
 use mathlib.Core.Bool.{Bool, true, false}
 use mathlib.Core.List.{List}
-use mathlib.Core.Logic.{inl, inr}
 use Prim.Native.Nat.{ℕ, zero, suc, _+_, _*_, _^_, _≤_, _<_}
 use native.Mathlib.Omega.{arith}
-use lib.Dec.{eqb}
 use lib.ListN.{length, getD, take}
 use lib.Seq.{take-all}
-use Rattle.basics.proofs.Booleans.{either, eqb-eq, eqb-ne}
+use Rattle.basics.proofs.Upward.{upward}
 use Rattle.automata.specs.System.{Built, state-at, add-edge, add-all, by-letters}
 use Rattle.automata.proofs.Exploring.{Grows, grows-self, grows-then, grows-edge, grows-letters, add-all-take}
 use Rattle.sets.specs.Sets.{size}
@@ -17,10 +15,10 @@ use Rattle.ncsb.specs.Moves.{Moves}
 use Rattle.ncsb.specs.Successors.{quadruple, blocked, successors, ncsb}
 use Rattle.ncsb.specs.declared.Asked.{Asked}
 use Rattle.ncsb.specs.declared.Quadruple.{Quadruple}
+use Rattle.ncsb.proofs.Choices.{blocked-same, none-blocked, choices-count, choice-successor}
 use Rattle.patterns.specs.declared.Shape.{Shape}
 use Rattle.complement.specs.Found.{within, Turns, Step-asks, Expand-asks, array-moves}
 use Rattle.complement.specs.declared.explore.Progress.{Progress}
-use Rattle.complement.proofs.Choices.{blocked-same, none-blocked, choices-count, choice-successor}
 use Rattle.complement.proofs.Meeting.{capacity-words}
 use Rattle.complement.proofs.Reaching.{Reaching, reach-start, reach-asks, reach-turn, reach-full, reach-end}
 
@@ -32,14 +30,9 @@ by-choice d y i c (suc k) b = add-edge (ncsb d) i c (y k) (by-choice d y i c k b
 module _ (d : Moves) (y : ℕ → Quadruple) (i c : ℕ) where
   choice-grows : (j k : ℕ) → j ≤ k → (b : Built Quadruple) → Grows (by-choice d y i c j b) (by-choice d y i c k b)
   unfolding by-choice
-  choice-grows j zero l b = let e : j ≡ 0 = omega arith in rw e (grows-self b)
-  choice-grows j (suc k) l b =
-      elim (either (eqb j (suc k))) [
-        | inl q ↦ rw (eqb-eq j (suc k) q) (grows-self (by-choice d y i c (suc k) b))
-        | inr q ↦
-            let ne = eqb-ne j (suc k) q in
-            grows-then (choice-grows j k (omega arith) b) (grows-edge (ncsb d) i c (y k) (by-choice d y i c k b))
-      ]
+  choice-grows j k l b =
+      upward (λ k. Grows (by-choice d y i c j b) (by-choice d y i c k b)) j (grows-self (by-choice d y i c j b))
+      (λ k _ h. grows-then h (grows-edge (ncsb d) i c (y k) (by-choice d y i c k b))) k l
 
   choice-all :
       (ys : List Quadruple) → ((j : ℕ) → j < length ys → y j ≡ getD ys j (quadruple 0 0 0 0)) →

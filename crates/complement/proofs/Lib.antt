@@ -1,7 +1,4 @@
-pub mod Agreeing
 pub mod Answers
-pub mod Arrays
-pub mod Choices
 pub mod Finishing
 pub mod Flagged
 pub mod Kept
@@ -10,7 +7,6 @@ pub mod Lookup
 pub mod Meeting
 pub mod Numbering
 pub mod Reaching
-pub mod Rising
 pub mod Second
 pub mod Starting
 pub mod Stored

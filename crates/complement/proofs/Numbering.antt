@@ -8,6 +8,7 @@ use native.Mathlib.Numerals.{add-one}
 use native.Mathlib.Omega.{arith}
 use lib.ListN.{length}
 use Rattle.automata.specs.System.{Built, built, state-at, At-most, Distinct, by-letters, expand, begin, explore}
+use Rattle.automata.proofs.Agreeing.{letters-agree}
 use Rattle.automata.proofs.Explore.{begin-is}
 use Rattle.automata.proofs.Exploring.{grows-explore, At-state, at-most-le, state-begin, state-step, state-end, state-grows}
 use Rattle.tables.specs.Table.{n-of, meaning}
@@ -17,6 +18,7 @@ use Rattle.ncsb.specs.Successors.{initials, ncsb}
 use Rattle.ncsb.specs.declared.Quadruple.{Quadruple}
 use Rattle.ncsb.proofs.Bound.{bound-le, few-reached}
 use Rattle.ncsb.proofs.Reached.{initials-apart, reached-fine}
+use Rattle.ncsb.proofs.Widening.{Widens, Widens-starts, successors-same, initials-same}
 use Rattle.patterns.specs.Check.{check-refusal}
 use Rattle.patterns.specs.Masks.{masks-of}
 use Rattle.patterns.specs.Pattern.{moves}
@@ -28,8 +30,6 @@ use Rattle.complement.specs.Complement.{system-of, complement}
 use Rattle.complement.specs.Records.{quadruple-at}
 use Rattle.complement.specs.Found.{Begins, Shows, Ends, within, Turns, Expand-asks, array-moves, start-moves, Started}
 use Rattle.complement.specs.declared.explore.Progress.{Progress}
-use Rattle.complement.proofs.Agreeing.{letters-agree}
-use Rattle.complement.proofs.Arrays.{Widens, Widens-starts, successors-same, initials-same}
 use Rattle.complement.proofs.Kept.{kept-at}
 use Rattle.complement.proofs.Meeting.{capacity-limit}
 use Rattle.complement.proofs.Reaching.{ends-within, ends-grown}

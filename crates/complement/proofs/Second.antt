@@ -3,14 +3,13 @@
 use mathlib.Core.Path.{_≡_, refl, sym, _∙_, ap}
 use mathlib.Core.Bool.{_||_, cond}
 use mathlib.Core.List.{List}
-use Prim.Native.Nat.{ℕ, zero, suc, _*_, _-_, _^_, _≤_}
+use Prim.Native.Nat.{ℕ, zero, suc, _*_, _^_, _≤_}
 use native.Mathlib.Omega.{arith}
 use lib.Dec.{ltb}
-use lib.ListN.{length, take, replicate}
+use lib.ListN.{length}
 use lib.Pow.{pow-pos}
-use lib.Seq.{take-at}
-use Rattle.basics.specs.Buffers.{filled}
 use Rattle.basics.proofs.Booleans.{ltb-ge, or-false-l, or-false-r}
+use Rattle.basics.proofs.Filled.{filled-take}
 use Rattle.basics.proofs.Refusing.{passed, or-else-none}
 use Rattle.basics.proofs.Rows.{rows-length}
 use Rattle.automata.specs.Automaton.{Same}
@@ -31,12 +30,12 @@ use Rattle.patterns.specs.Pattern.{moves}
 use Rattle.patterns.proofs.Passed.{checked-table, checked-split}
 use Rattle.layout.specs.Orderly.{Orderly, Lists}
 use Rattle.layout.proofs.Meaning.{chained-meaning}
+use Rattle.layout.proofs.Rising.{numbered-orderly, numbered-lists}
 use Rattle.layout.proofs.Valid.{chained-valid}
 use Rattle.layout.proofs.Words.{chained-length}
 use Rattle.complement.specs.Build.{Room, room-of, words-needed, room-refusal, build-refusal, as-counts, after-build, Build-says, used, used-sets}
 use Rattle.complement.specs.Complement.{system-of, complement, complement-automaton, complement-words, sets-words, quadruple-words, record-width}
 use Rattle.complement.specs.declared.Counts.{Counts}
-use Rattle.complement.proofs.Rising.{numbered-orderly, numbered-lists}
 
 -- a complement whose states and edges a wide table can have
 pub record Fits (t : List ℕ) : Type 0 where
@@ -130,11 +129,6 @@ unfolding sets-words record-width quadruple-words
 sets-length t =
     rows-length 4 (length (complement t .states)) (λ i. quadruple-words (state-at (system-of t) (complement t .states) i)) (λ i l. refl)
 
--- the new words begin a buffer that is filled with them
-take-filled : (n : ℕ) (x before : List ℕ) → length x ≡ n → take n (filled x before) ≡ x
-unfolding filled
-take-filled n x before e = take-at x (replicate (length before - length x) 0) n e
-
 module _ {t : List ℕ} {r : Counts} {o o-now s s-now : List ℕ} (says : Build-says t r o o-now s s-now) (accepted : r .number ≡ 0) where
   build-counts :
       (build-refusal t (room-of o s) ≡ 0) × (r .states ≡ length (complement t .states))
@@ -179,7 +173,7 @@ module _ {t : List ℕ} {r : Counts} {o o-now s s-now : List ℕ} (says : Build-
   unfolding used after-build
   build-used =
       rw (says .words, build-accepted)
-      (take-filled (words-needed (r .states) (r .edges)) (complement-words t) o
+      (filled-take (complement-words t) o (words-needed (r .states) (r .edges))
       (let n = build-states in let m = build-edges in let l = words-length t in cc))
 
   -- and that of the sets its quadruples
@@ -187,4 +181,4 @@ module _ {t : List ℕ} {r : Counts} {o o-now s s-now : List ℕ} (says : Build-
   unfolding used-sets after-build
   build-sets =
       rw (says .sets, build-accepted)
-      (take-filled (record-width * r .states) (sets-words t) s (sets-length t ∙ sym (ap (λ (n : ℕ). record-width * n) build-states)))
+      (filled-take (sets-words t) s (record-width * r .states) (sets-length t ∙ sym (ap (λ (n : ℕ). record-width * n) build-states)))

@@ -13,11 +13,11 @@ use Rattle.automata.specs.System.{built}
 use Rattle.ncsb.specs.Array.{from-array, nth-initial}
 use Rattle.ncsb.specs.Successors.{quadruple, initial-free, initials}
 use Rattle.ncsb.specs.declared.Quadruple.{Quadruple}
+use Rattle.ncsb.proofs.Choices.{choices-fit, initials-count, choice-initial}
 use Rattle.patterns.specs.declared.Shape.{Shape}
 use Rattle.complement.specs.Records.{with-quadruple, capacity}
 use Rattle.complement.specs.Found.{Begins, records, States-kept, triples, edge-room, Ends, within, beyond, overfull, start-moves, Started, started, too-many}
 use Rattle.complement.specs.declared.explore.Progress.{Progress}
-use Rattle.complement.proofs.Choices.{choices-fit, initials-count, choice-initial}
 use Rattle.complement.proofs.Kept.{kept-more}
 use Rattle.complement.proofs.Meeting.{capacity-words, capacity-kept}
 

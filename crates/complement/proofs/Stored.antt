@@ -2,14 +2,16 @@
 use mathlib.Core.Path.{_≡_, refl, sym, _∙_}
 use mathlib.Core.List.{List, [], _∷_, _++_, append-nil}
 use mathlib.Core.Logic.{inl, inr}
-use Prim.Native.Nat.{ℕ, zero, suc, _+_, _*_, _-_, _≤_, _<_}
+use Prim.Native.Nat.{ℕ, suc, _+_, _*_, _≤_, _<_}
 use native.Mathlib.Numerals.{add-one, add-two, add-three}
 use native.Mathlib.Omega.{arith}
 use lib.Dec.{eqb, ltb}
-use lib.ListN.{length, getD, set, replicate, length-append, length-set, length-replicate, List·getD-append, List·getD-eq-default}
+use lib.ListN.{length, getD, set, length-append, length-set, List·getD-append, List·getD-eq-default}
 use lib.Seq.{sets, getD-set-same, getD-set-other, getD-append-seam, append-snoc, ext-getD}
 use Rattle.basics.specs.Buffers.{zeros, filled}
 use Rattle.basics.proofs.Booleans.{either, eqb-eq, eqb-ne, ltb-lt, ltb-ge, lt-ltb, ge-ltb}
+use Rattle.basics.proofs.Clears.{zeros-at}
+use Rattle.basics.proofs.Filled.{filled-length, filled-at}
 use Rattle.automata.specs.System.{Edge, an-edge}
 use Rattle.tables.specs.Table.{wide-range}
 use Rattle.ncsb.specs.declared.Quadruple.{Quadruple}
@@ -54,23 +56,14 @@ begins-words {new} {w} (v ∷ vs) l h =
     let rest : length (new ++ (v ∷ [])) + length vs ≤ length (set w (length new) v) = rw (more, length-set) (omega arith) in
     rw (← append-snoc new v vs, ← more) (begins-words vs rest (begins-word v first h))
 
-zeros-beyond : (new : List ℕ) (k i : ℕ) → getD new i 0 ≡ getD (new ++ replicate k 0) i 0
-zeros-beyond [] zero i = refl
-zeros-beyond [] (suc k) zero = refl
-zeros-beyond [] (suc k) (suc i) = zeros-beyond [] k i
-zeros-beyond (v ∷ new) k zero = refl
-zeros-beyond (v ∷ new) k (suc i) = zeros-beyond new k i
-
 -- the whole buffer, where the words fit
 pub begins-filled : {new w : List ℕ} → length new ≤ length w → Begins new w → w ≡ filled new w
-unfolding filled
 begins-filled {new} {w} l h =
-    ext-getD 0 w (new ++ replicate (length w - length new) 0) (simp (length-append, length-replicate) (omega arith))
-    (λ i m. h .at i ∙ zeros-beyond new (length w - length new) i)
+    ext-getD 0 w (filled new w) (sym (filled-length new w l)) (λ i m. h .at i ∙ sym (filled-at new w i))
 
 pub begins-zeros : (w : List ℕ) → Begins [] (zeros w)
 unfolding zeros
-begins-zeros w = record { at = λ i. sym (zeros-beyond [] (length w) i) }
+begins-zeros w = record { at = zeros-at (length w) }
 
 -- EDGES behind so many others
 module _ (w : List ℕ) (m : ℕ) where

@@ -11,11 +11,12 @@ use lib.Dec.{ltb, eqb}
 use lib.ListN.{length}
 use Rattle.basics.specs.Bounded.{count}
 use Rattle.basics.proofs.Booleans.{either, clash, and-l, and-r, and-make, and-false-r, eqb-eq, eq-eqb, eqb-ne, ne-eqb, ltb-lt, ltb-ge, lt-ltb, ge-ltb}
+use Rattle.basics.proofs.Counting.{count-only}
+use Rattle.basics.proofs.Upward.{upward}
 use Rattle.automata.specs.Automaton.{Automaton}
 use Rattle.automata.specs.System.{Edge, edge-at}
 use Rattle.layout.specs.Chained.{first-record, next-record}
 use Rattle.layout.specs.Orderly.{Orderly}
-use Rattle.basics.proofs.Counting.{count-only}
 
 -- x is the number of the first edge with source i, where numbers begin at s; or zero, and there is none
 pub data First (s i : ℕ) (es : List Edge) (x : ℕ) : Type 0 where
@@ -100,15 +101,9 @@ next-is es r = go (either (ltb (suc r) (length es) && same))
 module _ {a : Automaton} {es : List Edge} (o : Orderly a es) where
   -- sources rise from any edge to any later one
   pub rising : (d e : ℕ) → d ≤ e → e < length es → edge-at es d .source ≤ edge-at es e .source
-  rising d zero l m = let z : d ≡ 0 = omega arith in rw z (omega arith)
-  rising d (suc e) l m =
-      elim (either (eqb d (suc e))) [
-        | inl q ↦ rw (eqb-eq d (suc e) q) (omega arith)
-        | inr q ↦
-            let ne = eqb-ne d (suc e) q in
-            let before = rising d e (omega arith) (omega arith) in
-            let step = o .rise e m in omega arith
-      ]
+  rising d e l =
+      upward (λ e. e < length es → edge-at es d .source ≤ edge-at es e .source) d (λ m. omega arith)
+      (λ e _ before m. let h = before (omega arith) in let step = o .rise e m in omega arith) e l
 
   -- record r + 1 is a head of its source's chain alone, and next of the record before it alone
   heads-of :

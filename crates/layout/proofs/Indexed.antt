@@ -5,15 +5,15 @@ use mathlib.Core.Logic.{inl, inr}
 use Prim.Native.Nat.{ℕ, zero, suc, _+_, _*_, _-_, _/_, _≤_, _<_}
 use native.Mathlib.Omega.{arith}
 use lib.Dec.{ltb, eqb}
-use lib.ListN.{length, getD, set, length-set}
+use lib.ListN.{length, getD, set, length-set, List·getD-eq-default}
 use lib.Seq.{ext-getD, getD-set-same, getD-set-other}
 use Rattle.basics.specs.Buffers.{filled}
 use Rattle.basics.proofs.Booleans.{either, eqb-eq, eqb-ne, ltb-lt, ltb-ge}
+use Rattle.basics.proofs.Filled.{filled-length, filled-at}
 use Rattle.automata.specs.Automaton.{Automaton}
 use Rattle.automata.specs.System.{Edge, edge-at}
 use Rattle.layout.specs.Chained.{first-record, next-record, flags-word, record-row, state-row, chained-words}
 use Rattle.layout.specs.Triples.{plain}
-use Rattle.layout.proofs.Filled.{filled-length, filled-at, filled-past}
 use Rattle.layout.proofs.Words.{chained-length, state-word, record-word}
 
 -- the words are those of the table, and zero beyond it
@@ -95,15 +95,13 @@ module _ (a : Automaton) (es : List Edge) where
   module _ (o : List ℕ) where
     state-at-index : (i j : ℕ) → i < a .states → j < 2 → (p : ℕ) → p ≡ 3 + (2 * i + j) → getD (filled (chained-words a es) o) p 0 ≡ getD (state-row a es i) j 0
     state-at-index i j l m p e =
-        let long = chained-length a es in
-        filled-at (chained-words a es) o p (omega arith) ∙ rw e (state-word a es i j l m)
+        filled-at (chained-words a es) o p ∙ rw e (state-word a es i j l m)
 
     record-at-index :
         (r j : ℕ) → r < length es → j < 3 → (p : ℕ) → p ≡ 3 + (2 * a .states + (3 * r + j)) →
         getD (filled (chained-words a es) o) p 0 ≡ getD (record-row es r) j 0
     record-at-index r j l m p e =
-        let long = chained-length a es in
-        filled-at (chained-words a es) o p (omega arith) ∙ rw e (record-word a es r j l m)
+        filled-at (chained-words a es) o p ∙ rw e (record-word a es r j l m)
 
     pub filled-indexed : Indexed a es (filled (chained-words a es) o)
     unfolding filled chained-words state-row record-row
@@ -117,7 +115,10 @@ module _ (a : Automaton) (es : List Edge) where
           letter = λ r l. record-at-index r 0 l (omega arith) (3 + 2 * a .states + 3 * r) (omega arith);
           target = λ r l. record-at-index r 1 l (omega arith) (4 + 2 * a .states + 3 * r) (omega arith);
           next = λ r l. record-at-index r 2 l (omega arith) (5 + 2 * a .states + 3 * r) (omega arith);
-          beyond = λ i l. let long = chained-length a es in filled-past (chained-words a es) o i (omega arith);
+          beyond =
+              λ i l.
+              let past : length (chained-words a es) ≤ i = (let long = chained-length a es in omega arith) in
+              filled-at (chained-words a es) o i ∙ List·getD-eq-default (chained-words a es) 0 past;
         }
 
     -- so such a buffer is the table's words and zero beyond them

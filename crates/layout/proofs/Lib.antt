@@ -1,9 +1,9 @@
-pub mod Filled
 pub mod Firsts
 pub mod Indexed
 pub mod Laying
 pub mod Linking
 pub mod Meaning
+pub mod Rising
 pub mod Shifting
 pub mod Triples
 pub mod Valid

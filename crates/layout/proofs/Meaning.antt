@@ -1,51 +1,22 @@
 -- The chained words of an automaton mean that automaton: the chain of a state visits exactly the records with that source. Assumes nothing.
 use mathlib.Core.Path.{_≡_, refl, sym, _∙_}
 use mathlib.Core.Bool.{Bool, true, false, _&&_, not, cond}
-use mathlib.Core.List.{List, [], _∷_}
+use mathlib.Core.List.{List}
 use mathlib.Core.Logic.{inl, inr}
 use Prim.Native.Nat.{ℕ, zero, suc, _+_, _-_, _%_, _≤_, _<_}
 use native.Mathlib.Omega.{arith}
 use lib.Dec.{ltb, leb, eqb}
 use lib.ListN.{length}
-use Rattle.basics.proofs.Booleans.{either, clash, and-l, and-r, and-make, or-l, or-r, or-true, same-truth, not-both, not-false, eqb-self, eqb-eq, eq-eqb, eqb-ne, ne-eqb, ltb-lt, ltb-ge, lt-ltb}
+use Rattle.basics.proofs.Booleans.{either, clash, and-l, and-r, and-make, or-l, or-r, or-true, same-truth, not-both, not-false, eqb-eq, eq-eqb, eqb-ne, ne-eqb, ltb-lt, ltb-ge, lt-ltb}
 use Rattle.automata.specs.Automaton.{Automaton, Same}
 use Rattle.automata.specs.System.{Edge, edge-at, listed}
+use Rattle.automata.proofs.Numbered.{listed-at, listed-find}
 use Rattle.tables.specs.Table.{letter-of, target-of, next-of, is-initial, is-accepting, chain-has, edge, meaning}
 use Rattle.tables.proofs.Laws.{chain-ends}
 use Rattle.layout.specs.Chained.{first-record, next-record, flags-word, chained-words}
 use Rattle.layout.specs.Orderly.{Orderly, Lists}
 use Rattle.layout.proofs.Firsts.{First, absent, first-at, first-is, Next, ends, goes-on, next-is, rising}
 use Rattle.layout.proofs.Words.{chained-n, chained-k, chained-m, chained-flags, chained-head, chained-letter, chained-target, chained-next}
-
--- an edge is listed where some place holds it
-pub listed-at : (es : List Edge) (e : ℕ) → e < length es → listed (edge-at es e .source) (edge-at es e .letter) (edge-at es e .target) es ≡ true
-unfolding listed edge-at
-listed-at [] e l = absurd (omega arith)
-listed-at (f ∷ es) zero l =
-    or-l (listed (f .source) (f .letter) (f .target) es)
-    (and-make (eqb-self (f .source)) (and-make (eqb-self (f .letter)) (eqb-self (f .target))))
-listed-at (f ∷ es) (suc e) l =
-    let g = edge-at es e in
-    or-r (eqb (f .source) (g .source) && (eqb (f .letter) (g .letter) && eqb (f .target) (g .target)))
-    (listed-at es e (omega arith))
-
-pub listed-find :
-    (i c j : ℕ) (es : List Edge) → listed i c j es ≡ true →
-    (e : ℕ) × (e < length es) × (edge-at es e .source ≡ i) × (edge-at es e .letter ≡ c) × (edge-at es e .target ≡ j)
-unfolding listed edge-at
-listed-find i c j [] h = absurd (clash h refl)
-listed-find i c j (f ∷ es) h =
-    elim (or-true (eqb (f .source) i && (eqb (f .letter) c && eqb (f .target) j)) (listed i c j es) h) [
-      | inl e ↦
-          let after = and-r (eqb (f .source) i) e in (
-            0,
-            omega arith,
-            eqb-eq (f .source) i (and-l (eqb (f .letter) c && eqb (f .target) j) e),
-            eqb-eq (f .letter) c (and-l (eqb (f .target) j) after),
-            eqb-eq (f .target) j (and-r (eqb (f .letter) c) after),
-          )
-      | inr e ↦ let (d, l, x, y, z) = listed-find i c j es e in (suc d, (omega arith), x, y, z)
-    ]
 
 -- the two flags of a flags word
 flag-initial : (x y : Bool) → eqb ((cond x 1 0 + cond y 2 0) % 2) 1 ≡ x

@@ -3,11 +3,12 @@ use mathlib.Core.Path.{_≡_}
 use mathlib.Core.Bool.{Bool, true, false, cond}
 use mathlib.Core.List.{List}
 use mathlib.Core.Logic.{_⊎_, inl, inr}
-use Prim.Native.Nat.{ℕ, zero, suc, _+_, _≤_, _<_}
+use Prim.Native.Nat.{ℕ, suc, _+_, _≤_, _<_}
 use native.Mathlib.Omega.{arith}
 use lib.Dec.{eqb}
 use lib.ListN.{length, getD}
 use Rattle.basics.proofs.Bounded.{count-same}
+use Rattle.basics.proofs.Upward.{from-one}
 use Rattle.automata.specs.Automaton.{Automaton}
 use Rattle.automata.specs.System.{Edge}
 use Rattle.tables.specs.Table.{Limits, head-of, letter-of, target-of, next-of, named, table-refusal}
@@ -48,11 +49,6 @@ next-rises es r = go (next-is es r)
     go (ends z stop) = inl z
     go (goes-on z l h) = inr (omega arith)
 
--- what holds of each record, from what holds of each edge
-each-edge : (m : ℕ) (P : ℕ → Type 0) → ((r : ℕ) → r < m → P (suc r)) → (x : ℕ) → 1 ≤ x → x ≤ m → P x
-each-edge m P h zero o l = absurd (omega arith)
-each-edge m P h (suc r) o l = h r l
-
 module _ (l : Limits) (a : Automaton) (es : List Edge) (o : Orderly a es) where
   chained-once : (r : ℕ) → r < length es → named (chained-words a es) (suc r) ≡ 1
   unfolding named
@@ -84,17 +80,17 @@ module _ (l : Limits) (a : Automaton) (es : List Edge) (o : Orderly a es) where
         flags = λ q h. rw (chained-flags a es q (rw n at h)) (flags-small a q);
         letter =
             rw (m, k)
-            (each-edge (length es) (λ x. letter-of t x < a .letters) (λ r h. rw (chained-letter a es r h) (o .letter r h)));
+            (from-one (length es) (λ x. letter-of t x < a .letters) (λ r h. rw (chained-letter a es r h) (o .letter r h)));
         target =
             rw (m, n)
-            (each-edge (length es) (λ x. target-of t x < a .states) (λ r h. rw (chained-target a es r h) (o .target r h)));
+            (from-one (length es) (λ x. target-of t x < a .states) (λ r h. rw (chained-target a es r h) (o .target r h)));
         head = λ q h. rw (chained-head a es q (rw n at h), m) (head-small q es);
-        next = rw m (each-edge (length es) (λ x. next-of t x ≤ length es) (λ r h. rw (chained-next a es r h) (next-small es r)));
+        next = rw m (from-one (length es) (λ x. next-of t x ≤ length es) (λ r h. rw (chained-next a es r h) (next-small es r)));
         rises =
             rw m
-            (each-edge (length es) (λ x. (next-of t x ≡ 0) ⊎ (x < next-of t x))
+            (from-one (length es) (λ x. (next-of t x ≡ 0) ⊎ (x < next-of t x))
             (λ r h. rw (chained-next a es r h) (next-rises es r)));
-        once = rw m (each-edge (length es) (λ x. named t x ≡ 1) chained-once);
+        once = rw m (from-one (length es) (λ x. named t x ≡ 1) chained-once);
       }
 
   -- THE WORDS ARE A TABLE: no refusal of 2 to 9 holds of them

@@ -1,26 +1,14 @@
 -- No endless path stays in C along an accepting run of quadruples: its breakpoints would cease. Assumes nothing.
-use mathlib.Core.Path.{_≡_, subst}
+use mathlib.Core.Path.{_≡_}
 use mathlib.Core.Bool.{true}
-use mathlib.Core.Logic.{inl, inr}
-use Prim.Native.Nat.{ℕ, zero, suc, _≤_}
-use native.Mathlib.Omega.{arith}
-use lib.Dec.{leb}
-use Rattle.basics.proofs.Booleans.{either, leb-le, leb-gt}
+use Prim.Native.Nat.{ℕ, suc}
+use Rattle.basics.proofs.Upward.{upward}
 use Rattle.automata.specs.Automaton.{Automaton}
 use Rattle.sets.specs.Sets.{has}
 use Rattle.sets.proofs.Members.{has-nonzero}
 use Rattle.ncsb.specs.Moves.{Moves}
 use Rattle.ncsb.specs.Step.{Leads, Ncsb-run}
 use Rattle.ncsb.specs.declared.Quadruple.{Quadruple}
-
--- what passes from each place to the next holds at every later place
-pub onward : (P : ℕ → Type 0) → ((i : ℕ) → P i → P (suc i)) → (i : ℕ) → P i → (j : ℕ) → i ≤ j → P j
-onward P next i p zero l = let e : i ≡ 0 = omega arith in subst P e p
-onward P next i p (suc j) l =
-    elim (either (leb i j)) [
-      | inl e ↦ next j (onward P next i p j (leb-le i j e))
-      | inr e ↦ let g = leb-gt i j e in let e′ : i ≡ suc j = omega arith in subst P e′ p
-    ]
 
 module _ {a : Automaton} {d : Moves} {w : ℕ → ℕ} {f : ℕ → Quadruple} (r : Ncsb-run a d w f) (P : (place state : ℕ) → Type 0)
     (in-C : (i q : ℕ) → P i q → has (f i .C) q ≡ true)
@@ -42,8 +30,8 @@ module _ {a : Automaton} {d : Moves} {w : ℕ → ℕ} {f : ℕ → Quadruple} (
   pub never-stays : (i q : ℕ) → P i q → ⊥
   never-stays i q h =
       let (j, l, z) = r .accepting i in
-      let at-j = onward (λ k. (p : ℕ) × P k p) (λ k x. let (s, e, y) = next k (x .0) (x .1) in (s, y)) i (q, h) j l in
+      let at-j = upward (λ k. (p : ℕ) × P k p) i (q, h) (λ k _ x. let (s, e, y) = next k (x .0) (x .1) in (s, y)) j l in
       let (k, m, z′) = r .accepting (suc j) in
       let (s, x, b) =
-      onward (λ k. (p : ℕ) × P k p × (has (f k .B) p ≡ true)) held (suc j) (filled j z at-j) k m in
+      upward (λ k. (p : ℕ) × P k p × (has (f k .B) p ≡ true)) (suc j) (filled j z at-j) (λ k _. held k) k m in
       has-nonzero (f k .B) s b z′

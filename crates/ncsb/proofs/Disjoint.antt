@@ -4,13 +4,14 @@ use mathlib.Core.Bool.{true, _||_}
 use mathlib.Core.Logic.{inl, inr}
 use Prim.Native.Nat.{ℕ, zero, suc}
 use Rattle.basics.proofs.Booleans.{either, clash, and-make, or-l, or-r, or-true}
+use Rattle.basics.proofs.Upward.{upward}
 use Rattle.automata.specs.Automaton.{Automaton, Path, Run, Takes}
 use Rattle.sets.specs.Sets.{has}
 use Rattle.ncsb.specs.Moves.{Moves, Split}
 use Rattle.ncsb.specs.Step.{Leads, Ncsb-run}
 use Rattle.ncsb.specs.declared.Quadruple.{Quadruple}
 use Rattle.ncsb.proofs.Fine.{run-fine}
-use Rattle.ncsb.proofs.Breakpoint.{onward, never-stays}
+use Rattle.ncsb.proofs.Breakpoint.{never-stays}
 
 module _ {a : Automaton} {d : Moves} (s : Split a d) (w : ℕ → ℕ) (f : ℕ → Quadruple) (r : Ncsb-run a d w f) where
   -- a path is in N, C or S at each place
@@ -57,8 +58,8 @@ module _ {a : Automaton} {d : Moves} (s : Split a d) (w : ℕ → ℕ) (f : ℕ 
       let (j, l, accepts) = p .accepting i in
       let mark = s .met w run (p .path) j accepts in
       let safe =
-      onward (λ k. has (f k .S) (run k) ≡ true)
-      (λ k x. r .goes-on k .safe-stays (run (suc k)) (run k, x, p .path .goes-on k)) i h j l in
+      upward (λ k. has (f k .S) (run k) ≡ true) i h
+      (λ k _ x. r .goes-on k .safe-stays (run (suc k)) (run k, x, p .path .goes-on k)) j l in
       clash (and-make safe mark) (run-fine r j .unmarked (run j))
 
   -- so it is in C from its first mark on

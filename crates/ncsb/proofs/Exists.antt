@@ -12,7 +12,7 @@ use Rattle.basics.proofs.Booleans.{not-both}
 use Rattle.basics.proofs.Bounded.{pigeonhole}
 use Rattle.automata.specs.Automaton.{Automaton, Takes, Closed}
 use Rattle.automata.specs.Lasso.{letter-at, position-at, position-letter, next-position, positions, Walk, stay, onward, Accepting-cycle}
-use Rattle.automata.proofs.Positions.{position-next, position-below, letter-position}
+use Rattle.automata.proofs.Positions.{position-next, position-below, position-add, letter-position, letter-same}
 use Rattle.automata.proofs.Cycles.{cycle-takes}
 use Rattle.sets.specs.Sets.{has}
 use Rattle.sets.proofs.Members.{has-lt}
@@ -24,16 +24,6 @@ use Rattle.ncsb.proofs.Rational.{rational, rational-run}
 
 -- WHAT FOLLOWS a place is decided by its position
 module _ (u v : List ℕ) (o : 1 ≤ length v) where
-  position-add :
-      (i j : ℕ) → position-at u v i ≡ position-at u v j → (k : ℕ) → position-at u v (i + k) ≡ position-at u v (j + k)
-  position-add i j e zero = rw (add-zero i, add-zero j) e
-  position-add i j e (suc k) =
-      let h = position-add i j e k in
-      rw (add-suc i k, add-suc j k) (position-next u v (i + k) ∙ ap (next-position u v) h ∙ sym (position-next u v (j + k)))
-
-  letter-same : (i j : ℕ) → position-at u v i ≡ position-at u v j → letter-at u v i ≡ letter-at u v j
-  letter-same i j e = letter-position u v o i ∙ ap (position-letter u v) e ∙ sym (letter-position u v o j)
-
   trace-same :
       (a : Automaton) (i j : ℕ) → position-at u v i ≡ position-at u v j → (q k : ℕ) →
       trace a (letter-at u v) i q k ≡ trace a (letter-at u v) j q k
@@ -42,7 +32,7 @@ module _ (u v : List ℕ) (o : 1 ≤ length v) where
   trace-same a i j e q (suc k) =
       let e′ = position-next u v i ∙ ap (next-position u v) e ∙ sym (position-next u v j) in
       trace-same a (suc i) (suc j) e′ (next a (letter-at u v i) q) k
-      ∙ ap (λ (c : ℕ). trace a (letter-at u v) (suc j) (next a c q) k) (letter-same i j e)
+      ∙ ap (λ (c : ℕ). trace a (letter-at u v) (suc j) (next a c q) k) (letter-same u v o i j e)
 
 module _ {a : Automaton} (closed : Closed a) (u v : List ℕ) (o : 1 ≤ length v) where
   -- short names for what the section speaks of
@@ -118,7 +108,7 @@ module _ {a : Automaton} (closed : Closed a) (u v : List ℕ) (o : 1 ≤ length 
         (sym (trace-add closed word i q (x + z) (suc c)) ∙ ap (λ (k : ℕ). path i q k) steps
             ∙ trace-add closed word i q (x + suc c) z ∙ ap (λ (p : ℕ). path (i + (x + suc c)) p z) e
             ∙ trace-same u v o a (i + (x + suc c)) (i + x) f (path i q x) z ∙ sym (trace-add closed word i q x z)),
-        (ap position places ∙ position-add u v o (i + (x + suc c)) (i + x) f z ∙ ap position (sym place)),
+        (ap position places ∙ position-add u v (i + (x + suc c)) (i + x) f z ∙ ap position (sym place)),
       )
 
   -- more steps than nodes: some node recurs

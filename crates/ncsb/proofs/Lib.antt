@@ -1,6 +1,7 @@
 pub mod Array
 pub mod Bound
 pub mod Breakpoint
+pub mod Choices
 pub mod Disjoint
 pub mod Exists
 pub mod Fine
@@ -15,3 +16,4 @@ pub mod Traces
 pub mod Tracked
 pub mod Unique
 pub mod Walking
+pub mod Widening

@@ -9,11 +9,11 @@ use native.Mathlib.Nat.{add-zero, add-suc}
 use native.Mathlib.Numerals.{add-one}
 use lib.Dec.{eqb, ltb}
 use Rattle.basics.specs.Bounded.{each, any}
-use Rattle.basics.proofs.Booleans.{either, clash, and-l, and-r, and-make, or-l, or-r, or-true, not-false, true-not, not-both, lt-ltb, ltb-lt, ltb-ge, eqb-eq, eqb-ne, eq-eqb, ne-eqb}
+use Rattle.basics.proofs.Booleans.{either, clash, and-l, and-r, and-make, or-l, or-r, or-true, not-false, true-not, not-both, ltb-lt, ltb-ge, eqb-eq, eqb-ne, eq-eqb, ne-eqb}
 use Rattle.basics.proofs.Bounded.{each-all, each-make, any-find, any-make, search-to}
 use Rattle.automata.specs.Automaton.{Automaton, Closed}
 use Rattle.sets.specs.Sets.{has, set-of}
-use Rattle.sets.proofs.Members.{has-set-of, set-of-lt, has-lt, empty}
+use Rattle.sets.proofs.Members.{set-of-lt, has-lt, empty, set-of-back, set-of-make}
 use Rattle.ncsb.specs.Moves.{Moves, Spread, Split}
 use Rattle.ncsb.specs.Step.{Small, Leads, Start, Step, Ncsb-run}
 use Rattle.ncsb.specs.declared.Quadruple.{Quadruple}
@@ -52,18 +52,11 @@ rational a d w n i =
       B = rational-B a d w n i;
     }
 
--- members of a set by its test
-passed-back : (k : ℕ) (f : ℕ → Bool) (q : ℕ) → has (set-of k f) q ≡ true → f q ≡ true
-passed-back k f q h = and-r (ltb q k) (sym (has-set-of k f q) ∙ h)
-
-passed-make : (k : ℕ) (f : ℕ → Bool) (q : ℕ) → q < k → f q ≡ true → has (set-of k f) q ≡ true
-passed-make k f q l h = has-set-of k f q ∙ and-make (lt-ltb l) h
-
 followers-back :
     (a : Automaton) (d : Moves) (c b y q : ℕ) → has (followers a d c b y) q ≡ true → (has y q ≡ true) × Leads a b c q
 unfolding followers Leads
 followers-back a d c b y q h =
-    let e = passed-back (d .states) (λ q. has y q && any (d .states) (λ p. has b p && a .edge p c q)) q h in
+    let e = set-of-back (d .states) (λ q. has y q && any (d .states) (λ p. has b p && a .edge p c q)) q h in
     let (p, l, t) =
     any-find (d .states) (λ p. has b p && a .edge p c q) (and-r (has y q) e) in
     (and-l (any (d .states) (λ p. has b p && a .edge p c q)) e, (p, and-l (a .edge p c q) t, and-r (has b p) t))
@@ -73,7 +66,7 @@ followers-make :
     has (followers a d c b y) q ≡ true
 unfolding followers Leads
 followers-make a d c b y q l m h (p, x, e) =
-    passed-make (d .states) (λ q. has y q && any (d .states) (λ p. has b p && a .edge p c q)) q l
+    set-of-make (d .states) (λ q. has y q && any (d .states) (λ p. has b p && a .edge p c q)) q l
     (and-make h (any-make (d .states) (λ p. has b p && a .edge p c q) p (has-lt (d .states) b p m x) (and-make x e)))
 
 module _ {a : Automaton} {d : Moves} (spread : Spread a d) (split : Split a d) (closed : Closed a) (w : ℕ → ℕ) (n : ℕ)
@@ -138,19 +131,19 @@ module _ {a : Automaton} {d : Moves} (spread : Spread a d) (split : Split a d) (
   N-back : (i q : ℕ) → has (N-at i) q ≡ true → (reached a w i q ≡ true) × (has (d .inner) q ≡ false)
   unfolding rational-N
   N-back i q h =
-      let e = passed-back (d .states) _ q h in
+      let e = set-of-back (d .states) _ q h in
       (and-l (not (has (d .inner) q)) e, true-not (has (d .inner) q) (and-r (reached a w i q) e))
 
   N-make : (i q : ℕ) → reached a w i q ≡ true → has (d .inner) q ≡ false → has (N-at i) q ≡ true
   unfolding rational-N
-  N-make i q h t = passed-make (d .states) _ q (below-states i q h) (and-make h (not-false t))
+  N-make i q h t = set-of-make (d .states) _ q (below-states i q h) (and-make h (not-false t))
 
   C-back :
       (i q : ℕ) → has (C-at i) q ≡ true →
       (reached a w i q ≡ true) × (has (d .inner) q ≡ true) × (safe-at i q ≡ false)
   unfolding rational-C
   C-back i q h =
-      let e = passed-back (d .states) _ q h in
+      let e = set-of-back (d .states) _ q h in
       let both = and-l (not (safe-at i q)) e in (
         and-l (has (d .inner) q) both,
         and-r (reached a w i q) both,
@@ -160,14 +153,14 @@ module _ {a : Automaton} {d : Moves} (spread : Spread a d) (split : Split a d) (
   C-make :
       (i q : ℕ) → reached a w i q ≡ true → has (d .inner) q ≡ true → safe-at i q ≡ false → has (C-at i) q ≡ true
   unfolding rational-C
-  C-make i q h t s = passed-make (d .states) _ q (below-states i q h) (and-make (and-make h t) (not-false s))
+  C-make i q h t s = set-of-make (d .states) _ q (below-states i q h) (and-make (and-make h t) (not-false s))
 
   S-back :
       (i q : ℕ) → has (S-at i) q ≡ true →
       (reached a w i q ≡ true) × (has (d .inner) q ≡ true) × (safe-at i q ≡ true)
   unfolding rational-S
   S-back i q h =
-      let e = passed-back (d .states) _ q h in
+      let e = set-of-back (d .states) _ q h in
       let both = and-l (safe-at i q) e in (
         and-l (has (d .inner) q) both,
         and-r (reached a w i q) both,
@@ -177,7 +170,7 @@ module _ {a : Automaton} {d : Moves} (spread : Spread a d) (split : Split a d) (
   S-make :
       (i q : ℕ) → reached a w i q ≡ true → has (d .inner) q ≡ true → safe-at i q ≡ true → has (S-at i) q ≡ true
   unfolding rational-S
-  S-make i q h t s = passed-make (d .states) _ q (below-states i q h) (and-make (and-make h t) s)
+  S-make i q h t s = set-of-make (d .states) _ q (below-states i q h) (and-make (and-make h t) s)
 
   CS-back :
       (i q : ℕ) → (has (C-at i) q || has (S-at i) q) ≡ true → (reached a w i q ≡ true) × (has (d .inner) q ≡ true)

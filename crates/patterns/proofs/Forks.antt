@@ -1,11 +1,10 @@
 -- The fork test over the masks: it is met exactly where the pattern is not semi-deterministic; and the loops that run it. Assumes nothing.
-use mathlib.Core.Path.{_≡_, refl, sym, _∙_, ap}
+use mathlib.Core.Path.{_≡_, sym, _∙_, ap}
 use mathlib.Core.Bool.{Bool, true, false, _&&_, not, cond}
 use mathlib.Core.List.{List, []}
 use mathlib.Core.Logic.{inl, inr}
 use Prim.Native.Nat.{ℕ, _+_, _/_, _%_, _^_, _≤_, _<_}
 use native.Mathlib.Omega.{arith}
-use native.Mathlib.Numerals.{add-one}
 use lib.Dec.{ltb}
 use lib.Count.{ones}
 use lib.ListN.{getD}
@@ -13,6 +12,7 @@ use Rattle.basics.specs.Bounded.{each, any}
 use Rattle.basics.specs.Buffers.{or-else}
 use Rattle.basics.proofs.Booleans.{either, clash, and-l, and-r, and-make, not-true, not-false, not-both, lt-ltb, ge-ltb}
 use Rattle.basics.proofs.Bounded.{each-all, each-make, any-make, any-find, any-no}
+use Rattle.basics.proofs.Scans.{None-below, none-turn, none-end}
 use Rattle.automata.specs.Automaton.{Automaton}
 use Rattle.sets.specs.Sets.{has, size}
 use Rattle.sets.proofs.Size.{size-ones, size-past}
@@ -23,25 +23,6 @@ use Rattle.patterns.specs.Pattern.{targets-of, inner-of, forks, semi-det
 use Rattle.patterns.specs.Shape.{shape-of, two-targets, row-forked, forked}
 use Rattle.patterns.specs.declared.Shape.{Shape}
 use Rattle.patterns.proofs.Masks.{Fits-masks, mask-right, targets-lt, pattern-fits}
-
--- LOOPS that look for the first number of which a test holds: none below `i`
-pub record None-below (f : ℕ → Bool) (n i : ℕ) : Type 0 where
-  pub inside : i ≤ n
-  pub none : any i f ≡ false
-
-module _ (f : ℕ → Bool) (n : ℕ) where
-  pub none-start : None-below f n 0
-  unfolding any
-  none-start = record { inside = omega arith; none = refl }
-
-  pub none-turn : (i : ℕ) → i < n → f i ≡ false → None-below f n i → None-below f n (i + 1)
-  unfolding any
-  none-turn i l h w = let one = add-one i in let before = w .none in record { inside = omega arith; none = cc }
-
-  pub none-end : (i : ℕ) → n ≤ i → None-below f n i → any n f ≡ false
-  none-end i past w =
-      let l = w .inside in
-      let e : i ≡ n = omega arith in ap (λ (k : ℕ). any k f) (sym e) ∙ w .none
 
 -- the letters of one row: the count of a set's digits is its size
 module _ (row : List ℕ) (letters : ℕ) where

@@ -3,16 +3,16 @@
 use mathlib.Core.Path.{_≡_, refl, sym, _∙_, ap}
 use mathlib.Core.Bool.{Bool, true, _&&_, _||_}
 use mathlib.Core.List.{List, []}
-use mathlib.Core.Logic.{inl, inr}
 use Prim.Native.Nat.{ℕ, zero, suc, _+_, _^_, _≤_, _<_}
 use native.Mathlib.Omega.{arith}
 use native.Mathlib.Numerals.{add-one}
-use lib.Dec.{ltb, eqb}
+use lib.Dec.{ltb}
 use lib.Bits.{bitOr, or-lt}
 use lib.ListN.{getD}
 use Rattle.basics.specs.Bounded.{any}
-use Rattle.basics.proofs.Booleans.{and-l, and-make, and-r, either, eqb-eq, eqb-ne, lt-ltb, or-assoc, or-none, same-truth}
+use Rattle.basics.proofs.Booleans.{and-l, and-make, and-r, lt-ltb, or-assoc, or-none, same-truth}
 use Rattle.basics.proofs.Bounded.{any-make, any-find, any-zero, any-suc}
+use Rattle.basics.proofs.Upward.{upward}
 use Rattle.automata.specs.Automaton.{Automaton}
 use Rattle.sets.specs.Sets.{has, union}
 use Rattle.sets.proofs.Members.{ext, has-or, has-union, union-lt}
@@ -61,15 +61,9 @@ module _ (masks : List (List ℕ)) (letters : ℕ) where
       (rounds set reached round next : ℕ) → round ≤ rounds → reached ≡ joined-in round letters masks set →
       next ≡ joined letters masks reached → next ≡ reached → reached ≡ joined-in rounds letters masks set
   unfolding joined-in
-  rounds-stop zero set reached round next l e n same = let z : round ≡ 0 = omega arith in rw z at e
-  rounds-stop (suc rounds) set reached round next l e n same =
-      elim (either (eqb round (suc rounds))) [
-        | inl x ↦ rw (eqb-eq round (suc rounds) x) at e
-        | inr x ↦
-            let apart = eqb-ne round (suc rounds) x in
-            let before = rounds-stop rounds set reached round next (omega arith) e n same in
-            sym same ∙ n ∙ ap (joined letters masks) before
-      ]
+  rounds-stop rounds set reached round next l e n same =
+      upward (λ k. reached ≡ joined-in k letters masks set) round e
+      (λ k _ before. sym same ∙ n ∙ ap (joined letters masks) before) rounds l
 
 -- A ROUND OVER THE MASKS IS A ROUND OVER THE EDGES
 module _ (a : Automaton) (f : Fits-masks a) where

@@ -4,46 +4,30 @@
 use mathlib.Core.Path.{_≡_, refl, sym, _∙_, ap}
 use mathlib.Core.Bool.{Bool, true, false, _&&_, not}
 use mathlib.Core.Logic.{inl, inr}
-use Prim.Native.Nat.{ℕ, _<_}
+use Prim.Native.Nat.{ℕ}
 use native.Mathlib.Omega.{arith}
 use lib.Dec.{ltb, eqb}
 use lib.Bits.{and-le-l}
-use Rattle.basics.specs.Bounded.{each, count}
-use Rattle.basics.proofs.Booleans.{either, clash, and-l, and-r, and-make, and-false-r, true-not, eqb-eq, eqb-self, ne-eqb, lt-ltb, ltb-ge, same-truth}
-use Rattle.basics.proofs.Bounded.{each-all, count-less}
+use Rattle.basics.specs.Bounded.{each}
+use Rattle.basics.proofs.Booleans.{either, clash, and-l, and-r, and-make, true-not, eqb-eq, eqb-self, ltb-ge}
+use Rattle.basics.proofs.Bounded.{each-all}
+use Rattle.basics.proofs.Counting.{count-two}
 use Rattle.automata.specs.Automaton.{Automaton, Closed}
-use Rattle.sets.specs.Sets.{has, size, set-of}
-use Rattle.sets.proofs.Members.{has-set-of, set-of-lt, has-and}
+use Rattle.sets.specs.Sets.{has, size}
+use Rattle.sets.proofs.Members.{set-of-test, set-of-lt, has-and}
 use Rattle.ncsb.specs.Moves.{Spread, Split}
 use Rattle.patterns.specs.Pattern.{targets-of, initial-states, accepting-states, inner-of, marks-of, forks, semi-deterministic, moves}
 use Rattle.patterns.proofs.Inner.{accepting-has, has-accepting, accepting-lt, inner-lt, inner-accepting, inner-closed}
 
--- two different hits are counted twice
-count-two :
-    (k : ℕ) (f : ℕ → Bool) (i j : ℕ) → i < k → j < k → (i ≡ j → ⊥) → f i ≡ true → f j ≡ true → 1 < count k f
-count-two k f i j li lj apart hi hj =
-    let one =
-    count-less k (λ _. false) (λ x. f x && eqb i x) (λ x _ h. absurd (clash h refl)) i li refl (and-make hi (eqb-self i)) in
-    let two =
-    count-less k (λ x. f x && eqb i x) f (λ x _ h. and-l (eqb i x) h) j lj (and-false-r (f j) (ne-eqb i j apart)) hj in
-    omega arith
-
 module _ (a : Automaton) (closed : Closed a) where
-  -- a set of the states of which a test holds, where it holds of states alone
-  has-test : (f : ℕ → Bool) → ((q : ℕ) → f q ≡ true → q < a .states) → (q : ℕ) → has (set-of (a .states) f) q ≡ f q
-  has-test f inside q =
-      has-set-of (a .states) f q
-      ∙ same-truth (ltb q (a .states) && f q) (f q) (λ h. and-r (ltb q (a .states)) h)
-      (λ h. and-make (lt-ltb (inside q h)) h)
-
   -- the targets of a state on a letter are where its edges on that letter lead
   pub has-targets : (p c q : ℕ) → has (targets-of a p c) q ≡ a .edge p c q
   unfolding targets-of
-  has-targets p c q = has-test (a .edge p c) (λ q h. closed .edge p c q h .2) q
+  has-targets p c q = set-of-test (a .states) (a .edge p c) (λ q h. closed .edge p c q h .2) q
 
   pub has-initial : (q : ℕ) → has (initial-states a) q ≡ a .initial q
   unfolding initial-states
-  has-initial q = has-test (a .initial) (λ q h. closed .initial q h) q
+  has-initial q = set-of-test (a .states) (a .initial) (λ q h. closed .initial q h) q
 
   -- the sets say what the automaton says
   pub spread : Spread a (moves a)

@@ -11,8 +11,9 @@ use lib.Arith.{mod-mul}
 use lib.Pow.{pow-pos, pow-mono}
 use lib.Bits.{bitAnd, bitOr, and-step, or-step, and-le-l, or-lt, or-shifted, or-disjoint}
 use Rattle.basics.specs.Bounded.{any}
-use Rattle.basics.proofs.Booleans.{either, false-not, clash, eqb-eq, eq-eqb, eqb-ne, ne-eqb, lt-ltb, ge-ltb, ltb-lt, ltb-ge, or-none, same-truth}
+use Rattle.basics.proofs.Booleans.{either, and-r, and-make, false-not, clash, eqb-eq, eq-eqb, eqb-ne, ne-eqb, lt-ltb, ge-ltb, ltb-lt, ltb-ge, or-none, same-truth}
 use Rattle.basics.proofs.Bounded.{search-to}
+use Rattle.basics.proofs.Upward.{upward}
 use Rattle.sets.specs.Sets.{has, without, set-of, union}
 
 -- halving
@@ -288,6 +289,17 @@ has-set-of (suc k) f q =
           elim (either (f k)) [ inl y ↦ cc | inr y ↦ cc ]
     ]
 
+-- a member passes the test, and what passes is a member
+pub set-of-back : (k : ℕ) (f : ℕ → Bool) (q : ℕ) → has (set-of k f) q ≡ true → f q ≡ true
+set-of-back k f q h = and-r (ltb q k) (sym (has-set-of k f q) ∙ h)
+
+pub set-of-make : (k : ℕ) (f : ℕ → Bool) (q : ℕ) → q < k → f q ≡ true → has (set-of k f) q ≡ true
+set-of-make k f q l h = has-set-of k f q ∙ and-make (lt-ltb l) h
+
+-- where it passes numbers below the limit alone, to be a member is to pass
+pub set-of-test : (k : ℕ) (f : ℕ → Bool) → ((q : ℕ) → f q ≡ true → q < k) → (q : ℕ) → has (set-of k f) q ≡ f q
+set-of-test k f inside q = same-truth (has (set-of k f) q) (f q) (set-of-back k f q) (λ h. set-of-make k f q (inside q h) h)
+
 -- tests that agree below the limit
 pub set-of-same : (k : ℕ) (f g : ℕ → Bool) → ((q : ℕ) → q < k → f q ≡ g q) → set-of k f ≡ set-of k g
 unfolding set-of
@@ -313,3 +325,14 @@ has-union (suc k) s row r =
       | inl e ↦ cc
       | inr e ↦ rw e (ih ∙ sym (or-none (any k (λ q. has s q && has (row q) r))))
     ]
+
+-- rows that agree, and states beyond those that the set may have
+pub union-same : (k s : ℕ) (row other : ℕ → ℕ) → ((q : ℕ) → row q ≡ other q) → union k s row ≡ union k s other
+unfolding union
+union-same zero s row other same = refl
+union-same (suc k) s row other same = rw (union-same k s row other same, same k) refl
+
+pub union-past : (n k s : ℕ) (row : ℕ → ℕ) → s < 2 ^ n → n ≤ k → union k s row ≡ union n s row
+unfolding union
+union-past n k s row small l =
+    upward (λ k. union k s row ≡ union n s row) n refl (λ k m same. rw (has-out n s k small m) same) k l

@@ -14,6 +14,7 @@ use lib.Pow.{pow-mono}
 use lib.Seq.{getD-append-add}
 use Rattle.basics.proofs.Booleans.{either, clash, and-l, and-r, and-false-l, and-false-r, eqb-eq, eqb-ne, eqb-self, ne-eqb, lt-ltb, ltb-lt, ltb-ge, not-true, or-l, or-r}
 use Rattle.basics.proofs.Lists.{getD-map}
+use Rattle.basics.proofs.Upward.{upward}
 use Rattle.sets.specs.Sets.{has, size, set-of, subsets}
 use Rattle.sets.proofs.Lowest.{Lowest, lowest-size, lowest-none}
 use Rattle.sets.proofs.Members.{ext-all, has-half, has-lt, has-mod, has-out, has-put, has-set-of, has-top, has-zero, set-of-lt, set-of-same}
@@ -35,11 +36,7 @@ pub spread-part : (k s i q : ℕ) → has (spread k s i) q ≡ true → has s q 
 spread-part k s i q h =
     and-l (has i (size q s)) (and-r (ltb q k) (sym (has-spread k s i q) ∙ h))
 
--- one more state: it is no member, or it is left out, or it is taken
-spread-no : (k s i : ℕ) → has s k ≡ false → spread (suc k) s i ≡ spread k s i
-unfolding spread set-of
-spread-no k s i h = rw h (add-zero (spread k s i))
-
+-- one more state: it is left out, or it is taken
 spread-low : (k s i : ℕ) → i < 2 ^ size k s → spread (suc k) s i ≡ spread k s i
 unfolding spread set-of
 spread-low k s i l =
@@ -74,6 +71,12 @@ subsets-length (suc k) s =
           let p = pow-suc 2 (size k s) in rw (h, length-append, length-map, add-one (size k s)) (omega arith)
       | inr h ↦ rw (h, add-zero (size k s)) ih
     ]
+
+-- states beyond those that the set may have
+pub subsets-past : (n k s : ℕ) → s < 2 ^ n → n ≤ k → subsets k s ≡ subsets n s
+unfolding subsets
+subsets-past n k s small l =
+    upward (λ k. subsets k s ≡ subsets n s) n refl (λ k m same. rw (has-out n s k small m) same) k l
 
 -- the i-th part is the one that i chooses
 grown-low : (k s i : ℕ) → i < 2 ^ size k s → getD (subsets (suc k) s) i 0 ≡ getD (subsets k s) i 0

@@ -12,6 +12,7 @@ use Rattle.basics.specs.Bounded.{each}
 use Rattle.basics.proofs.Booleans.{either, clash, and-l, and-r, and-make, or-l, or-r, or-true, true-not, false-not, eqb-eq, eq-eqb, eqb-ne, ne-eqb, ltb-lt, ltb-ge, lt-ltb, ge-ltb, leb-le, le-leb}
 use Rattle.basics.proofs.Bounded.{each-all, each-make}
 use Rattle.basics.proofs.Refusing.{passed}
+use Rattle.basics.proofs.Upward.{from-one}
 use Rattle.automata.specs.Automaton.{Closed}
 use Rattle.tables.specs.Access.{State-asks, Record-asks}
 use Rattle.tables.specs.Table.{Limits, pattern-range, wide-range, n-of, k-of, m-of, flags-of, head-of, record-at, letter-of, target-of, next-of, is-initial, chain-has, edge, meaning, flags-good, records-good, named, heads-good, nexts-good, chains-good, table-refusal}
@@ -34,8 +35,7 @@ pub record Valid (r : Limits) (t : List ℕ) : Type 0 where
 
 -- what holds of each record, from what holds of each number below m, and back
 each-record : (m : ℕ) (f : ℕ → Bool) → each m (λ i. f (suc i)) ≡ true → (x : ℕ) → 1 ≤ x → x ≤ m → f x ≡ true
-each-record m f h zero o l = absurd (omega arith)
-each-record m f h (suc i) o l = each-all m (λ j. f (suc j)) h i l
+each-record m f h = from-one m (λ x. f x ≡ true) (each-all m (λ j. f (suc j)) h)
 
 record-each : (m : ℕ) (f : ℕ → Bool) → ((x : ℕ) → 1 ≤ x → x ≤ m → f x ≡ true) → each m (λ i. f (suc i)) ≡ true
 record-each m f h = each-make m (λ i. f (suc i)) (λ i l. h (suc i) (omega arith) l)

@@ -12,6 +12,7 @@ use lib.ListN.{length, getD, take, length-append, length-replicate}
 use Rattle.basics.specs.Buffers.{filled}
 use Rattle.basics.specs.Rows.{rows}
 use Rattle.basics.proofs.Booleans.{either, eq-eqb, ne-eqb, ltb-lt, ltb-ge}
+use Rattle.basics.proofs.Filled.{filled-at}
 use Rattle.basics.proofs.Rows.{rows-at, rows-same, rows-length}
 use Rattle.automata.specs.Automaton.{Automaton}
 use Rattle.automata.specs.System.{Edge, an-edge, edge-at, state-at, numbered}
@@ -20,7 +21,6 @@ use Rattle.tables.specs.Table.{n-of, m-of, flags-of, head-of, record-at, letter
 use Rattle.ncsb.specs.Successors.{quadruple}
 use Rattle.layout.specs.Chained.{first-record, next-record, flags-word}
 use Rattle.layout.specs.Orderly.{Orderly}
-use Rattle.layout.proofs.Filled.{filled-at}
 use Rattle.layout.proofs.Firsts.{First, first-is, absent, first-at, Next, next-is, ends, goes-on, rising}
 use Rattle.layout.proofs.Indexed.{Indexed, filled-indexed}
 use Rattle.layout.proofs.Words.{chained-length}
@@ -142,8 +142,7 @@ set-word :
 unfolding sets-words quadruple-words
 set-word t s i j l m =
     let f : ℕ → List ℕ = λ i. quadruple-words (state-at (system-of t) (complement t .states) i) in
-    let long = rows-length 4 (length (complement t .states)) f (λ i l. refl) in
-    filled-at (rows (length (complement t .states)) f) s (4 * i + j) (omega arith)
+    filled-at (rows (length (complement t .states)) f) s (4 * i + j)
     ∙ rows-at 4 (length (complement t .states)) f (λ i l. refl) i j l m
 
 state-back :

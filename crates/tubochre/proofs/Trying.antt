@@ -18,9 +18,6 @@ use Rattle.tubochre.specs.Demand.{Third-demand}
 use Rattle.tubochre.specs.declared.Trial.{Trial}
 use Rattle.tubochre.proofs.Demand.{third-demand}
 
-zeros-again : (w : List ℕ) → zeros (zeros w) ≡ zeros w
-zeros-again w = zeros-same w (zeros w) (zeros-length w)
-
 module _
     {t u v o o-now s s-now w between w-now : List ℕ}
     {r : Trial}
@@ -35,7 +32,7 @@ module _
     cleared : w-now ≡ zeros w
     cleared =
         elim (either (eqb (r .counts .number) 0)) [
-          | inl e ↦ built .work (eqb-eq (r .counts .number) 0 e) ∙ ap zeros (pattern .work) ∙ zeros-again w
+          | inl e ↦ built .work (eqb-eq (r .counts .number) 0 e) ∙ zeros-same w between same-work
           | inr e ↦ built .kept (eqb-ne (r .counts .number) 0 e) ∙ pattern .work
         ]
 

@@ -4,8 +4,9 @@ use Prim.Native.Nat.{_-_}
 use native.Mathlib.Omega.{arith}
 use borrow.Author.Needs.{needs}
 use lib.ListN.{getD}
+use Rattle.basics.proofs.Scans.{None-below, none-start}
 use Rattle.patterns.specs.Shape.{two-targets}
-use Rattle.patterns.proofs.Forks.{None-below, none-start, row-hit, row-turn, row-end}
+use Rattle.patterns.proofs.Forks.{row-hit, row-turn, row-end}
 use mir.Syntax.{w32}
 use mir.Val.{Fits}
 use Rattle.patterns.proofs.row_forks.Statement.{statement}

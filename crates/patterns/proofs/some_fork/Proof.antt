@@ -2,7 +2,8 @@
 use mathlib.Core.Path.{sym}
 use Prim.Native.Nat.{_-_}
 use native.Mathlib.Omega.{arith}
-use Rattle.patterns.proofs.Forks.{None-below, state-forked, none-start, states-hit, states-turn, states-end}
+use Rattle.basics.proofs.Scans.{None-below, none-start}
+use Rattle.patterns.proofs.Forks.{state-forked, states-hit, states-turn, states-end}
 use Rattle.patterns.proofs.some_fork.Statement.{statement}
 use Rattle.patterns.proofs.some_fork.Tie as tie
 

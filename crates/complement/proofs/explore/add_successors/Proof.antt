@@ -3,8 +3,8 @@ use mathlib.Core.Path.{_∙_}
 use Prim.Native.Nat.{_≤_, _-_}
 use native.Mathlib.Omega.{arith}
 use Rattle.ncsb.specs.Array.{nth-successor}
+use Rattle.ncsb.proofs.Choices.{choices-fit}
 use Rattle.complement.specs.Found.{array-moves}
-use Rattle.complement.proofs.Choices.{choices-fit}
 use Rattle.complement.proofs.Letters.{Choosing, choose-start, choose-asks, choose-turn, letter-blocked, letter-full, letter-end}
 use Rattle.complement.proofs.explore.add_successors.Statement.{statement}
 use Rattle.complement.proofs.explore.add_successors.Tie as tie

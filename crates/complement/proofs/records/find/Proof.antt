@@ -1,19 +1,22 @@
 -- `find` is a scan of the first records. The invariant: none of those passed is x. Assumes nothing.
-use Prim.Native.Nat.{_≤_, _-_}
+use Prim.Native.Nat.{_-_}
 use native.Mathlib.Omega.{arith}
-use Rattle.complement.proofs.Lookup.{Passed-by, passed-none, passed-more, compared, looked-found, looked-none}
+use Rattle.basics.proofs.Scans.{None-below, none-start, none-turn}
+use Rattle.ncsb.specs.Successors.{same}
+use Rattle.complement.specs.Records.{quadruple-at}
+use Rattle.complement.proofs.Lookup.{compared, looked-found, looked-none}
 use Rattle.complement.proofs.records.find.Statement.{statement}
 use Rattle.complement.proofs.records.find.Tie as tie
 
 abbrev Inv-loop : tie.InvT-loop
-Inv-loop sets count x number₀ number = (number ≤ count) × Passed-by sets x number
+Inv-loop sets count x number₀ number = None-below (λ i. same x (quadruple-at sets i)) count number
 
 abbrev μ-loop : tie.MeasureT-loop
 μ-loop sets count x number₀ number = count - number
 
 -- src/records.rt:59:5
 loop-holds : tie.Need-loop-holds Inv-loop μ-loop
-loop-holds c = (omega arith, passed-none (c .before .args .sets .now) (c .before .args .x))
+loop-holds c = none-start _ _
 
 -- src/records.rt:60:21
 load-requires : tie.Need-load-requires Inv-loop μ-loop
@@ -26,7 +29,7 @@ equal-requires c κs = tt
 -- src/records.rt:61:13
 returns : tie.Need-returns Inv-loop μ-loop
 returns c =
-    looked-found (c .before .before .before .loop-test .taken) (c .before .before .before .before .loop .inv .1)
+    looked-found (c .before .before .before .loop-test .taken) (c .before .before .before .before .loop .inv)
     (compared (c .before .before .before .before .before .before .args .x) (c .before .equal .ensures) (c .before .before .load .ensures) (c .if1 .taken))
 
 -- src/records.rt:63:9
@@ -39,15 +42,14 @@ loop-less c = omega arith
 
 -- src/records.rt:59:5
 loop-again : tie.Need-loop-again Inv-loop μ-loop
-loop-again c = (
-  omega arith,
-  passed-more (c .before .before .before .before .loop .inv .1)
-      (compared (c .before .before .before .before .before .before .args .x) (c .before .equal .ensures) (c .before .before .load .ensures) (c .if1 .left)),
-)
+loop-again c =
+    none-turn _ _ _ (c .before .before .before .loop-test .taken)
+    (compared (c .before .before .before .before .before .before .args .x) (c .before .equal .ensures) (c .before .before .load .ensures) (c .if1 .left))
+    (c .before .before .before .before .loop .inv)
 
 -- src/records.rt:54:1
 returns-2 : tie.Need-returns-2 Inv-loop μ-loop
-returns-2 c = looked-none (c .loop-test .left) (c .before .loop .inv .1)
+returns-2 c = looked-none (c .loop-test .left) (c .before .loop .inv)
 
 pub find-spec : {M : Type 1} → statement M
 find-spec =

@@ -1,64 +1,23 @@
 -- The table by state and by letter gives the same quadruples as the pattern: the step over 32 states and the step over the pattern's own agree on
 -- sets of its states. Assumes nothing.
 use mathlib.Core.Path.{_≡_, refl, _∙_, ap, fun-ext}
-use mathlib.Core.Bool.{Bool, false, _&&_, cond}
+use mathlib.Core.Bool.{_&&_, cond}
 use mathlib.Core.List.{[], map}
-use mathlib.Core.Logic.{inl, inr}
-use Prim.Native.Nat.{ℕ, zero, suc, _^_, _≤_, _<_}
+use Prim.Native.Nat.{ℕ, _^_, _≤_, _<_}
 use native.Mathlib.Nat.{lt-of-le-of-lt}
-use native.Mathlib.Omega.{arith}
 use lib.Bits.{bitAnd, bitOr, or-lt, and-le-l}
 use lib.Dec.{eqb}
-use Rattle.basics.specs.Bounded.{any}
-use Rattle.basics.proofs.Booleans.{and-false-l, either, eqb-eq, eqb-ne, or-none}
-use Rattle.basics.proofs.Bounded.{any-same}
+use Rattle.basics.proofs.Booleans.{and-false-l}
+use Rattle.basics.proofs.Bounded.{any-same, any-past}
 use Rattle.automata.specs.Automaton.{Automaton}
-use Rattle.sets.specs.Sets.{has, without, union, subsets}
-use Rattle.sets.proofs.Members.{has-out, without-lt}
+use Rattle.sets.specs.Sets.{has, without, subsets}
+use Rattle.sets.proofs.Members.{has-out, without-lt, union-past, union-same}
+use Rattle.sets.proofs.Subsets.{subsets-past}
 use Rattle.ncsb.specs.Moves.{Moves, Spread}
 use Rattle.ncsb.specs.Step.{Small}
 use Rattle.ncsb.specs.Successors.{targets, initial-for, initial-free, initials, next-N, entering, staying-safe, staying, leaving, tracked, dead-end, blocked, free, next-B, successor-for, successors}
 use Rattle.ncsb.specs.declared.Quadruple.{Quadruple}
 use Rattle.ncsb.proofs.Targets.{targets-small}
-
--- STATES BEYOND those that a set may have change nothing
-union-same : (k s : ℕ) (row other : ℕ → ℕ) → ((q : ℕ) → row q ≡ other q) → union k s row ≡ union k s other
-unfolding union
-union-same zero s row other same = refl
-union-same (suc k) s row other same = rw (union-same k s row other same, same k) refl
-
-union-past :
-    (n k s : ℕ) (row other : ℕ → ℕ) → s < 2 ^ n → n ≤ k → ((q : ℕ) → row q ≡ other q) → union k s row ≡ union n s other
-unfolding union
-union-past n zero s row other small l same = let e : n ≡ 0 = omega arith in rw e refl
-union-past n (suc k) s row other small l same =
-    elim (either (eqb n (suc k))) [
-      | inl q ↦ rw (eqb-eq n (suc k) q) (union-same (suc k) s row other same)
-      | inr q ↦
-          let ne = eqb-ne n (suc k) q in
-          rw (has-out n s k small (omega arith)) (union-past n k s row other small (omega arith) same)
-    ]
-
-subsets-past : (n k s : ℕ) → s < 2 ^ n → n ≤ k → subsets k s ≡ subsets n s
-unfolding subsets
-subsets-past n zero s small l = let e : n ≡ 0 = omega arith in rw e refl
-subsets-past n (suc k) s small l =
-    elim (either (eqb n (suc k))) [
-      | inl q ↦ rw (eqb-eq n (suc k) q) refl
-      | inr q ↦
-          let ne = eqb-ne n (suc k) q in rw (has-out n s k small (omega arith)) (subsets-past n k s small (omega arith))
-    ]
-
-any-past : (n k : ℕ) (f : ℕ → Bool) → n ≤ k → ((q : ℕ) → n ≤ q → f q ≡ false) → any k f ≡ any n f
-unfolding any
-any-past n zero f l none = let e : n ≡ 0 = omega arith in rw e refl
-any-past n (suc k) f l none =
-    elim (either (eqb n (suc k))) [
-      | inl q ↦ rw (eqb-eq n (suc k) q) refl
-      | inr q ↦
-          let ne = eqb-ne n (suc k) q in
-          rw (none k (omega arith)) (or-none (any k f) ∙ any-past n k f (omega arith) none)
-    ]
 
 -- the second reading of a pattern has the first's sets, and room for more states: for the step, and for initial quadruples
 pub record Widens (d e : Moves) : Type 0 where
@@ -77,7 +36,9 @@ pub record Widens-starts (d e : Moves) : Type 0 where
 module _ {a : Automaton} {d e : Moves} (sp : Spread a d) (w : Widens d e) (x : Quadruple) (small : Small (d .states) x) (c : ℕ) where
   targets-same : (s : ℕ) → s < 2 ^ d .states → targets e s c ≡ targets d s c
   unfolding targets
-  targets-same s l = union-past (d .states) (e .states) s (λ q. e .move q c) (λ q. d .move q c) l (w .states) (λ q. w .move q c)
+  targets-same s l =
+      union-past (d .states) (e .states) s (λ q. e .move q c) l (w .states)
+      ∙ union-same (d .states) s (λ q. e .move q c) (λ q. d .move q c) (λ q. w .move q c)
 
   next-N-same : next-N e x c ≡ next-N d x c
   unfolding next-N

@@ -8,9 +8,8 @@ use lib.ListN.{length}
 use Rattle.basics.proofs.Booleans.{ge-ltb, and-false-l}
 use Rattle.automata.specs.System.{System, Decides, Edge, an-edge, Built, state-at, edges-to, edges-on, edges-of, edge-at, Exactly, numbered}
 use Rattle.automata.proofs.Members.{prefix-length}
-use Rattle.automata.proofs.Numbered.{starts-first, numbered-leads}
+use Rattle.automata.proofs.Numbered.{listed-at, starts-first, numbered-leads}
 use Rattle.layout.specs.Orderly.{Orderly, Lists}
-use Rattle.layout.proofs.Meaning.{listed-at}
 
 -- SOURCES RISE from one number to another
 data Rises : (low high : ℕ) → List Edge → Type 0 where
