@@ -1,12 +1,13 @@
--- Laws of lists by index: a mapped list, and the pigeonhole for lists. Assumes nothing.
-use mathlib.Core.Path.{_≡_, refl}
-use mathlib.Core.List.{List, [], _∷_, map}
-use mathlib.Core.Logic.{inl, inr}
-use Prim.Native.Nat.{ℕ, zero, suc, _≤_, _<_}
+-- Laws of lists by index: a mapped list, the pigeonhole for lists, and runs of stores. Assumes nothing.
+use mathlib.Core.Path.{_≡_, refl, sym, _∙_}
+use mathlib.Core.List.{List, [], _∷_, _++_, map}
+use mathlib.Core.Logic.{_≢_, inl, inr}
+use Prim.Native.Nat.{ℕ, zero, suc, _+_, _≤_, _<_}
 use native.Mathlib.Omega.{arith}
-use native.Mathlib.Nat.{le-of-suc-le-suc}
+use native.Mathlib.Nat.{add-zero, le-of-suc-le-suc}
 use lib.Dec.{leb}
-use lib.ListN.{length, getD}
+use lib.ListN.{length, getD, set}
+use lib.Seq.{sets, set-comm}
 use Rattle.basics.proofs.Booleans.{either, leb-le, leb-gt}
 use Rattle.basics.proofs.Bounded.{pigeonhole}
 
@@ -36,3 +37,20 @@ distinct-short xs blank m code distinct below injective =
           absurd
           (distinct (r .0) (r .1) first (omega arith) (injective (r .0) (r .1) (omega arith) (omega arith) (r .4)))
     ]
+
+-- a run of stores and then more
+pub sets-append : (xs ys l : List ℕ) (i : ℕ) → sets l i (xs ++ ys) ≡ sets (sets l i xs) (i + length xs) ys
+sets-append [] ys l i = rw (add-zero i)
+sets-append (x ∷ xs) ys l i =
+    let e : suc i + length xs ≡ i + suc (length xs) = omega arith in
+    rw e at (sets-append xs ys (set l i x) (suc i))
+
+-- a store behind a run may come first
+set-behind : (xs l : List ℕ) (i j a : ℕ) → i + length xs ≤ j → sets (set l j a) i xs ≡ set (sets l i xs) j a
+set-behind [] l i j a h = refl
+set-behind (x ∷ xs) l i j a h =
+    let e : i ≢ j = omega arith in
+    rw (← set-comm l i j x a e) (set-behind xs (set l i x) (suc i) j a (omega arith))
+
+pub sets-last : (xs : List ℕ) (a : ℕ) (l : List ℕ) (i : ℕ) → sets l i (xs ++ (a ∷ [])) ≡ sets (set l (i + length xs) a) i xs
+sets-last xs a l i = sets-append xs (a ∷ []) l i ∙ sym (set-behind xs l i (i + length xs) a (omega arith))

@@ -2,12 +2,13 @@
 use mathlib.Core.Path.{_≡_, refl, sym, _∙_, ap}
 use mathlib.Core.Bool.{false}
 use mathlib.Core.List.{List, [], _∷_, _++_}
-use Prim.Native.Nat.{ℕ, zero, suc, _+_, _*_, _^_, _≤_, _<_}
+use Prim.Native.Nat.{ℕ, suc, _+_, _*_, _^_, _≤_, _<_}
 use native.Mathlib.Numerals.{add-one}
 use native.Mathlib.Omega.{arith}
 use lib.Bits.{bitAnd}
 use lib.ListN.{length, getD, take}
 use lib.Seq.{take-suc, take-all, take-nil}
+use Rattle.basics.proofs.Clears.{zeros-at}
 use Rattle.sets.specs.Sets.{without, size}
 use Rattle.automata.specs.System.{built}
 use Rattle.ncsb.specs.Array.{from-array, nth-initial}
@@ -102,15 +103,9 @@ module _ (shape : Shape) where
         let states : p .states ≡ k = omega arith in started left none (rw states whole)
 
 -- no edge is kept in words that are zero
-three-zeros : (i : ℕ) → getD {A = ℕ} [] i 0 ≡ getD (0 ∷ 0 ∷ 0 ∷ []) i 0
-three-zeros zero = refl
-three-zeros (suc zero) = refl
-three-zeros (suc (suc zero)) = refl
-three-zeros (suc (suc (suc i))) = refl
-
 no-edges : {w : List ℕ} → Begins [] w → Begins (0 ∷ 0 ∷ 0 ∷ triples (take (edge-room w) [])) w
 unfolding triples
-no-edges {w} h = rw (take-nil (edge-room w)) (record { at = λ i. h .at i ∙ three-zeros i })
+no-edges {w} h = rw (take-nil (edge-room w)) (record { at = λ i. h .at i ∙ sym (zeros-at 3 i) })
 
 -- what is kept of the initial states is kept of the beginning
 pub started-ends :

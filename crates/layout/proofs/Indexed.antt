@@ -4,6 +4,7 @@ use mathlib.Core.List.{List}
 use mathlib.Core.Logic.{inl, inr}
 use Prim.Native.Nat.{ℕ, zero, suc, _+_, _*_, _-_, _/_, _≤_, _<_}
 use native.Mathlib.Omega.{arith}
+use borrow.Author.Count.{below-more}
 use lib.Dec.{ltb, eqb}
 use lib.ListN.{length, getD, set, length-set, List·getD-eq-default}
 use lib.Seq.{ext-getD, getD-set-same, getD-set-other}
@@ -156,13 +157,9 @@ flagging-turn {a} {i} {w} {v} room h l =
       done = omega arith;
       size = length-set v (3 + 2 * i) x ∙ h .size;
       flags =
-          λ q m.
-          elim (either (eqb q i)) [
-            | inl e ↦ rw (eqb-eq q i e) (getD-set-same v (3 + 2 * i) x 0 (omega arith))
-            | inr e ↦
-                let ne = eqb-ne q i e in
-                getD-set-other v (3 + 2 * i) (3 + 2 * q) x 0 (omega arith) ∙ h .flags q (omega arith)
-          ];
+          below-more (λ q. getD (set v (3 + 2 * i) x) (3 + 2 * q) 0 ≡ flags-word a q) i
+          (λ q m. getD-set-other v (3 + 2 * i) (3 + 2 * q) x 0 (omega arith) ∙ h .flags q m)
+          (getD-set-same v (3 + 2 * i) x 0 (omega arith));
       others =
           λ j d. getD-set-other v (3 + 2 * i) j x 0 (d i (omega arith)) ∙ h .others j (λ q m. d q (omega arith));
     }

@@ -39,9 +39,6 @@ below-only n q x y h none =
       | inr e ↦ let s = none (ltb-ge q n e) in cc
     ]
 
-not-before : (e d : ℕ) → (e < d → ⊥) → d ≤ e
-not-before e d h = elim (either (ltb e d)) [ inl p ↦ absurd (h (ltb-lt e d p)) | inr p ↦ ltb-ge e d p ]
-
 module _ (a : Automaton) (es : List Edge) where
   pub chained-initial : (i : ℕ) → i < a .states → is-initial (chained-words a es) i ≡ a .initial i
   unfolding is-initial flags-word
@@ -143,7 +140,8 @@ module _ (a : Automaton) (es : List Edge) where
             (λ p. rw h at (chain-listed (length es) d c j m p))
             (λ p.
             let w = listed-find i c j es p in
-            chain-finds d (w .0) c j (not-before (w .0) d (λ k. before (w .0) k (w .2))) (w .1) (h ∙ sym (w .2)) (w .3) (w .4)))
+            let late : w .0 < d → ⊥ = λ k. before (w .0) k (w .2) in
+            chain-finds d (w .0) c j (omega arith) (w .1) (h ∙ sym (w .2)) (w .3) (w .4)))
 
     -- THE WORDS MEAN THE AUTOMATON
     pub chained-meaning : Lists a es → Same (meaning (chained-words a es)) a

@@ -4,6 +4,7 @@ use mathlib.Core.List.{List}
 use mathlib.Core.Logic.{inl, inr}
 use Prim.Native.Nat.{ℕ, _+_, _*_, _-_, _≤_, _<_}
 use native.Mathlib.Omega.{arith}
+use borrow.Author.Count.{below-more}
 use lib.Dec.{eqb}
 use lib.ListN.{length, getD, set, length-set}
 use lib.Seq.{getD-set-same, getD-set-other}
@@ -81,13 +82,9 @@ clear-turn {n} {i} {w} {v} r h l =
       size = length-set v (3 + i) 0 ∙ h .size;
       done = omega arith;
       cleared =
-          λ j a.
-          elim (either (eqb j i)) [
-            | inl q ↦ rw (eqb-eq j i q) (getD-set-same v (3 + i) 0 0 (omega arith))
-            | inr q ↦
-                let ne = eqb-ne j i q in
-                getD-set-other v (3 + i) (3 + j) 0 0 (omega arith) ∙ h .cleared j (omega arith)
-          ];
+          below-more (λ j. getD (set v (3 + i) 0) (3 + j) 0 ≡ 0) i
+          (λ j a. getD-set-other v (3 + i) (3 + j) 0 0 (omega arith) ∙ h .cleared j a)
+          (getD-set-same v (3 + i) 0 0 (omega arith));
       others = λ j a. getD-set-other v (3 + i) j 0 0 (omega arith) ∙ h .others j a;
     }
 

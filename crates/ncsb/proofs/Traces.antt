@@ -1,39 +1,14 @@
 -- The paths of an automaton over a word: the states reached at each place, and the path that takes the first target at each letter.
 -- In Q2, where there is at most one target, it is the only path. A path that has ended stands on no state. Assumes nothing.
 use mathlib.Core.Path.{_≡_}
-use mathlib.Core.Bool.{Bool, true, _&&_, cond}
-use mathlib.Core.Logic.{inl, inr}
+use mathlib.Core.Bool.{Bool, true, _&&_}
 use Prim.Native.Nat.{ℕ, zero, suc, _+_, _<_}
-use native.Mathlib.Omega.{arith}
 use native.Mathlib.Nat.{zero-add, add-zero, suc-add, add-suc}
 use Rattle.basics.specs.Bounded.{any}
-use Rattle.basics.proofs.Booleans.{either, and-l, and-r, and-make}
+use Rattle.basics.proofs.Booleans.{and-l, and-r, and-make}
 use Rattle.basics.proofs.Bounded.{any-find, any-make}
+use Rattle.basics.proofs.Least.{first, first-holds, first-below}
 use Rattle.automata.specs.Automaton.{Automaton, Closed}
-
--- the least number below the limit of which the test holds, or the limit
-first : (limit : ℕ) → (ℕ → Bool) → ℕ
-first zero f = 0
-first (suc k) f = cond (f 0) 0 (suc (first k (λ i. f (suc i))))
-
-first-holds : (k : ℕ) (f : ℕ → Bool) → first k f < k → f (first k f) ≡ true
-unfolding first
-first-holds zero f l = absurd (omega arith)
-first-holds (suc k) f l =
-    elim (either (f 0)) [
-      | inl e ↦ rw e e
-      | inr e ↦ let l′ : suc (first k (λ i. f (suc i))) < suc k = rw e at l in rw e (first-holds k (λ i. f (suc i)) (omega arith))
-    ]
-
-first-below : (k : ℕ) (f : ℕ → Bool) (i : ℕ) → i < k → f i ≡ true → first k f < k
-unfolding first
-first-below zero f i l h = absurd (omega arith)
-first-below (suc k) f zero l h = rw h (omega arith)
-first-below (suc k) f (suc i) l h =
-    elim (either (f 0)) [
-      | inl e ↦ rw e (omega arith)
-      | inr e ↦ let m = first-below k (λ i. f (suc i)) i (omega arith) h in rw e (omega arith)
-    ]
 
 -- some path from an initial state is in the state at the place
 unfoldable pub reached : Automaton → (word : ℕ → ℕ) → (place state : ℕ) → Bool

@@ -14,7 +14,7 @@ use Rattle.sets.specs.Sets.{set-of}
 use Rattle.sets.proofs.Members.{set-of-lt}
 use Rattle.tables.specs.Access.{State-asks}
 use Rattle.tables.specs.Table.{pattern-range, table-refusal, n-of, flags-of, is-initial, is-accepting, meaning}
-use Rattle.tables.proofs.Laws.{valid, state-asked}
+use Rattle.tables.proofs.Laws.{pattern-few, state-asked}
 use Rattle.patterns.specs.Pattern.{initial-states, accepting-states}
 
 -- the set so far is that of the states below `state` of which the test holds
@@ -55,12 +55,8 @@ module _ (f : ℕ → Bool) (n : ℕ) where
 
 -- one state more is below n, which is at most 32
 module _ (t : List ℕ) (pattern : table-refusal pattern-range t ≡ 0) (states state : ℕ) (counted : states ≡ n-of t) where
-  few : n-of t ≤ 32
-  unfolding pattern-range
-  few = valid pattern-range t pattern .states-to
-
   pub gathered-small : state < states → state < 32
-  gathered-small l = let n = few in omega arith
+  gathered-small l = let n = pattern-few t pattern in omega arith
 
   pub gathered-reads : state < states → State-asks t state
   gathered-reads l = state-asked pattern-range t pattern (omega arith)
@@ -76,7 +72,7 @@ module _ (t : List ℕ) (pattern : table-refusal pattern-range t ≡ 0) (states 
     unfolding meaning is-initial
     initial-in odd g =
         let h : eqb (flags-of t state % 2) 1 ≡ true = eq-eqb (rw read at odd) in
-        gathered-in (meaning t .initial) (n-of t) set state (omega arith) few (and-make below h) g
+        gathered-in (meaning t .initial) (n-of t) set state (omega arith) (pattern-few t pattern) (and-make below h) g
 
     pub initial-out :
         (flags % 2 ≡ 1 → ⊥) → Gathered (meaning t .initial) (n-of t) set state →
@@ -93,7 +89,7 @@ module _ (t : List ℕ) (pattern : table-refusal pattern-range t ≡ 0) (states 
     unfolding meaning is-accepting
     accepting-in most g =
         let h : leb 2 (flags-of t state) ≡ true = le-leb {m = 2} {n = flags-of t state} (omega arith) in
-        gathered-in (meaning t .accepting) (n-of t) set state (omega arith) few (and-make below h) g
+        gathered-in (meaning t .accepting) (n-of t) set state (omega arith) (pattern-few t pattern) (and-make below h) g
 
     pub accepting-out :
         flags < 2 → Gathered (meaning t .accepting) (n-of t) set state →

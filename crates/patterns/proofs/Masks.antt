@@ -6,17 +6,18 @@ use mathlib.Core.List.{List, []}
 use mathlib.Core.Logic.{_⊎_, inl, inr}
 use Prim.Native.Nat.{ℕ, _+_, _^_, _≤_, _<_}
 use native.Mathlib.Omega.{arith}
-use lib.Dec.{ltb, eqb}
+use borrow.Author.Count.{below-more}
+use lib.Dec.{ltb}
 use lib.ListN.{length, getD, set, replicate, length-set, length-replicate, getD-replicate, List·getD-eq-default}
 use lib.Seq.{getD-set-same, getD-set-other, ext-getD}
-use Rattle.basics.proofs.Booleans.{either, not-both, eqb-eq, eqb-ne, ltb-lt, ltb-ge}
+use Rattle.basics.proofs.Booleans.{either, not-both, ltb-lt, ltb-ge}
 use Rattle.basics.proofs.Clears.{zeros-at}
 use Rattle.automata.specs.Automaton.{Automaton, Closed}
 use Rattle.automata.specs.Decision.{tabulate}
 use Rattle.automata.proofs.Graphs.{tabulate-at, tabulate-length}
 use Rattle.sets.proofs.Members.{empty, set-of-lt}
 use Rattle.tables.specs.Table.{pattern-range, table-refusal, n-of, meaning}
-use Rattle.tables.proofs.Laws.{valid, meaning-closed}
+use Rattle.tables.proofs.Laws.{valid, meaning-closed, pattern-few}
 use Rattle.patterns.specs.Pattern.{targets-of, moves}
 use Rattle.patterns.specs.Masks.{row-of, masks-of, Row-asks}
 use Rattle.patterns.proofs.Split.{has-targets}
@@ -95,10 +96,6 @@ module _ (t : List ℕ) (pattern : table-refusal pattern-range t ≡ 0) where
   fits : Fits-masks (meaning t)
   fits = pattern-fits t pattern
 
-  few : n-of t ≤ 32
-  unfolding meaning
-  few = fits .states
-
   pub filled-start : Filled t (replicate 32 (replicate 16 0)) 0
   filled-start =
       record {
@@ -114,7 +111,7 @@ module _ (t : List ℕ) (pattern : table-refusal pattern-range t ≡ 0) where
   filled-asks states state e l = record { pattern = pattern; counted = e; inside = l }
 
   pub filled-inside : (states state : ℕ) → states ≡ n-of t → state < states → state < 32
-  filled-inside states state e l = let n = few in omega arith
+  filled-inside states state e l = let n = pattern-few t pattern in omega arith
 
   pub filled-turn :
       (masks : List (List ℕ)) (states state : ℕ) (row : List ℕ) → states ≡ n-of t → state < states →
@@ -124,14 +121,9 @@ module _ (t : List ℕ) (pattern : table-refusal pattern-range t ≡ 0) where
         whole = length-set masks state row ∙ f .whole;
         inside = omega arith;
         done =
-            λ q m.
-            elim (either (eqb q state)) [
-              | inl same ↦
-                  rw (eqb-eq q state same)
-                  (getD-set-same masks state row [] (let a = f .whole in let n = few in omega arith) ∙ e)
-              | inr apart ↦
-                  let ne = eqb-ne q state apart in getD-set-other masks state q row [] ne ∙ f .done q (omega arith)
-            ];
+            below-more (λ q. getD (set masks state row) q [] ≡ row-of (moves (meaning t)) q) state
+            (λ q m. getD-set-other masks state q row [] (λ e. omega arith) ∙ f .done q m)
+            (getD-set-same masks state row [] (let a = f .whole in let n = pattern-few t pattern in omega arith) ∙ e);
         rest = λ q m k. getD-set-other masks state q row [] (λ e. omega arith) ∙ f .rest q (omega arith) k;
       }
 

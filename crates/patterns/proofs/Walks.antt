@@ -20,7 +20,7 @@ use Rattle.sets.proofs.Members.{has-zero, has-or, has-single, ext, set-of-lt}
 use Rattle.tables.specs.Access.{State-asks, Record-asks}
 use Rattle.tables.specs.Table.{pattern-range, n-of, m-of, head-of, letter-of, target-of, next-of, chain-has, edge, meaning}
 use Rattle.tables.proofs.Chains.{left, left-less}
-use Rattle.tables.proofs.Laws.{Valid, valid, state-asked, record-asked, chain-ends, chain-step, meaning-closed}
+use Rattle.tables.proofs.Laws.{Valid, valid, pattern-few, state-asked, record-asked, chain-ends, chain-step, meaning-closed}
 use Rattle.patterns.specs.Pattern.{targets-of, moves}
 use Rattle.patterns.specs.Masks.{row-of, Row-asks}
 use Rattle.patterns.proofs.Split.{has-targets}
@@ -36,10 +36,6 @@ module _ (t : List ℕ) (states s : ℕ) (asks : Row-asks t states s) where
   v : Valid pattern-range t
   v = valid pattern-range t (asks .pattern)
 
-  few : n-of t ≤ 32
-  unfolding pattern-range
-  few = v .states-to
-
   inside : s < n-of t
   inside = omega arith
 
@@ -54,7 +50,7 @@ module _ (t : List ℕ) (states s : ℕ) (asks : Row-asks t states s) where
   walk-letter row at l some w e = let a = v .letter at (omega arith) (w .link) in let k = v .letters-to in omega arith
 
   pub walk-target : (row : List ℕ) (at q : ℕ) → (at ≡ 0 → ⊥) → Walked t s row at → q ≡ target-of t at → q < 32
-  walk-target row at q some w e = let a = v .target at (omega arith) (w .link) in let n = few in omega arith
+  walk-target row at q some w e = let a = v .target at (omega arith) (w .link) in let n = pattern-few t (asks .pattern) in omega arith
 
   pub walk-start : (at : ℕ) → at ≡ head-of t s → Walked t s (replicate 16 0) at
   unfolding edge

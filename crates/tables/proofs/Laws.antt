@@ -160,6 +160,11 @@ pub passes-wider :
     (r s : Limits) (t : List ℕ) → r .states ≤ s .states → r .records ≤ s .records → table-refusal r t ≡ 0 → table-refusal s t ≡ 0
 passes-wider r s t ls lr h = valid-passes s t (valid-wider r s t ls lr (valid r t h))
 
+-- a pattern's states are few
+pub pattern-few : (t : List ℕ) → table-refusal pattern-range t ≡ 0 → n-of t ≤ 32
+unfolding pattern-range
+pattern-few t h = valid pattern-range t h .states-to
+
 -- every valid pattern is a valid wide table
 pub pattern-is-wide : (t : List ℕ) → table-refusal pattern-range t ≡ 0 → table-refusal wide-range t ≡ 0
 unfolding pattern-range wide-range

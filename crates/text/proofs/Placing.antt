@@ -1,13 +1,12 @@
 -- Laws of bytes in a lent buffer. Assumes nothing.
 use mathlib.Core.Path.{_≡_, refl, sym, _∙_}
 use mathlib.Core.List.{List, [], _∷_, _++_, append-assoc}
-use mathlib.Core.Logic.{_≢_}
 use Prim.Native.Nat.{ℕ, suc, _+_, _*_, _-_, _/_, _%_, _≤_, _<_}
 use native.Mathlib.Omega.{arith}
 use native.Mathlib.Numerals.{add-one}
-use native.Mathlib.Nat.{add-zero}
 use lib.ListN.{length, getD, take, drop, set, length-append, length-set, drop-of-length-le}
-use lib.Seq.{sets, length-sets, set-comm, drop-cons, take-suc, take-all, length-take-le}
+use lib.Seq.{sets, length-sets, drop-cons, take-suc, take-all, length-take-le}
+use Rattle.basics.proofs.Lists.{sets-append, sets-last}
 use Rattle.automata.specs.System.{an-edge}
 use Rattle.tables.specs.Table.{flags-of, letter-of, target-of}
 use Rattle.ncsb.specs.Successors.{quadruple}
@@ -17,23 +16,6 @@ use Rattle.text.specs.Built.{built-state, built-edge}
 use Rattle.text.specs.Listing.{state-line, edge-line}
 use Rattle.text.specs.Lines.{Put, Places, line, decimal, ascii, refused-line, counts-line}
 use Rattle.text.proofs.Digits.{last-digits, length-last, decimal-last}
-
--- bytes and then more
-pub sets-append : (xs ys l : List ℕ) (i : ℕ) → sets l i (xs ++ ys) ≡ sets (sets l i xs) (i + length xs) ys
-sets-append [] ys l i = rw (add-zero i)
-sets-append (x ∷ xs) ys l i =
-    let e : suc i + length xs ≡ i + suc (length xs) = omega arith in
-    rw e at (sets-append xs ys (set l i x) (suc i))
-
--- a store behind a run may come first
-set-behind : (xs l : List ℕ) (i j a : ℕ) → i + length xs ≤ j → sets (set l j a) i xs ≡ set (sets l i xs) j a
-set-behind [] l i j a h = refl
-set-behind (x ∷ xs) l i j a h =
-    let e : i ≢ j = omega arith in
-    rw (← set-comm l i j x a e) (set-behind xs (set l i x) (suc i) j a (omega arith))
-
-pub sets-last : (xs : List ℕ) (a : ℕ) (l : List ℕ) (i : ℕ) → sets l i (xs ++ (a ∷ [])) ≡ sets (set l (i + length xs) a) i xs
-sets-last xs a l i = sets-append xs (a ∷ []) l i ∙ sym (set-behind xs l i (i + length xs) a (omega arith))
 
 put-made :
     {before : List ℕ} {at most : ℕ} {bytes after : List ℕ} {end : ℕ} → after ≡ sets before at bytes → end ≡ at + length bytes →
