@@ -1,12 +1,10 @@
 -- A scan of records finds the number of a quadruple. Assumes nothing.
-use mathlib.Core.Path.{_≡_, refl, sym}
-use mathlib.Core.Bool.{Bool, true, false}
+use mathlib.Core.Path.{_≡_, sym}
+use mathlib.Core.Bool.{Bool, true}
 use mathlib.Core.List.{List}
 use Prim.Native.Nat.{ℕ, _/_, _≤_, _<_}
 use native.Mathlib.Omega.{arith}
-use lib.Dec.{eqb}
 use lib.ListN.{length}
-use Rattle.basics.proofs.Booleans.{eq-eqb, ne-eqb}
 use Rattle.basics.proofs.Scans.{None-below}
 use Rattle.automata.proofs.Graphs.{tabulate-length}
 use Rattle.automata.proofs.Members.{number-met, number-missed, number-le}

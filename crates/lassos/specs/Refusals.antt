@@ -1,5 +1,5 @@
 -- What the lasso decision refuses (document 01, "Refusals": 2 to 9 in the wide range, then 13 to 16). Assumes nothing: these are definitions.
-use mathlib.Core.Bool.{Bool, _&&_, _||_, not, cond}
+use mathlib.Core.Bool.{_&&_, _||_, not, cond}
 use mathlib.Core.List.{List}
 use Prim.Native.Nat.{ℕ, _+_, _*_}
 use lib.Dec.{ltb, eqb}

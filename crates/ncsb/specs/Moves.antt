@@ -1,6 +1,6 @@
 -- A pattern spread out into sets, and the laws of Q2 that the construction rests on. Assumes nothing: these are definitions.
 use mathlib.Core.Path.{_≡_}
-use mathlib.Core.Bool.{Bool, true, false}
+use mathlib.Core.Bool.{true}
 use Prim.Native.Nat.{ℕ, _<_, _^_}
 use Rattle.automata.specs.Automaton.{Automaton, Path}
 use Rattle.sets.specs.Sets.{has}

@@ -1,7 +1,7 @@
 -- The NCSB construction by membership: one field for each line of section 3.2 of document 004, in its order, with none of the
 -- helpers that compute successors. Assumes nothing: these are definitions.
 use mathlib.Core.Path.{_≡_}
-use mathlib.Core.Bool.{Bool, true, false, _&&_, _||_}
+use mathlib.Core.Bool.{true, false, _&&_, _||_}
 use mathlib.Core.Logic.{_↔_}
 use Prim.Native.Nat.{ℕ, suc, _≤_, _<_, _^_}
 use Rattle.automata.specs.Automaton.{Automaton}

@@ -1,7 +1,7 @@
 -- The construction as it computes (document 01, "The quadruple and its step" and "Numbering"): initial quadruples by rising S,
 -- successors on a letter by rising S', and the system of them. Assumes nothing: these are definitions.
-use mathlib.Core.Bool.{Bool, true, false, _&&_, _||_, not, cond}
-use mathlib.Core.List.{List, [], _∷_, map}
+use mathlib.Core.Bool.{Bool, _&&_, _||_, not, cond}
+use mathlib.Core.List.{List, [], map}
 use Prim.Native.Nat.{ℕ}
 use lib.Dec.{eqb}
 use lib.Bits.{bitAnd, bitOr}

@@ -2,7 +2,7 @@
 
 ghost use mathlib.Core.Path.{_≡_};
 ghost use mathlib.Core.List.{[]};
-ghost use Prim.Native.Nat.{ℕ, _%_, _^_};
+ghost use Prim.Native.Nat.{_%_, _^_};
 ghost use lib.ListN.{length, getD};
 ghost use Rattle.sets.specs.Sets.{size, subsets, union, without, Narrow};
 

@@ -1,5 +1,4 @@
 // Lines of text in a lent buffer. Each function writes from a place on and answers the place behind what it wrote.
-ghost use mathlib.Core.Path.{_≡_};
 ghost use mathlib.Core.List.{[], _∷_, _++_};
 ghost use Prim.Native.Nat.{_+_, _*_, _≤_};
 ghost use lib.ListN.{length};
