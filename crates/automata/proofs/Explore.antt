@@ -359,22 +359,3 @@ module _ {X : Type 0} (s : System X) where
     unfolding explore
     explore-exactly distinct m fuel most enough =
         explored-exactly (explore fuel s) (explored-all fuel 0 m (begin s) most (omega arith) (explored-begin distinct))
-
-    -- whatever the fuel, no more states are found than are reached
-    pub sound-explore : (f i : ℕ) (b : Built X) → Sound s b → Sound s (explore-from f s i b)
-    unfolding explore-from expand
-    sound-explore zero i b h = h
-    sound-explore (suc f) i b h =
-        elim (either (leb (length (b .states)) i)) [
-          | inl e ↦ rw (explore-end (suc f) i b (leb-le (length (b .states)) i e)) h
-          | inr e ↦
-              let l = leb-gt (length (b .states)) i e in
-              rw (explore-step f i b l)
-              (sound-explore f (suc i) (expand s i b)
-              (sound-letters (s .letters) i (state-at s (b .states) i) b (omega arith) (h .reached i l) h))
-        ]
-
-    pub explore-at-most : Distinct s (s .starts) → (m fuel : ℕ) → At-most s m → length (explore fuel s .states) ≤ m
-    unfolding explore
-    explore-at-most distinct m fuel most =
-        sound-at-most (explore fuel s) m (sound-explore fuel 0 (begin s) (explored-begin distinct .sound)) most

@@ -2,7 +2,7 @@
 use mathlib.Core.Path.{_≡_, refl, sym, _∙_, ap}
 use mathlib.Core.Bool.{true, false}
 use mathlib.Core.List.{List, [], _∷_, _++_, append-assoc, append-nil}
-use mathlib.Core.Logic.{_⊎_, inl, inr}
+use mathlib.Core.Logic.{inl, inr}
 use Prim.Native.Nat.{ℕ, zero, suc, _+_, _≤_, _<_}
 use native.Mathlib.Omega.{arith}
 use lib.Dec.{ltb}
@@ -48,22 +48,7 @@ module _ {X : Type 0} where
             sym (take-append-drop (length xs) ys) ∙ ap (λ (l : List X). l ++ drop (length xs) ys) e;
       }
 
-  -- MEMBERS
-  pub member-left : {x : X} {xs : List X} (ys : List X) → Member x xs → Member x (xs ++ ys)
-  member-left ys here = here
-  member-left ys (there m) = there (member-left ys m)
-
-  pub member-right : {x : X} (xs : List X) {ys : List X} → Member x ys → Member x (xs ++ ys)
-  member-right [] m = m
-  member-right (y ∷ xs) m = there (member-right xs m)
-
-  pub member-cases : {x : X} (xs : List X) {ys : List X} → Member x (xs ++ ys) → Member x xs ⊎ Member x ys
-  member-cases [] m = inr m
-  member-cases (y ∷ xs) here = inl here
-  member-cases (y ∷ xs) (there m) =
-      elim (member-cases xs m) [ inl n ↦ inl (there n) | inr n ↦ inr n ]
-
-  -- each member stands at some index
+  -- MEMBERS: each stands at some index
   pub member-index :
       {x : X} {xs : List X} (blank : X) → Member x xs → (i : ℕ) × (i < length xs) × (getD xs i blank ≡ x)
   member-index blank here = (0, (omega arith), refl)
@@ -215,10 +200,6 @@ module _ {X : Type 0} (s : System X) where
               (number-found (state-at s xs i) xs (let l′ = ltb-lt n i e in omega arith)))
           | inr e ↦ let g = ltb-ge n i e in omega arith
         ]
-
-    pub number-is :
-        (x : X) (xs : List X) → Distinct s xs → (i : ℕ) → i < length xs → state-at s xs i ≡ x → number-of s x xs ≡ i
-    number-is x xs distinct i l e = rw e at (number-at xs distinct i l)
 
     pub number-none :
         (x : X) (xs : List X) → ((i : ℕ) → i < length xs → state-at s xs i ≡ x → ⊥) → number-of s x xs ≡ length xs
