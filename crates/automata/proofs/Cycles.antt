@@ -1,30 +1,23 @@
 -- Accepting runs over a lasso are accepting cycles of the product with its positions: from a run a cycle by the pigeonhole, and
 -- from a cycle the run that goes round it for ever. Assumes nothing.
-use mathlib.Core.Path.{_≡_, refl, sym, _∙_, ap}
+use mathlib.Core.Path.{_≡_, refl, _∙_, ap}
 use mathlib.Core.Bool.{true}
 use mathlib.Core.List.{List}
 use mathlib.Core.Logic.{inl, inr}
-use Prim.Native.Nat.{ℕ, zero, suc, _+_, _*_, _/_, _%_, _≤_, _<_}
+use Prim.Native.Nat.{ℕ, zero, suc, _+_, _*_, _≤_, _<_}
 use native.Mathlib.Omega.{arith}
-use lib.Arith.{digits-lt, digits-div, digits-mod}
+use lib.Arith.{digits-lt}
 use lib.Dec.{eqb}
 use lib.ListN.{length}
 use Rattle.basics.proofs.Booleans.{either, eqb-eq, eqb-ne}
 use Rattle.basics.proofs.Bounded.{pigeonhole}
+use Rattle.basics.proofs.Radix.{digits-same}
 use Rattle.basics.proofs.Upward.{upward}
 use Rattle.automata.specs.Automaton.{Automaton, Path, Takes, Closed}
 use Rattle.automata.specs.Lasso.{letter-at, position-at, position-letter, next-position, positions, Walk, stay, onward, Accepting-cycle}
 use Rattle.automata.proofs.Positions.{position-zero, position-next, position-below, letter-position}
 
--- FROM A RUN TO A CYCLE
--- the number of a node gives its position and its state
-same-node :
-    {n p q : ℕ} (i j : ℕ) → p < n → q < n → i * n + p ≡ j * n + q → (i ≡ j) × (p ≡ q)
-same-node {n} i j l m e = (
-  sym (digits-div i l) ∙ ap (λ (x : ℕ). x / n) e ∙ digits-div j m,
-  sym (digits-mod i l) ∙ ap (λ (x : ℕ). x % n) e ∙ digits-mod j m,
-)
-
+-- FROM A RUN TO A CYCLE: the number of a node gives its position and its state
 module _ (a : Automaton) (u v : List ℕ) (o : 1 ≤ length v) (run : ℕ → ℕ) (path : Path a (letter-at u v) run) where
   -- the edge from a place to the next, by position
   edge-at : (i : ℕ) → a .edge (run i) (position-letter u v (position-at u v i)) (run (suc i)) ≡ true
@@ -88,7 +81,7 @@ module _ (a : Automaton) (u v : List ℕ) (o : 1 ≤ length v) (run : ℕ → �
         go : (i : ℕ) × (j : ℕ) × (i < j) × (j ≤ positions u v * a .states) × (node i ≡ node j) → Accepting-cycle a u v
         go (i, j, l, m, e) =
             let (x, y) : ℕ × ℕ = (place i, place j) in
-            let (p, q) = same-node (position-at u v x) (position-at u v y) (path .inside x) (path .inside y) e in
+            let (p, q) = digits-same (position-at u v x) (position-at u v y) (path .inside x) (path .inside y) e in
             cycle-between x y (place-rises i j l) p q (place-accepts i)
 
 -- an automaton that takes a lasso has an accepting cycle over it.

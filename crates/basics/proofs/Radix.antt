@@ -5,8 +5,14 @@ use Prim.Native.Nat.{ℕ, zero, suc, _+_, _*_, _/_, _%_, _^_, _≤_, _<_}
 use native.Mathlib.Omega.{arith}
 use native.Mathlib.Nat.{mul-le-mul, pow-zero, pow-suc}
 use lib.Arith.{digits-lt, digits-div, digits-mod}
-use lib.Dec.{eqb}
-use Rattle.basics.proofs.Booleans.{either, eqb-eq, eqb-ne}
+use Rattle.basics.proofs.Booleans.{same-or}
+
+-- a number decides its last digit and what stands before it
+pub digits-same : {b x y : ℕ} (i j : ℕ) → x < b → y < b → i * b + x ≡ j * b + y → (i ≡ j) × (x ≡ y)
+digits-same {b} i j l m e = (
+  sym (digits-div i l) ∙ ap (λ (n : ℕ). n / b) e ∙ digits-div j m,
+  sym (digits-mod i l) ∙ ap (λ (n : ℕ). n % b) e ∙ digits-mod j m,
+)
 
 -- the number with these digits at the places below the limit
 unfoldable pub number : (radix digit : ℕ → ℕ) → (limit : ℕ) → ℕ
@@ -29,15 +35,10 @@ pub number-digits :
 unfolding number
 number-digits r f g zero hf hg e q l = absurd (omega arith)
 number-digits r f g (suc k) hf hg e q l =
-    elim (either (eqb q k)) [
-      | inl s ↦
-          let same = eqb-eq q k s in
-          rw same (sym (digits-mod (number r f k) (hf k)) ∙ ap (λ (n : ℕ). n % r k) e ∙ digits-mod (number r g k) (hg k))
-      | inr s ↦
-          let other = eqb-ne q k s in
-          let front : number r f k ≡ number r g k =
-          sym (digits-div (number r f k) (hf k)) ∙ ap (λ (n : ℕ). n / r k) e ∙ digits-div (number r g k) (hg k) in
-          number-digits r f g k hf hg front q (omega arith)
+    let (front, last) = digits-same (number r f k) (number r g k) (hf k) (hg k) e in
+    elim (same-or q k) [
+      | inl s ↦ rw s last
+      | inr s ↦ number-digits r f g k hf hg front q (omega arith)
     ]
 
 pub numbers-le : (r : ℕ → ℕ) (b k : ℕ) → ((q : ℕ) → r q ≤ b) → numbers r k ≤ b ^ k

@@ -3,13 +3,14 @@
 use mathlib.Core.Path.{_≡_, refl, sym, _∙_, ap}
 use mathlib.Core.Bool.{true, false}
 use mathlib.Core.List.{List}
-use Prim.Native.Nat.{ℕ, zero, suc, _+_, _*_, _-_, _/_, _%_, _≤_, _<_}
+use Prim.Native.Nat.{ℕ, zero, suc, _+_, _*_, _-_, _≤_, _<_}
 use native.Mathlib.Omega.{arith}
 use native.Mathlib.Nat.{add-zero, add-suc, suc-add}
-use lib.Arith.{digits-lt, digits-div, digits-mod}
+use lib.Arith.{digits-lt}
 use lib.ListN.{length}
 use Rattle.basics.proofs.Booleans.{not-both}
 use Rattle.basics.proofs.Bounded.{pigeonhole}
+use Rattle.basics.proofs.Radix.{digits-same}
 use Rattle.automata.specs.Automaton.{Automaton, Takes, Closed}
 use Rattle.automata.specs.Lasso.{letter-at, position-at, position-letter, next-position, positions, Walk, stay, onward, Accepting-cycle}
 use Rattle.automata.proofs.Positions.{position-next, position-below, position-add, letter-position, letter-same}
@@ -137,12 +138,7 @@ module _ {a : Automaton} (closed : Closed a) (u v : List ℕ) (o : 1 ≤ length 
           let e : y ≡ x + suc (y - suc x) = omega arith in
           let lx = inside x (omega arith) in
           let ly = inside y (omega arith) in
-          let state =
-          sym (digits-mod (position (i + y)) ly) ∙ ap (λ (n : ℕ). n % a .states) (sym same)
-          ∙ digits-mod (position (i + x)) lx in
-          let place =
-          sym (digits-div (position (i + y)) ly) ∙ ap (λ (n : ℕ). n / a .states) (sym same)
-          ∙ digits-div (position (i + x)) lx in (
+          let (place, state) = digits-same (position (i + y)) (position (i + x)) ly lx (sym same) in (
             x,
             y - suc x,
             k - x,
