@@ -23,10 +23,9 @@
 #include <string.h>
 #include <sys/mman.h>
 #include <time.h>
+#include <unistd.h>
 
 enum { ROUNDS_MOST = 201, ROUNDS_FEWEST = 3 };
-
-static const size_t most_lent = (size_t)1400 * 1000 * 1000; /* larger rows are left out, and said to be */
 
 static int quick;
 
@@ -54,6 +53,13 @@ static void *large_memory(size_t bytes)
     if (madvise(p, room, MADV_HUGEPAGE) != 0)
         fputs("bench: no large pages\n", stderr);
     return p;
+}
+
+/* Rows that would be lent more are left out, and said to be: half of the memory that is free, or little in a quick run. */
+static size_t most_lent(void)
+{
+    const size_t little = (size_t)14 * 1000 * 1000;
+    return quick ? little : (size_t)sysconf(_SC_AVPHYS_PAGES) * (size_t)sysconf(_SC_PAGESIZE) / 2;
 }
 
 static void must(int holds, const char *what)
@@ -373,7 +379,7 @@ static struct cost lasso_row(const char *table_name, const uint16_t *table, size
     uint32_t by_library;
     struct cost cost = {0, 0};
     snprintf(name, sizeof name, "%s, loop of %zu", table_name, loop_len);
-    if (lent > most_lent || (quick && lent > most_lent / 100)) {
+    if (lent > most_lent()) {
         printf("%-44s left out: it would be lent %zu bytes\n", name, lent);
         return cost;
     }
