@@ -432,20 +432,23 @@ static void print_spread(const char *what, struct spread s, int within)
     printf("    %s: %.2f to %.2f, %s 30 percent\n", what, s.least, s.most, within ? "within" : "NOT within");
 }
 
-/* Each call also reads its whole table once, however long the lasso is. So growth is shown over whole calls, beside what
- * the first of them would grow to in proportion, and over what each row has more than the row before it. */
+/* Each call also reads its whole table once, however long the lasso is. So growth is shown in three ways: over whole
+ * calls, beside what the first of them would grow to in proportion; by what a unit of them costs, the dearest beside the
+ * cheapest; and over what each row has more than the row before it. */
 static void print_growth(const char *what, const struct cost *cost, int count)
 {
     const double first = cost[0].seconds / cost[0].units;
-    struct spread whole = {0, 0}, added = {0, 0};
+    struct spread whole = {0, 0}, unit = {0, 0}, added = {0, 0};
     int i;
     for (i = 0; i < count && cost[i].units > 0; i++) {
         widen(&whole, cost[i].seconds / cost[i].units / first);
+        widen(&unit, cost[i].seconds / cost[i].units * 1e9);
         if (i > 0)
             widen(&added, (cost[i].seconds - cost[i - 1].seconds) / (cost[i].units - cost[i - 1].units) * 1e9);
     }
     printf("%s, %d times doubled:\n", what, i - 1);
     print_spread("whole calls beside proportional growth", whole, whole.least >= 0.7 && whole.most <= 1.3);
+    print_spread("whole calls, ns a unit", unit, unit.most <= 1.3 * unit.least);
     print_spread("added work, ns a unit", added, added.most <= 1.3 * added.least);
 }
 
