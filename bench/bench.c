@@ -195,9 +195,10 @@ static void build_by_reference(struct input *in)
 
 static void lasso_by_library(struct input *in)
 {
-    in->answer = tubochre_lasso(in->table, in->len, in->prefix, in->prefix_len, in->loop, in->loop_len, in->work,
-                                tubochre_work_words(in->table[0], in->prefix_len, in->loop_len))
-                     .taken;
+    const struct tubochre_decision d =
+        tubochre_lasso(in->table, in->len, in->prefix, in->prefix_len, in->loop, in->loop_len, in->work,
+                       tubochre_work_words(in->table[0], in->prefix_len, in->loop_len));
+    in->answer = d.number == TUBOCHRE_OK ? d.taken : 100 + d.number;
 }
 
 /* The work words are clear afterwards, as they are when the library answers. */
@@ -393,7 +394,7 @@ static struct cost lasso_row(const char *table_name, const uint16_t *table, size
     lasso_by_library(&in);
     by_library = in.answer;
     lasso_by_reference(&in);
-    must(by_library != 0 && in.answer == by_library, "a decision");
+    must(by_library <= TUBOCHRE_TAKEN && in.answer == by_library, "a decision");
     times = take_turns(lasso_by_library, lasso_by_reference, &in);
     cost.seconds = times.library;
     cost.units = (double)table[2] * (double)loop_len;
@@ -608,7 +609,7 @@ static int count_one(const char *letters)
     d = tubochre_lasso(table, len, loop, 0, loop, loop_len, work, work_len);
     free(table);
     free(work);
-    return d.taken == TUBOCHRE_NOT_TAKEN ? 0 : 1;
+    return d.number == TUBOCHRE_OK && d.taken == TUBOCHRE_NOT_TAKEN ? 0 : 1;
 }
 
 static const struct part {

@@ -510,7 +510,7 @@ struct fast_decision fast_lasso(const uint16_t *table, size_t len, const uint8_t
     s.positions = (uint32_t)(prefix_len + loop_len);
     s.first = first;
     s.target = target;
-    d.taken = takes(&s, (size_t)s.n * s.positions, work) ? 1 : 2;
+    d.taken = takes(&s, (size_t)s.n * s.positions, work) ? 1 : 0;
     free(first);
     free(target);
     return d;

@@ -13,6 +13,8 @@ int main(void)
         return puts(tubochre_refusal_text(built.number)), 1;
     size_t used = tubochre_table_words(built.states, built.edges);
     struct tubochre_decision d = tubochre_lasso(words, used, prefix, 2, loop, 2, work, 100);
+    if (d.number != TUBOCHRE_OK)
+        return puts(tubochre_refusal_text(d.number)), 1;
     printf("%u states, %u edges; the complement %s 00(01) for ever\n", (unsigned)built.states, (unsigned)built.edges,
            d.taken == TUBOCHRE_TAKEN ? "takes" : "does not take");
     return 0;

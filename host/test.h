@@ -47,7 +47,7 @@ struct lasso {
 /* Also expects that all work words are zero, and that a refusal is not an answer. */
 struct tubochre_decision lent_lasso(const uint16_t *table, size_t len, struct lasso l, size_t work_len);
 
-/* With as many work words as it needs: 1 taken, 2 not taken, and the number plus 100 where it is refused. */
+/* With as many work words as it needs: 1 taken, 0 not taken, and the number plus 100 where it is refused. */
 uint32_t decide(const uint16_t *table, size_t len, struct lasso l);
 
 #endif

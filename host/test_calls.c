@@ -113,8 +113,8 @@ static void try_lasso(const struct trial *t)
     const struct lasso l = {t->prefix, t->prefix_len, t->loop, t->loop_len};
     const uint32_t by_pattern = decide(t->piece->table, t->piece->len, l);
     const uint32_t by_complement = decide(t->piece->words, t->piece->words_len, l);
-    expect(by_pattern == (t->by_pattern ? 1 : 2), "%s: by the pattern", t->name);
-    expect(by_complement == (t->by_pattern ? 2 : 1), "%s: by the complement", t->name);
+    expect(by_pattern == (t->by_pattern ? TUBOCHRE_TAKEN : TUBOCHRE_NOT_TAKEN), "%s: by the pattern", t->name);
+    expect(by_complement == (t->by_pattern ? TUBOCHRE_NOT_TAKEN : TUBOCHRE_TAKEN), "%s: by the complement", t->name);
 }
 
 /* A run that stops is no run: state 0 is accepting and has no edge. */

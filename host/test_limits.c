@@ -172,6 +172,7 @@ static void try_threads(void)
         expect(same_results(alone, each[i]), "thread %d has every word of the call made alone", i);
         free(each[i]);
     }
+    expect(alone->by_pattern.number == TUBOCHRE_OK && alone->by_complement.number == TUBOCHRE_OK, "neither is refused");
     expect(alone->by_pattern.taken != alone->by_complement.taken, "exactly one takes the lasso");
     free(alone);
 }

@@ -81,14 +81,15 @@ enum tubochre_limit {
 };
 
 /* What a lasso decision says of a lasso that it does not refuse. */
-enum tubochre_taken { TUBOCHRE_TAKEN = 1, TUBOCHRE_NOT_TAKEN = 2 };
+enum tubochre_taken { TUBOCHRE_NOT_TAKEN = 0, TUBOCHRE_TAKEN = 1 };
 
 /* What a build answers: number 0 and both counts, or the number of the refusal and both counts zero. */
 struct tubochre_counts {
     uint32_t number, states, edges;
 };
 
-/* What a decision answers: number 0 and taken 1 or 2, or the number of the refusal and taken 0. */
+/* What a decision answers: number 0 and taken 1 or 0, or the number of the refusal and taken 0. Only number tells a
+ * refusal. */
 struct tubochre_decision {
     uint32_t number, taken;
 };

@@ -16,7 +16,7 @@ struct reference_counts {
 };
 
 struct reference_decision {
-    uint32_t number, taken; /* 1 taken, 2 not taken, 0 where refused */
+    uint32_t number, taken; /* 1 taken, 0 not taken or refused: number tells which */
 };
 
 /* 0, or which of 2 to 10 refuses a pattern. */

@@ -319,7 +319,7 @@ struct reference_decision reference_lasso(const uint16_t *table, size_t len, con
     else if (work_len < 4 * (size_t)table[0] * (prefix_len + loop_len))
         d.number = 16;
     else
-        d.taken = takes(table, prefix, prefix_len, loop, loop_len) ? 1 : 2;
+        d.taken = takes(table, prefix, prefix_len, loop, loop_len) ? 1 : 0;
     return d;
 }
 

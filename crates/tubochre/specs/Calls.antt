@@ -16,10 +16,10 @@ use Rattle.tubochre.specs.Demand.{Compared}
 use Rattle.tubochre.specs.declared.Answer.{Answer}
 use Rattle.tubochre.specs.declared.Trial.{Trial}
 
--- a decision in numbers: 0 and 1 taken, 0 and 2 not taken, or the refusal's number and 0
+-- a decision in numbers: 0 and 1 taken, 0 and 0 not taken, or the refusal's number and 0; only `number` tells a refusal
 unfoldable pub as-answer : Decision → Answer
 as-answer Taken = record { number = 0; taken = 1 }
-as-answer NotTaken = record { number = 0; taken = 2 }
+as-answer NotTaken = record { number = 0; taken = 0 }
 as-answer (Refused r) = record { number = r; taken = 0 }
 
 -- what the lasso call answers and leaves

@@ -7,7 +7,7 @@ ghost use Rattle.patterns.specs.Check.{check-refusal};
 ghost use Rattle.complement.specs.Build.{Build-says};
 ghost use Rattle.tubochre.specs.Calls.{as-answer, Lasso-answers, Used-inside, Decided-built, Trial-says};
 
-// A lasso decision in numbers: 0 and 1 taken, 0 and 2 not taken, or the refusal's number and 0.
+// A lasso decision in numbers: 0 and 1 taken, 0 and 0 not taken, or the refusal's number and 0. Only `number` tells a refusal.
 #[repr(C)]
 pub struct Answer {
     pub number: u32,
@@ -63,7 +63,7 @@ fn in_numbers(decision: Decision) -> Answer
         },
         Decision::NotTaken => Answer {
             number: 0,
-            taken: 2,
+            taken: 0,
         },
         Decision::Refused(number) => Answer { number, taken: 0 },
     }
