@@ -21,7 +21,7 @@ use Rattle.layout.specs.Steps.{Lay-out-asks}
 use Rattle.layout.specs.Triples.{triples-of, plain}
 use Rattle.layout.proofs.Indexed.{flagging-end}
 use Rattle.layout.proofs.Triples.{triples-are}
-use Rattle.complement.specs.Build.{words-needed, Build-says}
+use Rattle.complement.specs.Build.{Lent, lent, words-needed, Build-says}
 use Rattle.complement.specs.Complement.{system-of, complement, complement-automaton, complement-words, sets-words, quadruple-words}
 use Rattle.complement.specs.Flags.{flags-of-record, with-flags, Flags-ask}
 use Rattle.complement.specs.Found.{Begins, records, triple, triples, edge-room, counted-to, Shows, start-moves, Read-off}
@@ -31,6 +31,7 @@ use Rattle.complement.proofs.Flagged.{flags-flagging}
 use Rattle.complement.proofs.Kept.{records-length, records-snoc, kept-at, triples-length}
 use Rattle.complement.proofs.Meeting.{capacity-words, capacity-limit}
 use Rattle.complement.proofs.Numbering.{letters-all, letters-few, starts-same}
+use Rattle.complement.proofs.Reaching.{Same-sizes}
 use Rattle.complement.proofs.Second.{complement-orderly}
 use Rattle.complement.proofs.Stored.{begins-filled}
 
@@ -73,16 +74,22 @@ triples-source (f ∷ es) (suc e) l =
     let q : 3 * suc e + 2 ≡ suc (suc (suc (3 * e + 2))) = omega arith in rw q (triples-source es e (omega arith))
 
 module _
-    {t : List ℕ} {masks : List (List ℕ)} {shape : Shape} (read : Read-off t masks shape) {w s : List ℕ} {p : Progress}
-    (h : Shows (complement t) w s p) where
+    {t : List ℕ} {masks : List (List ℕ)} {shape : Shape} (read : Read-off t masks shape) {l : Lent} {p : Progress}
+    (h : Shows (complement t) l p) where
+  abbrev w : List ℕ
+  w = l .words
+
+  abbrev s : List ℕ
+  s = l .sets
+
   pub states-limit : p .states ≤ 65535
   states-limit =
       let e = h .states .counted in
-      let l = h .states .fits in
+      let few = h .states .fits in
       let m = capacity-limit s in omega arith
 
   sets-room : 4 * p .states ≤ length s
-  sets-room = let e = h .states .counted in let l = h .states .fits in capacity-words s (p .states) (omega arith)
+  sets-room = let e = h .states .counted in let few = h .states .fits in capacity-words s (p .states) (omega arith)
 
   -- the sets are all there
   pub sets-built : (o : List ℕ) → length s ≡ length o → s ≡ filled (sets-words t) o
@@ -97,12 +104,12 @@ module _
   module _ (short : (p .edges ≤ 65535) × (words-needed (p .states) (p .edges) ≤ length w)) where
     all-edges : p .edges ≡ length (complement t .edges)
     unfolding counted-to wide-range
-    all-edges = let e = h .edges .counted in let l = short .0 in omega arith
+    all-edges = let e = h .edges .counted in let few = short .0 in omega arith
 
     -- every edge is in the words
     edges-room : length (complement t .edges) ≤ edge-room w
     unfolding edge-room words-needed wide-range
-    edges-room = let e = all-edges in let l = short .0 in let m = short .1 in omega arith
+    edges-room = let e = all-edges in let few = short .0 in let m = short .1 in omega arith
 
     edges-kept : Begins (0 ∷ 0 ∷ 0 ∷ triples (complement t .edges)) w
     edges-kept = rw (take-all (edge-room w) (complement t .edges) edges-room) at (h .edges .begins)
@@ -146,7 +153,7 @@ module _
     module _
         {w1 : List ℕ} (laid : w1 ≡ filled (chained-words (plain (p .states) (shape .letters)) (triples-of w (p .edges))) w)
         (size : length w1 ≡ length w) where
-      pub flags-ask : Flags-ask w1 s (p .states)
+      pub flags-ask : Flags-ask (lent w1 s) (p .states)
       unfolding words-needed
       flags-ask = record { words-room = (let m = short .1 in let e = size in omega arith); sets-room = sets-room }
 
@@ -193,30 +200,31 @@ module _
 
 -- THE ACCEPTED BUILD
 module _
-    {t : List ℕ} {masks : List (List ℕ)} {shape : Shape} (read : Read-off t masks shape) {w s : List ℕ} {p : Progress}
-    (h : Shows (complement t) w s p) {b : Bool}
-    (tested : b ≡ (ltb 65535 (p .edges) || ltb (length w) (words-needed (p .states) (p .edges)))) (short : b ≡ false) where
-  enough : (p .edges ≤ 65535) × (words-needed (p .states) (p .edges) ≤ length w)
-  enough = short-enough (length w) (p .states) (p .edges) tested short
+    {t : List ℕ} {masks : List (List ℕ)} {shape : Shape} (read : Read-off t masks shape) {l : Lent} {p : Progress}
+    (h : Shows (complement t) l p) {b : Bool}
+    (tested : b ≡ (ltb 65535 (p .edges) || ltb (length (l .words)) (words-needed (p .states) (p .edges)))) (short : b ≡ false) where
+  enough : (p .edges ≤ 65535) × (words-needed (p .states) (p .edges) ≤ length (l .words))
+  enough = short-enough (length (l .words)) (p .states) (p .edges) tested short
 
-  pub built-asks : Lay-out-asks w (p .states) (shape .letters) (p .edges)
+  pub built-asks : Lay-out-asks (l .words) (p .states) (shape .letters) (p .edges)
   built-asks = lay-out-asks read h enough
 
   pub built-counts : (p .states ≤ 65535) × (p .edges ≤ 65535)
   built-counts = (states-limit read h, enough .0)
 
   module _
-      {w1 : List ℕ} (laid : w1 ≡ filled (chained-words (plain (p .states) (shape .letters)) (triples-of w (p .edges))) w)
-      (size : length w1 ≡ length w) where
-    pub built-flags : Flags-ask w1 s (p .states)
+      {w1 : List ℕ}
+      (laid : w1 ≡ filled (chained-words (plain (p .states) (shape .letters)) (triples-of (l .words) (p .edges))) (l .words))
+      (size : length w1 ≡ length (l .words)) where
+    pub built-flags : Flags-ask (lent w1 (l .sets)) (p .states)
     built-flags = flags-ask read h enough laid size
 
     pub built-says :
-        {k : ℕ} {v : List ℕ} (o s₀ : List ℕ) → length w ≡ length o → length s ≡ length s₀ →
-        k ≡ length (initials (start-moves shape)) → v ≡ with-flags s k (p .states) w1 →
-        Build-says t (record { number = 0; states = p .states; edges = p .edges }) o v s₀ s
-    built-says o s₀ words sets e f =
+        {k : ℕ} {v : List ℕ} (lends : Lent) → Same-sizes l lends → k ≡ length (initials (start-moves shape)) →
+        v ≡ with-flags (l .sets) k (p .states) w1 →
+        Build-says t (record { number = 0; states = p .states; edges = p .edges }) lends (lent v (l .sets))
+    built-says lends sizes e f =
         let states = h .states .counted in
         let edges = all-edges read h enough in
-        says-built (none-refuses t o s₀ (read .passed) h words sets tested short) (rw (states, edges) refl)
-        (words-built read h enough laid size o e f words) (sets-built read h s₀ sets)
+        says-built (none-refuses t lends (read .passed) h sizes tested short) (rw (states, edges) refl)
+        (words-built read h enough laid size (lends .words) e f (sizes .words)) (sets-built read h (lends .sets) (sizes .sets))

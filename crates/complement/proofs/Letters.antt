@@ -17,10 +17,11 @@ use Rattle.ncsb.specs.declared.Asked.{Asked}
 use Rattle.ncsb.specs.declared.Quadruple.{Quadruple}
 use Rattle.ncsb.proofs.Choices.{blocked-same, none-blocked, choices-count, choice-successor}
 use Rattle.patterns.specs.declared.Shape.{Shape}
+use Rattle.complement.specs.Build.{Lent}
 use Rattle.complement.specs.Found.{within, Turns, Step-asks, Expand-asks, array-moves}
 use Rattle.complement.specs.declared.explore.Progress.{Progress}
 use Rattle.complement.proofs.Meeting.{capacity-words}
-use Rattle.complement.proofs.Reaching.{Reaching, reach-start, reach-asks, reach-turn, reach-full, reach-end}
+use Rattle.complement.proofs.Reaching.{Same-sizes, sizes-self, sizes-then, Reaching, reach-start, reach-asks, reach-turn, reach-full, reach-end}
 
 -- CHOICES one by one: an edge to each
 pub by-choice : Moves → (choice : ℕ → Quadruple) → (source letter count : ℕ) → Built Quadruple → Built Quadruple
@@ -43,39 +44,37 @@ module _ (d : Moves) (y : ℕ → Quadruple) (i c : ℕ) where
       rw (choice-all ys same k (omega arith) b, same k (omega arith)) (sym (add-all-take (ncsb d) i c k ys b (omega arith)))
 
 -- the loop over the choices, for all moves at once
-pub record Choosing (y : ℕ → Quadruple) (i c : ℕ) (w₀ s₀ : List ℕ) (p₀ : Progress) (w s : List ℕ) (p : Progress) (count : ℕ) : Type 0 where
-  pub words-size : length w ≡ length w₀
-  pub sets-size : length s ≡ length s₀
-  pub reaching : (d : Moves) → Reaching (by-choice d y i c) w₀ s₀ p₀ w s p count
+pub record Choosing (y : ℕ → Quadruple) (i c : ℕ) (l₀ : Lent) (p₀ : Progress) (l : Lent) (p : Progress) (count : ℕ) : Type 0 where
+  pub sizes : Same-sizes l l₀
+  pub reaching : (d : Moves) → Reaching (by-choice d y i c) l₀ p₀ l p count
 
-module _ {y : ℕ → Quadruple} {i c : ℕ} {w₀ s₀ : List ℕ} {p₀ : Progress} where
-  pub choose-start : Choosing y i c w₀ s₀ p₀ w₀ s₀ p₀ 0
+module _ {y : ℕ → Quadruple} {i c : ℕ} {l₀ : Lent} {p₀ : Progress} where
+  pub choose-start : Choosing y i c l₀ p₀ l₀ p₀ 0
   unfolding by-choice
-  choose-start = record { words-size = refl; sets-size = refl; reaching = λ d. reach-start (λ b. refl) }
+  choose-start = record { sizes = sizes-self; reaching = λ d. reach-start (λ b. refl) }
 
-  module _ {w s : List ℕ} {p : Progress} {k : ℕ} (h : Choosing y i c w₀ s₀ p₀ w s p k) where
-    pub choose-asks : Moves → Step-asks w₀ s₀ p₀ i c → Step-asks w s p i c
+  module _ {l : Lent} {p : Progress} {k : ℕ} (h : Choosing y i c l₀ p₀ l p k) where
+    pub choose-asks : Moves → Step-asks l₀ p₀ i c → Step-asks l p i c
     unfolding by-choice
     choose-asks d asked = reach-asks (h .reaching d) c (choice-grows d y i c 0 k (omega arith)) (asked .letter-inside) asked
 
-    module _ {w′ s′ : List ℕ} {p′ : Progress} (turn : (d : Moves) → Turns (add-edge (ncsb d) i c (y k)) w s p w′ s′ p′) where
-      pub choose-turn : length w′ ≡ length w → length s′ ≡ length s → p′ .full ≡ false → Choosing y i c w₀ s₀ p₀ w′ s′ p′ (k + 1)
+    module _ {l′ : Lent} {p′ : Progress} (turn : (d : Moves) → Turns (add-edge (ncsb d) i c (y k)) l p l′ p′) where
+      pub choose-turn : Same-sizes l′ l → p′ .full ≡ false → Choosing y i c l₀ p₀ l′ p′ (k + 1)
       unfolding by-choice
-      choose-turn e e′ left =
+      choose-turn same left =
           record {
-            words-size = e ∙ h .words-size;
-            sets-size = e′ ∙ h .sets-size;
-            reaching = λ d. reach-turn (h .reaching d) (λ b. refl) (turn d) e e′ left;
+            sizes = sizes-then same (h .sizes);
+            reaching = λ d. reach-turn (h .reaching d) (λ b. refl) (turn d) same left;
           }
 
-      choose-full : (d : Moves) (n : ℕ) → k < n → p′ .full ≡ true → Turns (by-choice d y i c n) w₀ s₀ p₀ w′ s′ p′
+      choose-full : (d : Moves) (n : ℕ) → k < n → p′ .full ≡ true → Turns (by-choice d y i c n) l₀ p₀ l′ p′
       unfolding by-choice
-      choose-full d n l full = reach-full (h .reaching d) (λ b. refl) (turn d) n (choice-grows d y i c (suc k) n l) full
+      choose-full d n more full = reach-full (h .reaching d) (λ b. refl) (turn d) n (choice-grows d y i c (suc k) n more) full
 
 -- a step by another name
 turns-same :
-    {f g : Built Quadruple → Built Quadruple} {w s w′ s′ : List ℕ} {p p′ : Progress} → ((b : Built Quadruple) → f b ≡ g b) →
-    Turns f w s p w′ s′ p′ → Turns g w s p w′ s′ p′
+    {f g : Built Quadruple → Built Quadruple} {l l′ : Lent} {p p′ : Progress} → ((b : Built Quadruple) → f b ≡ g b) →
+    Turns f l p l′ p′ → Turns g l p l′ p′
 turns-same same turn = record { from = λ b shows. rw (← same b) (turn .from b shows) }
 
 -- ONE LETTER
@@ -88,8 +87,8 @@ module _
   stops = stopping ∙ blocked-same m (shape .marks) (shape .inner) x c asking
 
   pub letter-blocked :
-      {w s : List ℕ} {p : Progress} → stopped ≡ true →
-      Turns (add-all (ncsb (array-moves m shape)) i c (successors (array-moves m shape) x c)) w s p w s p
+      {l : Lent} {p : Progress} → stopped ≡ true →
+      Turns (add-all (ncsb (array-moves m shape)) i c (successors (array-moves m shape) x c)) l p l p
   unfolding add-all array-moves
   letter-blocked e =
       record {
@@ -118,17 +117,17 @@ module _
         choices (omega arith) b
         ∙ ap (λ (zs : List Quadruple). add-all (ncsb (array-moves m shape)) i c zs b) (take-all choices ys (omega arith))
 
-    module _ {w₀ s₀ w s : List ℕ} {p₀ p : Progress} {k : ℕ} (h : Choosing (nth-successor x asked) i c w₀ s₀ p₀ w s p k) where
+    module _ {l₀ l : Lent} {p₀ p : Progress} {k : ℕ} (h : Choosing (nth-successor x asked) i c l₀ p₀ l p k) where
       pub letter-full :
-          {w′ s′ : List ℕ} {p′ : Progress} {z : Quadruple} → z ≡ nth-successor x asked k →
-          ((d : Moves) → Turns (add-edge (ncsb d) i c z) w s p w′ s′ p′) → k < choices → p′ .full ≡ true →
-          Turns (add-all (ncsb (array-moves m shape)) i c (successors (array-moves m shape) x c)) w₀ s₀ p₀ w′ s′ p′
-      letter-full e turn l full =
-          turns-same each-choice (choose-full h (λ d. rw e at (turn d)) (array-moves m shape) choices l full)
+          {l′ : Lent} {p′ : Progress} {z : Quadruple} → z ≡ nth-successor x asked k →
+          ((d : Moves) → Turns (add-edge (ncsb d) i c z) l p l′ p′) → k < choices → p′ .full ≡ true →
+          Turns (add-all (ncsb (array-moves m shape)) i c (successors (array-moves m shape) x c)) l₀ p₀ l′ p′
+      letter-full e turn more full =
+          turns-same each-choice (choose-full h (λ d. rw e at (turn d)) (array-moves m shape) choices more full)
 
       pub letter-end :
           k ≤ choices → choices ≤ k →
-          Turns (add-all (ncsb (array-moves m shape)) i c (successors (array-moves m shape) x c)) w₀ s₀ p₀ w s p
+          Turns (add-all (ncsb (array-moves m shape)) i c (successors (array-moves m shape) x c)) l₀ p₀ l p
       letter-end l g =
           let e : k ≡ choices = omega arith in
           turns-same each-choice
@@ -136,42 +135,42 @@ module _
           (λ b. ap (λ (n : ℕ). by-choice (array-moves m shape) (nth-successor x asked) i c n b) e))
 
 -- ALL LETTERS: so many of a state's letters are done
-pub record Spelling (d : Moves) (i : ℕ) (x : Quadruple) (w₀ s₀ : List ℕ) (p₀ : Progress) (w s : List ℕ) (p : Progress) (count : ℕ) : Type 0 where
-  pub reaching : Reaching (λ k. by-letters (ncsb d) k i x) w₀ s₀ p₀ w s p count
+pub record Spelling (d : Moves) (i : ℕ) (x : Quadruple) (l₀ : Lent) (p₀ : Progress) (l : Lent) (p : Progress) (count : ℕ) : Type 0 where
+  pub reaching : Reaching (λ k. by-letters (ncsb d) k i x) l₀ p₀ l p count
 
-module _ {d : Moves} {i : ℕ} {x : Quadruple} {w₀ s₀ : List ℕ} {p₀ : Progress} where
-  pub spell-start : Spelling d i x w₀ s₀ p₀ w₀ s₀ p₀ 0
+module _ {d : Moves} {i : ℕ} {x : Quadruple} {l₀ : Lent} {p₀ : Progress} where
+  pub spell-start : Spelling d i x l₀ p₀ l₀ p₀ 0
   unfolding by-letters
   spell-start = record { reaching = reach-start (λ b. refl) }
 
-  module _ {w s : List ℕ} {p : Progress} {k : ℕ} (h : Spelling d i x w₀ s₀ p₀ w s p k) where
-    pub spell-asks : {letters : ℕ} → k < letters → Expand-asks w₀ s₀ p₀ i letters → Step-asks w s p i k
+  module _ {l : Lent} {p : Progress} {k : ℕ} (h : Spelling d i x l₀ p₀ l p k) where
+    pub spell-asks : {letters : ℕ} → k < letters → Expand-asks l₀ p₀ i letters → Step-asks l p i k
     unfolding by-letters
-    spell-asks l asked =
+    spell-asks more asked =
         let most = asked .letters-inside in
-        let first : Step-asks w₀ s₀ p₀ i k =
+        let first : Step-asks l₀ p₀ i k =
         record { built = asked .built; shows = asked .shows; inside = asked .inside; letter-inside = omega arith } in
         reach-asks (h .reaching) k (λ b. grows-letters (ncsb d) 0 k i x b (omega arith)) (omega arith) first
 
-    module _ {w′ s′ : List ℕ} {p′ : Progress} (turn : Turns (add-all (ncsb d) i k (successors d x k)) w s p w′ s′ p′) where
-      pub spell-turn : length w′ ≡ length w → length s′ ≡ length s → p′ .full ≡ false → Spelling d i x w₀ s₀ p₀ w′ s′ p′ (k + 1)
+    module _ {l′ : Lent} {p′ : Progress} (turn : Turns (add-all (ncsb d) i k (successors d x k)) l p l′ p′) where
+      pub spell-turn : Same-sizes l′ l → p′ .full ≡ false → Spelling d i x l₀ p₀ l′ p′ (k + 1)
       unfolding by-letters ncsb
-      spell-turn e e′ left = record { reaching = reach-turn (h .reaching) (λ b. refl) turn e e′ left }
+      spell-turn same left = record { reaching = reach-turn (h .reaching) (λ b. refl) turn same left }
 
       pub spell-full :
-          (letters : ℕ) → k < letters → p′ .full ≡ true → Turns (by-letters (ncsb d) letters i x) w₀ s₀ p₀ w′ s′ p′
+          (letters : ℕ) → k < letters → p′ .full ≡ true → Turns (by-letters (ncsb d) letters i x) l₀ p₀ l′ p′
       unfolding by-letters ncsb
-      spell-full letters l full =
-          reach-full (h .reaching) (λ b. refl) turn letters (λ b. grows-letters (ncsb d) (suc k) letters i x b l) full
+      spell-full letters more full =
+          reach-full (h .reaching) (λ b. refl) turn letters (λ b. grows-letters (ncsb d) (suc k) letters i x b more) full
 
-    pub spell-end : (letters : ℕ) → k ≤ letters → letters ≤ k → Turns (by-letters (ncsb d) letters i x) w₀ s₀ p₀ w s p
-    spell-end letters l g =
+    pub spell-end : (letters : ℕ) → k ≤ letters → letters ≤ k → Turns (by-letters (ncsb d) letters i x) l₀ p₀ l p
+    spell-end letters few most =
         let e : k ≡ letters = omega arith in
         reach-end (h .reaching) letters (λ b. ap (λ (n : ℕ). by-letters (ncsb d) n i x b) e)
 
-pub expand-load : {w s : List ℕ} {p : Progress} {i letters : ℕ} → Expand-asks w s p i letters → 4 * i + 4 ≤ length s
-expand-load {w} {s} {p} {i} asked =
-    let l = asked .inside in
+pub expand-load : {l : Lent} {p : Progress} {i letters : ℕ} → Expand-asks l p i letters → 4 * i + 4 ≤ length (l .sets)
+expand-load {l} {p} {i} asked =
+    let inside = asked .inside in
     let fits = asked .shows .states .fits in
     let e = asked .shows .states .counted in
-    let h = capacity-words s (suc i) (omega arith) in omega arith
+    let h = capacity-words (l .sets) (suc i) (omega arith) in omega arith

@@ -12,6 +12,7 @@ use Rattle.tables.specs.Table.{wide-range}
 use Rattle.ncsb.specs.Moves.{Moves}
 use Rattle.ncsb.specs.Successors.{ncsb}
 use Rattle.ncsb.specs.declared.Quadruple.{Quadruple}
+use Rattle.complement.specs.Build.{lent}
 use Rattle.complement.specs.Complement.{quadruple-words, record-width}
 use Rattle.complement.specs.Records.{with-quadruple, capacity, Looked-up}
 use Rattle.complement.specs.Found.{States-kept, with-edge, one-more, Shows, Ends, within, beyond, overfull, Turns, Placed, known, fresh, left-out}
@@ -41,10 +42,10 @@ module _ (d : Moves) (i c : ℕ) (x : Quadruple) where
       {xs : List Quadruple} {s : List ℕ} {n r : ℕ} → States-kept xs s n → Looked-up s n x r → number-of (ncsb d) x xs ≡ r
   looked-number h l = sym (l .number d ∙ ap (λ (ys : List Quadruple). number-of (ncsb d) x ys) (kept-records h))
 
-  module _ {b : Built Quadruple} {w s : List ℕ} {p : Progress} (h : Shows b w s p) where
+  module _ {b : Built Quadruple} {w s : List ℕ} {p : Progress} (h : Shows b (lent w s) p) where
     keep-known :
         {r : ℕ} → Looked-up s (p .states) x r → r < p .states →
-        Shows (add-edge (ncsb d) i c x b) (with-edge w (p .edges) (an-edge i c r)) s
+        Shows (add-edge (ncsb d) i c x b) (lent (with-edge w (p .edges) (an-edge i c r)) s)
         (record { states = p .states; edges = one-more (p .edges); full = false })
     unfolding built
     keep-known {r} look l =
@@ -65,7 +66,8 @@ module _ (d : Moves) (i c : ℕ) (x : Quadruple) where
 
     keep-new :
         Looked-up s (p .states) x (p .states) → p .states < capacity s →
-        Shows (add-edge (ncsb d) i c x b) (with-edge w (p .edges) (an-edge i c (p .states))) (with-quadruple s (p .states) x)
+        Shows (add-edge (ncsb d) i c x b)
+        (lent (with-edge w (p .edges) (an-edge i c (p .states))) (with-quadruple s (p .states) x))
         (record { states = p .states + 1; edges = one-more (p .edges); full = false })
     unfolding built
     keep-new look l =
@@ -85,12 +87,12 @@ module _ (d : Moves) (i c : ℕ) (x : Quadruple) where
     -- there is no room for it
     pub meet-full :
         Placed s (p .states) x s′ r → (room : ℕ) → room ≡ capacity s′ → room ≤ r →
-        Turns (add-edge (ncsb d) i c x) w s p w s′ overfull
+        Turns (add-edge (ncsb d) i c x) (lent w s) p (lent w s′) overfull
     meet-full placed room e past = record { from = λ b h. go b h placed }
       where
         go :
-            (b : Built Quadruple) → Shows b w s p → Placed s (p .states) x s′ r →
-            Ends (add-edge (ncsb d) i c x b) w s′ overfull
+            (b : Built Quadruple) → Shows b (lent w s) p → Placed s (p .states) x s′ r →
+            Ends (add-edge (ncsb d) i c x b) (lent w s′) overfull
         go b h (known l look same) =
             let fits = h .states .fits in
             let count = h .states .counted in
@@ -103,7 +105,7 @@ module _ (d : Moves) (i c : ℕ) (x : Quadruple) where
     pub meet-known :
         {w′ : List ℕ} {m : ℕ} → Placed s (p .states) x s′ r → r < p .states → w′ ≡ with-edge w (p .edges) (an-edge i c r) →
         m ≡ one-more (p .edges) →
-        Turns (add-edge (ncsb d) i c x) w s p w′ s′ (record { states = p .states; edges = m; full = false })
+        Turns (add-edge (ncsb d) i c x) (lent w s) p (lent w′ s′) (record { states = p .states; edges = m; full = false })
     meet-known (known l look same) inside e f = record { from = λ b h. rw (same, e, f) (within (keep-known h look l)) }
     meet-known (fresh q look l same) inside e f = absurd (omega arith)
     meet-known (left-out q look l same) inside e f = absurd (omega arith)
@@ -112,7 +114,7 @@ module _ (d : Moves) (i c : ℕ) (x : Quadruple) where
     pub meet-new :
         {w′ : List ℕ} {m : ℕ} → Placed s (p .states) x s′ r → (room : ℕ) → room ≡ capacity s′ → r < room → p .states ≤ r →
         w′ ≡ with-edge w (p .edges) (an-edge i c r) → m ≡ one-more (p .edges) →
-        Turns (add-edge (ncsb d) i c x) w s p w′ s′ (record { states = p .states + 1; edges = m; full = false })
+        Turns (add-edge (ncsb d) i c x) (lent w s) p (lent w′ s′) (record { states = p .states + 1; edges = m; full = false })
     meet-new (known l look same) room e inside new f g = absurd (omega arith)
     meet-new (fresh q look l same) room e inside new f g = record { from = λ b h. rw (same, f, g, q) (within (keep-new h look l)) }
     meet-new (left-out q look l same) room e inside new f g =

@@ -26,6 +26,7 @@ use Rattle.patterns.specs.Shape.{shape-of}
 use Rattle.patterns.specs.declared.Shape.{Shape}
 use Rattle.patterns.proofs.Masks.{pattern-fits, mask-move}
 use Rattle.patterns.proofs.Passed.{checked-table, checked-split}
+use Rattle.complement.specs.Build.{Lent}
 use Rattle.complement.specs.Complement.{system-of, complement}
 use Rattle.complement.specs.Records.{quadruple-at}
 use Rattle.complement.specs.Found.{Begins, Shows, Ends, within, Turns, Expand-asks, array-moves, start-moves, Started}
@@ -37,16 +38,16 @@ use Rattle.complement.proofs.Second.{system-decides}
 use Rattle.complement.proofs.Starting.{started-ends}
 
 -- so many states are expanded
-pub record Exploring (t w s : List ℕ) (p : Progress) (i : ℕ) : Type 0 where
+pub record Exploring (t : List ℕ) (l : Lent) (p : Progress) (i : ℕ) : Type 0 where
   pub built : Built Quadruple
-  pub shows : Shows built w s p
+  pub shows : Shows built l p
   pub at : At-state (system-of t) (16 ^ n-of t) i built
 
-pub explore-limit : {t w s : List ℕ} {p : Progress} {i : ℕ} → Exploring t w s p i → p .states ≤ 65535
-explore-limit {s} h =
+pub explore-limit : {t : List ℕ} {l : Lent} {p : Progress} {i : ℕ} → Exploring t l p i → p .states ≤ 65535
+explore-limit {l} h =
     let e = h .shows .states .counted in
-    let l = h .shows .states .fits in
-    let m = capacity-limit s in omega arith
+    let few = h .shows .states .fits in
+    let m = capacity-limit (l .sets) in omega arith
 
 module _ (t : List ℕ) (passed : check-refusal t ≡ 0) where
   -- AT MOST 16^n quadruples are reached
@@ -103,30 +104,30 @@ module _ (t : List ℕ) (passed : check-refusal t ≡ 0) where
         ap (λ (xs : List Quadruple). built xs []) starts-same ∙ sym (begin-is (system-of t) (system-decides t) starts-apart)
 
     pub begin-full :
-        {w s : List ℕ} {p : Progress} → Begins [] w → Started shape s p → p .full ≡ true → Ends (complement t) w s p
+        {l : Lent} {p : Progress} → Begins [] (l .words) → Started shape (l .sets) p → p .full ≡ true → Ends (complement t) l p
     unfolding complement explore
-    begin-full {w} {s} {p} clear h full =
-        let ends : Ends (begin (system-of t)) w s p = rw begins-with at (started-ends clear h) in
+    begin-full {l} {p} clear h full =
+        let ends : Ends (begin (system-of t)) l p = rw begins-with at (started-ends clear h) in
         ends-grown full (grows-explore (system-of t) (16 ^ n-of t) 0 (begin (system-of t))) ends
 
-    pub begin-within : {w s : List ℕ} {p : Progress} → Begins [] w → Started shape s p → p .full ≡ false → Exploring t w s p 0
+    pub begin-within : {l : Lent} {p : Progress} → Begins [] (l .words) → Started shape (l .sets) p → p .full ≡ false → Exploring t l p 0
     unfolding system-of
-    begin-within {w} {s} {p} clear h left =
-        let ends : Ends (begin (system-of t)) w s p = rw begins-with at (started-ends clear h) in
+    begin-within {l} {p} clear h left =
+        let ends : Ends (begin (system-of t)) l p = rw begins-with at (started-ends clear h) in
         record {
           built = begin (system-of t);
           shows = ends-within left ends;
           at = state-begin (system-of t) (system-decides t) (16 ^ n-of t) most-reached starts-apart;
         }
 
-    module _ {w s : List ℕ} {p : Progress} {i : ℕ} (h : Exploring t w s p i) (inside : i < p .states) where
-      pub expand-asks : Expand-asks w s p i (shape .letters)
+    module _ {l : Lent} {p : Progress} {i : ℕ} (h : Exploring t l p i) (inside : i < p .states) where
+      pub expand-asks : Expand-asks l p i (shape .letters)
       expand-asks = record { built = h .built; shows = h .shows; inside = inside; letters-inside = letters-few }
 
       listed : i < length (h .built .states)
-      listed = let e = h .shows .states .counted in let l = inside in omega arith
+      listed = let e = h .shows .states .counted in let m = inside in omega arith
 
-      at-state : quadruple-at s i ≡ state-at (system-of t) (h .built .states) i
+      at-state : quadruple-at (l .sets) i ≡ state-at (system-of t) (h .built .states) i
       unfolding state-at system-of ncsb
       at-state = kept-at (h .shows .states) i inside
 
@@ -148,34 +149,34 @@ module _ (t : List ℕ) (passed : check-refusal t ≡ 0) where
       nexts c = successors-same (checked-split t passed .0) widens (state-at (system-of t) (h .built .states) i) small c
 
       -- a state's edges by the code are its edges in the complement
-      expands : by-letters (ncsb (array-moves masks shape)) (shape .letters) i (quadruple-at s i) (h .built) ≡ expand (system-of t) i (h .built)
+      expands : by-letters (ncsb (array-moves masks shape)) (shape .letters) i (quadruple-at (l .sets) i) (h .built) ≡ expand (system-of t) i (h .built)
       unfolding expand array-moves
       expands =
           rw (at-state, letters-all)
           (letters-agree (ncsb (array-moves masks shape)) (system-of t) same-test (system-of t .letters) i
-          (state-at (system-of t) (h .built .states) i) (λ c l. nexts c) (h .built))
+          (state-at (system-of t) (h .built .states) i) (λ c m. nexts c) (h .built))
 
       next : At-state (system-of t) (16 ^ n-of t) (suc i) (expand (system-of t) i (h .built))
       unfolding system-of
       next = state-step (system-of t) (system-decides t) (16 ^ n-of t) most-reached listed (h .at)
 
       module _
-          {w′ s′ : List ℕ} {p′ : Progress}
-          (turn : Turns (by-letters (ncsb (array-moves masks shape)) (shape .letters) i (quadruple-at s i)) w s p w′ s′ p′) where
-        pub expand-full : p′ .full ≡ true → Ends (complement t) w′ s′ p′
+          {l′ : Lent} {p′ : Progress}
+          (turn : Turns (by-letters (ncsb (array-moves masks shape)) (shape .letters) i (quadruple-at (l .sets) i)) l p l′ p′) where
+        pub expand-full : p′ .full ≡ true → Ends (complement t) l′ p′
         unfolding complement
         expand-full full =
-            let ends : Ends (expand (system-of t) i (h .built)) w′ s′ p′ = rw expands at (turn .from (h .built) (h .shows)) in
+            let ends : Ends (expand (system-of t) i (h .built)) l′ p′ = rw expands at (turn .from (h .built) (h .shows)) in
             ends-grown full (state-grows (system-of t) (system-decides t) (16 ^ n-of t) most-reached next) ends
 
-        pub expand-turn : p′ .full ≡ false → Exploring t w′ s′ p′ (i + 1)
+        pub expand-turn : p′ .full ≡ false → Exploring t l′ p′ (i + 1)
         expand-turn left =
-            let ends : Ends (expand (system-of t) i (h .built)) w′ s′ p′ = rw expands at (turn .from (h .built) (h .shows)) in
+            let ends : Ends (expand (system-of t) i (h .built)) l′ p′ = rw expands at (turn .from (h .built) (h .shows)) in
             rw add-one (record { built = expand (system-of t) i (h .built); shows = ends-within left ends; at = next })
 
-  pub explore-end : {w s : List ℕ} {p : Progress} {i : ℕ} → Exploring t w s p i → p .states ≤ i → Ends (complement t) w s p
+  pub explore-end : {l : Lent} {p : Progress} {i : ℕ} → Exploring t l p i → p .states ≤ i → Ends (complement t) l p
   unfolding system-of complement
-  explore-end h l =
+  explore-end h all-done =
       let e = h .shows .states .counted in
       let all : h .built ≡ explore (16 ^ n-of t) (system-of t) =
       state-end (system-of t) (system-decides t) (16 ^ n-of t) most-reached (omega arith) (h .at) in

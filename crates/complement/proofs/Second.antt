@@ -33,7 +33,7 @@ use Rattle.layout.proofs.Meaning.{chained-meaning}
 use Rattle.layout.proofs.Rising.{numbered-orderly, numbered-lists}
 use Rattle.layout.proofs.Valid.{chained-valid}
 use Rattle.layout.proofs.Words.{chained-length}
-use Rattle.complement.specs.Build.{Room, room-of, words-needed, room-refusal, build-refusal, as-counts, after-build, Build-says, used, used-sets}
+use Rattle.complement.specs.Build.{Lent, Room, room-of, words-needed, room-refusal, build-refusal, as-counts, after-build, Build-says, used, used-sets}
 use Rattle.complement.specs.Complement.{system-of, complement, complement-automaton, complement-words, sets-words, quadruple-words, record-width}
 use Rattle.complement.specs.declared.Counts.{Counts}
 
@@ -129,19 +129,19 @@ unfolding sets-words record-width quadruple-words
 sets-length t =
     rows-length 4 (length (complement t .states)) (λ i. quadruple-words (state-at (system-of t) (complement t .states) i)) (λ i l. refl)
 
-module _ {t : List ℕ} {r : Counts} {o o-now s s-now : List ℕ} (says : Build-says t r o o-now s s-now) (accepted : r .number ≡ 0) where
+module _ {t : List ℕ} {r : Counts} {before after : Lent} (says : Build-says t r before after) (accepted : r .number ≡ 0) where
   build-counts :
-      (build-refusal t (room-of o s) ≡ 0) × (r .states ≡ length (complement t .states))
+      (build-refusal t (room-of before) ≡ 0) × (r .states ≡ length (complement t .states))
       × (r .edges ≡ length (complement t .edges))
   build-counts =
       let a = says .answer in
       let (z, n, m) =
-      counts-accepted (build-refusal t (room-of o s)) (length (complement t .states)) (length (complement t .edges))
+      counts-accepted (build-refusal t (room-of before)) (length (complement t .states)) (length (complement t .edges))
       (sym (ap (λ (c : Counts). c .number) a) ∙ accepted) in
       (z, ap (λ (c : Counts). c .states) a ∙ n, ap (λ (c : Counts). c .edges) a ∙ m)
 
   -- none of 2 to 12 is met
-  pub build-accepted : build-refusal t (room-of o s) ≡ 0
+  pub build-accepted : build-refusal t (room-of before) ≡ 0
   build-accepted = build-counts .0
 
   pub build-states : r .states ≡ length (complement t .states)
@@ -152,11 +152,11 @@ module _ {t : List ℕ} {r : Counts} {o o-now s s-now : List ℕ} (says : Build-
 
   build-parts :
       (check-refusal t ≡ 0)
-      × (room-refusal wide-range (room-of o s) (length (complement t .states)) (length (complement t .edges)) ≡ 0)
+      × (room-refusal wide-range (room-of before) (length (complement t .states)) (length (complement t .edges)) ≡ 0)
   unfolding build-refusal
   build-parts =
       or-else-none (check-refusal t)
-      (room-refusal wide-range (room-of o s) (length (complement t .states)) (length (complement t .edges))) build-accepted
+      (room-refusal wide-range (room-of before) (length (complement t .states)) (length (complement t .edges))) build-accepted
 
   -- so the pattern passes the check, and its complement fits a wide table
   pub build-passed : check-refusal t ≡ 0
@@ -165,20 +165,20 @@ module _ {t : List ℕ} {r : Counts} {o o-now s s-now : List ℕ} (says : Build-
   pub build-fits : Fits t
   build-fits =
       let (few, states, edges, words) =
-      room-enough (room-of o s) (length (complement t .states)) (length (complement t .edges)) (build-parts .1) in
+      room-enough (room-of before) (length (complement t .states)) (length (complement t .edges)) (build-parts .1) in
       record { states = states; edges = edges }
 
   -- the used part of the words is the complement's table
-  pub build-used : used r o-now ≡ complement-words t
+  pub build-used : used r (after .words) ≡ complement-words t
   unfolding used after-build
   build-used =
       rw (says .words, build-accepted)
-      (filled-take (complement-words t) o (words-needed (r .states) (r .edges))
+      (filled-take (complement-words t) (before .words) (words-needed (r .states) (r .edges))
       (let n = build-states in let m = build-edges in let l = words-length t in cc))
 
   -- and that of the sets its quadruples
-  pub build-sets : used-sets r s-now ≡ sets-words t
+  pub build-sets : used-sets r (after .sets) ≡ sets-words t
   unfolding used-sets after-build
   build-sets =
       rw (says .sets, build-accepted)
-      (filled-take (sets-words t) s (record-width * r .states) (sets-length t ∙ sym (ap (λ (n : ℕ). record-width * n) build-states)))
+      (filled-take (sets-words t) (before .sets) (record-width * r .states) (sets-length t ∙ sym (ap (λ (n : ℕ). record-width * n) build-states)))

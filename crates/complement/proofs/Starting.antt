@@ -16,6 +16,7 @@ use Rattle.ncsb.specs.Successors.{quadruple, initial-free, initials}
 use Rattle.ncsb.specs.declared.Quadruple.{Quadruple}
 use Rattle.ncsb.proofs.Choices.{choices-fit, initials-count, choice-initial}
 use Rattle.patterns.specs.declared.Shape.{Shape}
+use Rattle.complement.specs.Build.{Lent}
 use Rattle.complement.specs.Records.{with-quadruple, capacity}
 use Rattle.complement.specs.Found.{Begins, records, States-kept, triples, edge-room, Ends, within, beyond, overfull, start-moves, Started, started, too-many}
 use Rattle.complement.specs.declared.explore.Progress.{Progress}
@@ -109,8 +110,9 @@ no-edges {w} h = rw (take-nil (edge-room w)) (record { at = λ i. h .at i ∙ sy
 
 -- what is kept of the initial states is kept of the beginning
 pub started-ends :
-    {shape : Shape} {w s : List ℕ} {p : Progress} → Begins [] w → Started shape s p → Ends (built (initials (start-moves shape)) []) w s p
+    {shape : Shape} {l : Lent} {p : Progress} → Begins [] (l .words) → Started shape (l .sets) p →
+    Ends (built (initials (start-moves shape)) []) l p
 unfolding built
 started-ends h (started left none kept) =
     within (record { not-full = left; states = kept; edges = record { counted = omega arith; begins = no-edges h } })
-started-ends h (too-many full l) = beyond full l
+started-ends h (too-many full m) = beyond full m

@@ -11,13 +11,21 @@ use Rattle.patterns.specs.Check.{check-refusal}
 use Rattle.complement.specs.Complement.{complement, complement-words, sets-words, record-width}
 use Rattle.complement.specs.declared.Counts.{Counts}
 
+-- THE LENT BUFFERS of a build: the words of the table, and the words of the sets
+pub record Lent : Type 0 where
+  pub words : List ℕ
+  pub sets : List ℕ
+
+abbrev pub lent : (words sets : List ℕ) → Lent
+lent o s = record { words = o; sets = s }
+
 -- THE ROOM: the lent table words, and the full records among the lent sets words
 pub record Room : Type 0 where
   pub words : ℕ
   pub records : ℕ
 
-unfoldable pub room-of : (words sets : List ℕ) → Room
-room-of o s = record { words = length o; records = length s / record-width }
+unfoldable pub room-of : Lent → Room
+room-of l = record { words = length (l .words); records = length (l .sets) / record-width }
 
 unfoldable pub words-needed : (states edges : ℕ) → ℕ
 words-needed n m = 3 + 2 * n + 3 * m
@@ -43,18 +51,18 @@ unfoldable pub after-build : (number : ℕ) → (new before : List ℕ) → List
 after-build zero x o = filled x o
 after-build (suc r) x o = zeros o
 
--- what the build answers and leaves: r of the words o and the sets s, which become o-now and s-now
-pub record Build-says (t : List ℕ) (r : Counts) (o o-now s s-now : List ℕ) : Type 0 where
+-- what the build answers, and what it leaves of the lent buffers
+pub record Build-says (t : List ℕ) (r : Counts) (before after : Lent) : Type 0 where
   pub answer :
-      r ≡ as-counts (build-refusal t (room-of o s)) (length (complement t .states)) (length (complement t .edges))
-  pub words : o-now ≡ after-build (build-refusal t (room-of o s)) (complement-words t) o
-  pub sets : s-now ≡ after-build (build-refusal t (room-of o s)) (sets-words t) s
+      r ≡ as-counts (build-refusal t (room-of before)) (length (complement t .states)) (length (complement t .edges))
+  pub words : after .words ≡ after-build (build-refusal t (room-of before)) (complement-words t) (before .words)
+  pub sets : after .sets ≡ after-build (build-refusal t (room-of before)) (sets-words t) (before .sets)
 
--- a refusal: its number and nothing else, and both buffers are zero
-pub record Refused-with (number : ℕ) (r : Counts) (o o-now s s-now : List ℕ) : Type 0 where
+-- a refusal: its number and nothing else, and every buffer is zero
+pub record Refused-with (number : ℕ) (r : Counts) (before after : Lent) : Type 0 where
   pub answer : r ≡ record { number = number; states = 0; edges = 0 }
-  pub words : o-now ≡ zeros o
-  pub sets : s-now ≡ zeros s
+  pub words : after .words ≡ zeros (before .words)
+  pub sets : after .sets ≡ zeros (before .sets)
 
 -- THE COMPLEMENT: the used part of the table words, by the counts answered
 unfoldable pub used : Counts → List ℕ → List ℕ

@@ -6,6 +6,7 @@ use Prim.Native.Nat.{ℕ, zero, suc, _+_, _*_, _≤_}
 use lib.Dec.{ltb}
 use lib.ListN.{length, set}
 use Rattle.ncsb.specs.Successors.{accepting}
+use Rattle.complement.specs.Build.{Lent}
 use Rattle.complement.specs.Records.{quadruple-at}
 
 -- 1 initial, 2 accepting, 3 both; so many states are initial, and come first
@@ -17,7 +18,7 @@ unfoldable pub with-flags : (sets-words : List ℕ) → (initial states : ℕ) �
 with-flags s k zero w = w
 with-flags s k (suc i) w = set (with-flags s k i w) (3 + 2 * i) (flags-of-record s k i)
 
--- both buffers have room for so many states
-pub record Flags-ask (words sets-words : List ℕ) (states : ℕ) : Type 0 where
-  pub words-room : 3 + 2 * states ≤ length words
-  pub sets-room : 4 * states ≤ length sets-words
+-- the buffers have room for so many states
+pub record Flags-ask (l : Lent) (states : ℕ) : Type 0 where
+  pub words-room : 3 + 2 * states ≤ length (l .words)
+  pub sets-room : 4 * states ≤ length (l .sets)

@@ -17,6 +17,7 @@ use Rattle.patterns.specs.Masks.{masks-of}
 use Rattle.patterns.specs.Pattern.{moves}
 use Rattle.patterns.specs.Shape.{shape-of}
 use Rattle.patterns.specs.declared.Shape.{Shape}
+use Rattle.complement.specs.Build.{Lent}
 use Rattle.complement.specs.Complement.{quadruple-words, complement}
 use Rattle.complement.specs.Records.{capacity, with-quadruple, Looked-up}
 use Rattle.complement.specs.declared.explore.Progress.{Progress}
@@ -61,11 +62,11 @@ with-edge w m e = cond (ltb m (edge-room w)) (sets w (3 + 3 * m) (triple e)) w
 unfoldable pub one-more : (count : ℕ) → ℕ
 one-more m = min (suc m) counted-to
 
--- BOTH, while the states fit
-pub record Shows (b : Built Quadruple) (words sets-words : List ℕ) (p : Progress) : Type 0 where
+-- BOTH in the lent buffers, while the states fit
+pub record Shows (b : Built Quadruple) (l : Lent) (p : Progress) : Type 0 where
   pub not-full : p .full ≡ false
-  pub states : States-kept (b .states) sets-words (p .states)
-  pub edges : Edges-kept (b .edges) words (p .edges)
+  pub states : States-kept (b .states) (l .sets) (p .states)
+  pub edges : Edges-kept (b .edges) (l .words) (p .edges)
 
 -- what is answered where the states do not fit
 unfoldable pub overfull : Progress
@@ -73,27 +74,25 @@ overfull = record { states = 0; edges = 0; full = true }
 
 -- what is left of something found: all of it is kept, or there are more states than fit. The buffers then hold what was found
 -- before that, which nobody reads: the build is refused, and clears them.
-pub data Ends (b : Built Quadruple) (words sets-words : List ℕ) (p : Progress) : Type 0 where
-  within : Shows b words sets-words p → Ends b words sets-words p
-  beyond : p ≡ overfull → capacity sets-words < length (b .states) → Ends b words sets-words p
+pub data Ends (b : Built Quadruple) (l : Lent) (p : Progress) : Type 0 where
+  within : Shows b l p → Ends b l p
+  beyond : p ≡ overfull → capacity (l .sets) < length (b .states) → Ends b l p
 
 -- WHAT A STEP OF EXPLORING DOES: where the buffers keep something found, they then keep what the step makes of it
-pub record Turns
-    (step : Built Quadruple → Built Quadruple) (words sets-words : List ℕ) (p : Progress) (words-now sets-now : List ℕ) (p-now : Progress)
-    : Type 0 where
-  pub from : (b : Built Quadruple) → Shows b words sets-words p → Ends (step b) words-now sets-now p-now
+pub record Turns (step : Built Quadruple → Built Quadruple) (before : Lent) (p : Progress) (after : Lent) (p-now : Progress) : Type 0 where
+  pub from : (b : Built Quadruple) → Shows b before p → Ends (step b) after p-now
 
 -- what a step asks: the buffers keep something found, and the source and the letter are a state and a letter of it
-pub record Step-asks (words sets-words : List ℕ) (p : Progress) (source letter : ℕ) : Type 0 where
+pub record Step-asks (l : Lent) (p : Progress) (source letter : ℕ) : Type 0 where
   pub built : Built Quadruple
-  pub shows : Shows built words sets-words p
+  pub shows : Shows built l p
   pub inside : source < p .states
   pub letter-inside : letter < 16
 
 -- the same of all letters of a state
-pub record Expand-asks (words sets-words : List ℕ) (p : Progress) (source letters : ℕ) : Type 0 where
+pub record Expand-asks (l : Lent) (p : Progress) (source letters : ℕ) : Type 0 where
   pub built : Built Quadruple
-  pub shows : Shows built words sets-words p
+  pub shows : Shows built l p
   pub inside : source < p .states
   pub letters-inside : letters ≤ 16
 
@@ -126,13 +125,13 @@ pub record Read-off (table : List ℕ) (masks : List (List ℕ)) (shape : Shape)
   pub masked : masks ≡ masks-of (moves (meaning table))
   pub shaped : shape ≡ shape-of (moves (meaning table))
 
--- what exploring asks: masks and shape are read off a pattern, and both buffers are zero
-pub record Explore-asks (masks : List (List ℕ)) (shape : Shape) (words sets-words : List ℕ) : Type 0 where
+-- what exploring asks: masks and shape are read off a pattern, and the buffers are zero
+pub record Explore-asks (masks : List (List ℕ)) (shape : Shape) (l : Lent) : Type 0 where
   pub table : List ℕ
   pub read-off : Read-off table masks shape
-  pub words-clear : Begins [] words
-  pub sets-clear : Begins [] sets-words
+  pub words-clear : Begins [] (l .words)
+  pub sets-clear : Begins [] (l .sets)
 
 -- what exploring says: it ends with the complement of whatever pattern they are read off
-pub record Explored-to (masks : List (List ℕ)) (shape : Shape) (words sets-words : List ℕ) (p : Progress) : Type 0 where
-  pub ends : (t : List ℕ) → Read-off t masks shape → Ends (complement t) words sets-words p
+pub record Explored-to (masks : List (List ℕ)) (shape : Shape) (l : Lent) (p : Progress) : Type 0 where
+  pub ends : (t : List ℕ) → Read-off t masks shape → Ends (complement t) l p

@@ -10,6 +10,7 @@ ghost use Rattle.sets.specs.Sets.{Narrow};
 ghost use Rattle.automata.specs.System.{an-edge, add-edge, add-all, by-letters};
 ghost use Rattle.ncsb.specs.Moves.{Moves};
 ghost use Rattle.ncsb.specs.Successors.{ncsb, successors, initials};
+ghost use Rattle.complement.specs.Build.{lent};
 ghost use Rattle.complement.specs.Records.{capacity, quadruple-at};
 ghost use Rattle.complement.specs.Found.{with-edge, one-more, Placed, Turns, Step-asks, Expand-asks, array-moves, Begins, start-moves, Started, Explore-asks, Explored-to};
 
@@ -62,9 +63,9 @@ fn meet(
     letter: usize,
     x: Quadruple,
 ) -> Progress
-    requires { ⌜ Step-asks (now words) (now sets) found source letter ⌝ }
+    requires { ⌜ Step-asks (lent (now words) (now sets)) found source letter ⌝ }
     ensures { λ r. ⌜ ((d : Moves) → Turns (add-edge (ncsb d) source letter x)
-        (now (words .entry)) (now (sets .entry)) found (now (words .exit)) (now (sets .exit)) r) ⌝ }
+        (lent (now (words .entry)) (now (sets .entry))) found (lent (now (words .exit)) (now (sets .exit))) r) ⌝ }
 {
     let states = found.states;
     let target = place(sets, states, x);
@@ -107,9 +108,9 @@ fn add_successors(
     x: Quadruple,
     letter: usize,
 ) -> Progress
-    requires { ⌜ Narrow (now masks) × Step-asks (now words) (now sets) found source letter ⌝ }
+    requires { ⌜ Narrow (now masks) × Step-asks (lent (now words) (now sets)) found source letter ⌝ }
     ensures { λ r. ⌜ Turns (add-all (ncsb (array-moves (now (masks .entry)) shape)) source letter (successors (array-moves (now (masks .entry)) shape) x letter))
-        (now (words .entry)) (now (sets .entry)) found (now (words .exit)) (now (sets .exit)) r ⌝ }
+        (lent (now (words .entry)) (now (sets .entry))) found (lent (now (words .exit)) (now (sets .exit))) r ⌝ }
 {
     let asked = x.on_letter(masks, shape.marks, shape.inner, letter);
     if x.blocked(shape.marks, asked) {
@@ -145,9 +146,9 @@ fn step(
     found: Progress,
     source: usize,
 ) -> Progress
-    requires { ⌜ Expand-asks (now words) (now sets) found source (shape .letters) ⌝ }
+    requires { ⌜ Expand-asks (lent (now words) (now sets)) found source (shape .letters) ⌝ }
     ensures { λ r. ⌜ Turns (by-letters (ncsb (array-moves masks shape)) (shape .letters) source (quadruple-at (now (sets .entry)) source))
-        (now (words .entry)) (now (sets .entry)) found (now (words .exit)) (now (sets .exit)) r ⌝ }
+        (lent (now (words .entry)) (now (sets .entry))) found (lent (now (words .exit)) (now (sets .exit))) r ⌝ }
 {
     let x = records::load(sets, source);
     let letters = shape.letters;
@@ -203,8 +204,8 @@ pub(crate) fn explore(
     words: &mut [u16],
     sets: &mut [u32],
 ) -> Progress
-    requires { ⌜ Explore-asks masks shape (now words) (now sets) ⌝ }
-    ensures { λ r. ⌜ Explored-to masks shape (now (words .exit)) (now (sets .exit)) r ⌝ }
+    requires { ⌜ Explore-asks masks shape (lent (now words) (now sets)) ⌝ }
+    ensures { λ r. ⌜ Explored-to masks shape (lent (now (words .exit)) (now (sets .exit))) r ⌝ }
 {
     let mut found = store_initials(shape, sets);
     if found.full {

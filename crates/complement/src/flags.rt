@@ -3,6 +3,7 @@ use crate::records;
 ghost use mathlib.Core.Path.{_≡_};
 ghost use Prim.Native.Nat.{_+_, _*_, _≤_};
 ghost use lib.ListN.{length};
+ghost use Rattle.complement.specs.Build.{lent};
 ghost use Rattle.complement.specs.Flags.{flags-of-record, with-flags, Flags-ask};
 
 // The flags of one state, given how many are initial.
@@ -25,7 +26,7 @@ fn state_flags(sets: &[u32], initial: usize, state: usize) -> u16
 
 // Sets the flags of so many states.
 pub(crate) fn set_flags(words: &mut [u16], sets: &[u32], initial: usize, states: usize)
-    requires { ⌜ Flags-ask (now words) (now sets) states ⌝ }
+    requires { ⌜ Flags-ask (lent (now words) (now sets)) states ⌝ }
     ensures { λ _. ⌜ now (words .exit) ≡ with-flags (now (sets .entry)) initial states (now (words .entry)) ⌝ }
 {
     let mut state = 0;

@@ -7,7 +7,7 @@ ghost use Prim.Native.Nat.{_≤_};
 ghost use mathlib.Core.Path.{_≡_};
 ghost use mathlib.Core.Bool.{_||_};
 ghost use lib.Dec.{ltb};
-ghost use Rattle.complement.specs.Build.{words-needed, Build-says, Refused-with};
+ghost use Rattle.complement.specs.Build.{lent, words-needed, Build-says, Refused-with};
 
 mod buffers;
 mod explore;
@@ -24,7 +24,7 @@ pub struct Counts {
 
 // A refusal: its number, both counts zero, and both buffers clear.
 fn refuse(number: u32, words: &mut [u16], sets: &mut [u32]) -> Counts
-    ensures { λ r. ⌜ Refused-with number r (now (words .entry)) (now (words .exit)) (now (sets .entry)) (now (sets .exit)) ⌝ }
+    ensures { λ r. ⌜ Refused-with number r (lent (now (words .entry)) (now (sets .entry))) (lent (now (words .exit)) (now (sets .exit))) ⌝ }
 {
     buffers::clear_words(words);
     buffers::clear_sets(sets);
@@ -48,7 +48,7 @@ fn too_long(words: usize, states: usize, edges: usize) -> bool
 
 // Builds the reachable complement of a pattern: its table in the words, its quadruples in the sets.
 pub fn build_complement(table: &[u16], words: &mut [u16], sets: &mut [u32]) -> Counts
-    ensures { λ r. ⌜ Build-says (now (table .entry)) r (now (words .entry)) (now (words .exit)) (now (sets .entry)) (now (sets .exit)) ⌝ }
+    ensures { λ r. ⌜ Build-says (now (table .entry)) r (lent (now (words .entry)) (now (sets .entry))) (lent (now (words .exit)) (now (sets .exit))) ⌝ }
 {
     let refusal = check_refusal(table);
     if refusal != 0 {

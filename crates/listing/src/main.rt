@@ -16,7 +16,7 @@ ghost use mathlib.Core.Path.{_≡_};
 ghost use Prim.Native.Nat.{_+_, _*_, _≤_, _<_};
 ghost use lib.ListN.{length};
 ghost use Rattle.tables.specs.Access.{State-asks, Record-asks};
-ghost use Rattle.complement.specs.Build.{room-of};
+ghost use Rattle.complement.specs.Build.{lent, room-of};
 ghost use Rattle.text.specs.Built.{States-ask, Sourced, To-print};
 ghost use Rattle.text.specs.Listing.{listing-room};
 ghost use Rattle.text.specs.Reading.{Ready};
@@ -133,7 +133,7 @@ fn print_edges(words: &[u16], states: usize, edges: usize) -> bool
 
 // The build, with the room that a listing has.
 fn build(table: &[u16], words: &mut [u16], sets: &mut [u32]) -> Counts
-    requires { ⌜ room-of (now words) (now sets) ≡ listing-room ⌝ }
+    requires { ⌜ room-of (lent (now words) (now sets)) ≡ listing-room ⌝ }
     ensures { λ r. ⌜ To-print (now (table .entry)) r (now (words .exit)) (now (sets .exit)) ⌝ }
 {
     build_complement(table, words, sets)

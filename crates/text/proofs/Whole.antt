@@ -24,7 +24,7 @@ use Rattle.layout.specs.Orderly.{Orderly}
 use Rattle.layout.proofs.Firsts.{First, first-is, absent, first-at, Next, next-is, ends, goes-on, rising}
 use Rattle.layout.proofs.Indexed.{Indexed, filled-indexed}
 use Rattle.layout.proofs.Words.{chained-length}
-use Rattle.complement.specs.Build.{room-of, build-refusal, as-counts, after-build, Build-says}
+use Rattle.complement.specs.Build.{lent, room-of, build-refusal, as-counts, after-build, Build-says}
 use Rattle.complement.specs.Complement.{system-of, complement, complement-automaton, complement-words, sets-words, quadruple-words, record-width}
 use Rattle.complement.specs.Records.{quadruple-at}
 use Rattle.complement.specs.declared.Counts.{Counts}
@@ -153,7 +153,7 @@ state-back t s i l =
     let first = rw add-zero at (set-word t s i 0 l (omega arith)) in
     rw (first, set-word t s i 1 l (omega arith), set-word t s i 2 l (omega arith), set-word t s i 3 l (omega arith))
 
-module _ {t : List ℕ} {r : Counts} {o o-now s s-now : List ℕ} (says : Build-says t r o o-now s s-now) (accepted : r .number ≡ 0) where
+module _ {t : List ℕ} {r : Counts} {o o-now s s-now : List ℕ} (says : Build-says t r (lent o s) (lent o-now s-now)) (accepted : r .number ≡ 0) where
   words-are : o-now ≡ filled (complement-words t) o
   unfolding after-build
   words-are = rw (build-accepted says accepted) at (says .words)
@@ -234,15 +234,15 @@ module _ {t : List ℕ} {r : Counts} {o o-now s s-now : List ℕ} (says : Build-
 
 -- WHAT IS PRINTED of the build's answer and of what it left is the answer to the table
 pub printed-right :
-    {t : List ℕ} {r : Counts} {o o-now s s-now : List ℕ} → Build-says t r o o-now s s-now →
-    printed r o-now s-now ≡ answered (build-refusal t (room-of o s)) t
+    {t : List ℕ} {r : Counts} {o o-now s s-now : List ℕ} → Build-says t r (lent o s) (lent o-now s-now) →
+    printed r o-now s-now ≡ answered (build-refusal t (room-of (lent o s))) t
 unfolding printed answered as-counts
-printed-right {t} {r} {o} {o-now} {s} {s-now} says = go (build-refusal t (room-of o s)) refl
+printed-right {t} {r} {o} {o-now} {s} {s-now} says = go (build-refusal t (room-of (lent o s))) refl
   where
-    number : (k : ℕ) → build-refusal t (room-of o s) ≡ k → r .number ≡ as-counts k (length (complement t .states)) (length (complement t .edges)) .number
+    number : (k : ℕ) → build-refusal t (room-of (lent o s)) ≡ k → r .number ≡ as-counts k (length (complement t .states)) (length (complement t .edges)) .number
     number k e = ap (λ (c : Counts). c .number) (rw e at (says .answer))
 
-    go : (k : ℕ) → build-refusal t (room-of o s) ≡ k → printed r o-now s-now ≡ answered k t
+    go : (k : ℕ) → build-refusal t (room-of (lent o s)) ≡ k → printed r o-now s-now ≡ answered k t
     go zero e = let z : r .number ≡ 0 = number 0 e in rw (eq-eqb z) (built-right says z)
     go (suc k) e =
         let z : r .number ≡ suc k = number (suc k) e in
@@ -278,14 +278,14 @@ listing-read input {w₀} {w} {r} b =
 -- printed of its answer is the listing of the input
 pub listing-right :
     (input : List ℕ) {w₀ w o o-now s s-now : List ℕ} {r : Reading} {c : Counts} →
-    Became (ended (scan (between []) input)) w₀ r w → r .failed ≡ false → Build-says (take (r .count) w) c o o-now s s-now →
-    room-of o s ≡ listing-room → printed c o-now s-now ≡ listing input
+    Became (ended (scan (between []) input)) w₀ r w → r .failed ≡ false → Build-says (take (r .count) w) c (lent o s) (lent o-now s-now) →
+    room-of (lent o s) ≡ listing-room → printed c o-now s-now ≡ listing input
 listing-right input {w = w} {r = r} b e says room =
     let p = rw room at (printed-right says) in let l = rw e at (listing-read input b) in p ∙ sym l
 
 -- so the build with the listing's room leaves what is to be printed
 pub to-print :
-    {t : List ℕ} {r : Counts} {o o-now s s-now : List ℕ} → Build-says t r o o-now s s-now → room-of o s ≡ listing-room →
+    {t : List ℕ} {r : Counts} {o o-now s s-now : List ℕ} → Build-says t r (lent o s) (lent o-now s-now) → room-of (lent o s) ≡ listing-room →
     length s-now ≡ length s → To-print t r o-now s-now
 to-print says room same =
     record {
@@ -295,6 +295,6 @@ to-print says room same =
     }
 
 -- the room of arrays
-pub room-for : (o s : List ℕ) → length o ≡ 16384 → length s ≡ 4096 → room-of o s ≡ listing-room
+pub room-for : (o s : List ℕ) → length o ≡ 16384 → length s ≡ 4096 → room-of (lent o s) ≡ listing-room
 unfolding room-of listing-room record-width
 room-for o s e f = rw (e, f)

@@ -28,7 +28,7 @@ use Rattle.tubochre.proofs.Answers.{says-taken, says-not, says-refused}
 -- THE SECOND DEMAND: an accepted build leaves exactly the reachable NCSB complement, every state, edge and mark and no other
 pub second-demand : Second-demand
 unfolding Second-demand system-of ncsb accepting
-second-demand t r o o-now s s-now says accepted =
+second-demand t r before after says accepted =
     let passed = build-passed says accepted in
     let used = build-used says accepted in
     let (sp, sl) = checked-split t passed in
@@ -101,6 +101,6 @@ module _ (t : List ℕ) (passed : check-refusal t ≡ 0) (fits : Fits t) (u v : 
 -- single accepting run; the decision says which; and the states are at most 2^p·3^a·4^r
 pub third-demand : Third-demand
 unfolding Third-demand
-third-demand t checked r o o-now s s-now u v answer passes says accepted lasso =
+third-demand t checked r before after u v answer passes says accepted lasso =
     compared-as t (build-passed says accepted) (build-fits says accepted) u v lasso (build-used says accepted)
     (build-states says accepted)

@@ -10,7 +10,7 @@ use Rattle.basics.proofs.Booleans.{either, eqb-eq, eqb-ne}
 use Rattle.basics.proofs.Clears.{zeros-length, zeros-same}
 use Rattle.patterns.specs.Check.{check-refusal, as-checked}
 use Rattle.patterns.specs.declared.Checked.the-variants.{Passed}
-use Rattle.complement.specs.Build.{Build-says}
+use Rattle.complement.specs.Build.{Lent, Build-says}
 use Rattle.complement.proofs.Second.{build-passed}
 use Rattle.lassos.specs.Decision.{Lasso-says}
 use Rattle.tubochre.specs.Calls.{Decided-built, Trial-says}
@@ -19,12 +19,13 @@ use Rattle.tubochre.specs.declared.Trial.{Trial}
 use Rattle.tubochre.proofs.Demand.{third-demand}
 
 module _
-    {t u v o o-now s s-now w between w-now : List ℕ}
+    {t u v w between w-now : List ℕ}
+    {before after : Lent}
     {r : Trial}
     (check : r .checked ≡ as-checked (check-refusal t))
-    (build : Build-says t (r .counts) o o-now s s-now)
+    (build : Build-says t (r .counts) before after)
     (pattern : Lasso-says t u v (r .pattern) w between)
-    (built : Decided-built (r .counts) o-now u v (r .complement) between w-now)
+    (built : Decided-built (r .counts) (after .words) u v (r .complement) between w-now)
   where
     same-work : length between ≡ length w
     same-work = ap length (pattern .work) ∙ zeros-length w
@@ -40,7 +41,7 @@ module _
     unfolding as-checked
     passes z = rw (build-passed build z)
 
-    pub trial-says : Trial-says t u v r o o-now s s-now w w-now
+    pub trial-says : Trial-says t u v r before after w w-now
     unfolding Third-demand
     trial-says =
         record {
@@ -50,5 +51,5 @@ module _
           complement = λ z. rw same-work at (built .built z);
           unbuilt = built .unbuilt;
           work = cleared;
-          compared = λ z lasso. third-demand t Passed (r .counts) o o-now s s-now u v (passes z) refl build z lasso;
+          compared = λ z lasso. third-demand t Passed (r .counts) before after u v (passes z) refl build z lasso;
         }

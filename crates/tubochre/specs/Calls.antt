@@ -7,7 +7,7 @@ use Rattle.basics.specs.Buffers.{zeros}
 use Rattle.automata.specs.Lasso.{Lasso}
 use Rattle.tables.specs.Table.{k-of}
 use Rattle.patterns.specs.Check.{check-refusal, as-checked}
-use Rattle.complement.specs.Build.{Build-says, used, words-needed}
+use Rattle.complement.specs.Build.{Lent, Build-says, used, words-needed}
 use Rattle.complement.specs.declared.Counts.{Counts}
 use Rattle.lassos.specs.Decision.{decision}
 use Rattle.lassos.specs.declared.Decision.{Decision}
@@ -39,13 +39,13 @@ pub record Decided-built (r : Counts) (o u v : List ℕ) (d : Decision) (w w-now
   pub kept : (r .number ≡ 0 → ⊥) → w-now ≡ w
 
 -- A TRIAL: check, build, decide on the pattern, decide on the used part of the words
-pub record Trial-says (t u v : List ℕ) (r : Trial) (o o-now s s-now w w-now : List ℕ) : Type 0 where
+pub record Trial-says (t u v : List ℕ) (r : Trial) (before after : Lent) (w w-now : List ℕ) : Type 0 where
   pub check : r .checked ≡ as-checked (check-refusal t)
-  pub build : Build-says t (r .counts) o o-now s s-now
+  pub build : Build-says t (r .counts) before after
   pub pattern : r .pattern ≡ decision t u v (length w)
   -- the complement is decided where it was built, and else carries the build's refusal
-  pub complement : r .counts .number ≡ 0 → r .complement ≡ decision (used (r .counts) o-now) u v (length w)
+  pub complement : r .counts .number ≡ 0 → r .complement ≡ decision (used (r .counts) (after .words)) u v (length w)
   pub unbuilt : (r .counts .number ≡ 0 → ⊥) → r .complement ≡ Refused (r .counts .number)
   pub work : w-now ≡ zeros w
   -- the third demand
-  pub compared : r .counts .number ≡ 0 → Lasso (k-of t) u v → Compared t (used (r .counts) o-now) u v (r .counts .states)
+  pub compared : r .counts .number ≡ 0 → Lasso (k-of t) u v → Compared t (used (r .counts) (after .words)) u v (r .counts .states)

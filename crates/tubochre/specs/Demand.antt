@@ -17,15 +17,15 @@ use Rattle.patterns.specs.Check.{check-refusal, as-checked}
 use Rattle.patterns.specs.Pattern.{moves}
 use Rattle.patterns.specs.declared.Checked.{Checked}
 use Rattle.patterns.specs.declared.Checked.the-variants.{Passed}
-use Rattle.complement.specs.Build.{Build-says, used, used-sets}
+use Rattle.complement.specs.Build.{Lent, Build-says, used, used-sets}
 use Rattle.complement.specs.Complement.{system-of, complement, complement-automaton, complement-words, sets-words}
 use Rattle.complement.specs.declared.Counts.{Counts}
 use Rattle.lassos.specs.Decision.{Lasso-says}
 use Rattle.lassos.specs.declared.Decision.{Decision}
 use Rattle.lassos.specs.declared.Decision.the-variants.{Taken, NotTaken, Refused}
 
--- THE SECOND DEMAND, of an accepted build that left these words and sets
-pub record Built-exactly (t : List ℕ) (r : Counts) (words sets : List ℕ) : Type 0 where
+-- THE SECOND DEMAND, of an accepted build and the buffers that it left
+pub record Built-exactly (t : List ℕ) (r : Counts) (left : Lent) : Type 0 where
   -- the system explored is the paper's: its initial quadruples, what follows a reached one on a letter, and which accept
   pub starts : (x : Quadruple) → Member x (system-of t .starts) ↔ Start (meaning t) (moves (meaning t)) x
   pub steps :
@@ -38,16 +38,15 @@ pub record Built-exactly (t : List ℕ) (r : Counts) (words sets : List ℕ) : T
   pub states : r .states ≡ length (complement t .states)
   pub edges : r .edges ≡ length (complement t .edges)
   -- the used words are its table: a valid wide one, which means it
-  pub table : used r words ≡ complement-words t
-  pub valid : table-refusal wide-range (used r words) ≡ 0
-  pub means : Same (meaning (used r words)) (complement-automaton t)
+  pub table : used r (left .words) ≡ complement-words t
+  pub valid : table-refusal wide-range (used r (left .words)) ≡ 0
+  pub means : Same (meaning (used r (left .words))) (complement-automaton t)
   -- the used records are its states
-  pub records : used-sets r sets ≡ sets-words t
+  pub records : used-sets r (left .sets) ≡ sets-words t
 
 unfoldable pub Second-demand : Type 0
 Second-demand =
-    (t : List ℕ) (r : Counts) (o o-now s s-now : List ℕ) → Build-says t r o o-now s s-now → r .number ≡ 0 →
-    Built-exactly t r o-now s-now
+    (t : List ℕ) (r : Counts) (before after : Lent) → Build-says t r before after → r .number ≡ 0 → Built-exactly t r after
 
 -- THE THIRD DEMAND. A decision that does not refuse
 unfoldable pub Not-refused : Decision → Type 0
@@ -78,6 +77,6 @@ pub record Compared (t c u v : List ℕ) (states : ℕ) : Type 0 where
 -- whatever pattern passes the check, whatever room its complement is built in without refusal, and whatever lasso over its letters
 unfoldable pub Third-demand : Type 0
 Third-demand =
-    (t : List ℕ) (checked : Checked) (r : Counts) (o o-now s s-now u v : List ℕ) →
-    checked ≡ as-checked (check-refusal t) → checked ≡ Passed → Build-says t r o o-now s s-now → r .number ≡ 0 →
-    Lasso (k-of t) u v → Compared t (used r o-now) u v (r .states)
+    (t : List ℕ) (checked : Checked) (r : Counts) (before after : Lent) (u v : List ℕ) →
+    checked ≡ as-checked (check-refusal t) → checked ≡ Passed → Build-says t r before after → r .number ≡ 0 →
+    Lasso (k-of t) u v → Compared t (used r (after .words)) u v (r .states)

@@ -4,7 +4,7 @@ use lassos::Decision;
 use patterns::Checked;
 ghost use mathlib.Core.Path.{_≡_};
 ghost use Rattle.patterns.specs.Check.{check-refusal};
-ghost use Rattle.complement.specs.Build.{Build-says};
+ghost use Rattle.complement.specs.Build.{lent, Build-says};
 ghost use Rattle.tubochre.specs.Calls.{as-answer, Lasso-answers, Used-inside, Decided-built, Trial-says};
 
 // A lasso decision in numbers: 0 and 1 taken, 0 and 0 not taken, or the refusal's number and 0. Only `number` tells a refusal.
@@ -35,7 +35,7 @@ pub extern "C" fn tubochre_check(table: &[u16]) -> u32
 // The complement of a pattern, in the lent words and sets.
 #[no_mangle]
 pub extern "C" fn tubochre_build(table: &[u16], words: &mut [u16], sets: &mut [u32]) -> Counts
-    ensures { λ r. ⌜ Build-says (now (table .entry)) r (now (words .entry)) (now (words .exit)) (now (sets .entry)) (now (sets .exit)) ⌝ }
+    ensures { λ r. ⌜ Build-says (now (table .entry)) r (lent (now (words .entry)) (now (sets .entry))) (lent (now (words .exit)) (now (sets .exit))) ⌝ }
 {
     complement::build_complement(table, words, sets)
 }
@@ -80,7 +80,7 @@ pub fn try_lasso(
     cycle: &[u8],
     work: &mut [u32],
 ) -> Trial
-    ensures { λ r. ⌜ Trial-says (now (table .entry)) (now (prefix .entry)) (now (cycle .entry)) r (now (words .entry)) (now (words .exit)) (now (sets .entry)) (now (sets .exit)) (now (work .entry)) (now (work .exit)) ⌝ }
+    ensures { λ r. ⌜ Trial-says (now (table .entry)) (now (prefix .entry)) (now (cycle .entry)) r (lent (now (words .entry)) (now (sets .entry))) (lent (now (words .exit)) (now (sets .exit))) (now (work .entry)) (now (work .exit)) ⌝ }
 {
     let checked = patterns::check_pattern(table);
     let counts = complement::build_complement(table, words, sets);

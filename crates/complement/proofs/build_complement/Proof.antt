@@ -1,17 +1,17 @@
 -- `build_complement` answers and leaves what the definitions say: a refusal of the check, 11 where exploring found more states than fit, 12 where
 -- the table is too long, or the complement's table and sets. Assumes nothing.
-use mathlib.Core.Path.{_≡_, sym, _∙_}
+use mathlib.Core.Path.{sym, _∙_}
 use mathlib.Core.List.{List}
 use Prim.Native.Nat.{ℕ}
 use native.Mathlib.Omega.{arith}
 use borrow.Author.Needs.{needs}
-use lib.ListN.{length}
 use Rattle.patterns.proofs.Passed.{checked-table}
+use Rattle.complement.specs.Build.{Lent, lent}
 use Rattle.complement.specs.Complement.{complement}
 use Rattle.complement.specs.Found.{Ends, Read-off}
 use Rattle.complement.proofs.Answers.{refused-check, refused-states, refused-edges}
 use Rattle.complement.proofs.Finishing.{states-limit, built-asks, built-counts, built-flags, built-says}
-use Rattle.complement.proofs.Reaching.{ends-within}
+use Rattle.complement.proofs.Reaching.{Same-sizes, ends-within}
 use Rattle.complement.proofs.Stored.{begins-zeros}
 use Rattle.complement.proofs.build_complement.Statement.{statement}
 use Rattle.complement.proofs.build_complement.Tie as tie
@@ -32,14 +32,21 @@ module _ (c : tie.After-explore) where
         shaped = c .before .before .before .shape-of .ensures;
       }
 
-  ends : Ends (complement table) (c .explore .last .1 .1 .0) (c .explore .last .1 .1 .1 .0) (c .explore .result)
+  abbrev lends : Lent
+  lends = lent (begun .args .words .now) (begun .args .sets .now)
+
+  abbrev left : Lent
+  left = lent (c .explore .last .1 .1 .0) (c .explore .last .1 .1 .1 .0)
+
+  ends : Ends (complement table) left (c .explore .result)
   ends = c .explore .ensures .ends table read
 
-  words-size : length (c .explore .last .1 .1 .0) ≡ length (begun .args .words .now)
-  words-size = c .explore .kept .1 .1 .0 ∙ c .before .before .before .before .before .before .before .before .before .before .before .clear-words .kept .0
-
-  sets-size : length (c .explore .last .1 .1 .1 .0) ≡ length (begun .args .sets .now)
-  sets-size = c .explore .kept .1 .1 .1 .0 ∙ c .before .before .before .before .before .before .before .clear-sets .kept .0
+  sizes : Same-sizes left lends
+  sizes =
+      record {
+        words = c .explore .kept .1 .1 .0 ∙ c .before .before .before .before .before .before .before .before .before .before .before .clear-words .kept .0;
+        sets = c .explore .kept .1 .1 .1 .0 ∙ c .before .before .before .before .before .before .before .clear-sets .kept .0;
+      }
 
 check-refusal-requires : tie.Need-check-refusal-requires
 check-refusal-requires c κs = search needs
@@ -55,7 +62,7 @@ same-length-2 c = search needs
 
 returns : tie.Need-returns
 returns c =
-    refused-check (c .before .before .before .before .before .before .before .before .before .before .before .before .args .table .now) (c .before .before .before .before .before .before .before .before .before .before .before .before .args .words .now) (c .before .before .before .before .before .before .before .before .before .before .before .before .args .sets .now) (c .before .before .before .before .before .before .before .before .check-refusal .ensures) (c .before .before .before .before .before .before .before .if1 .taken) (c .before .before .before .before .refuse .ensures)
+    refused-check (c .before .before .before .before .before .before .before .before .before .before .before .before .args .table .now) (lent (c .before .before .before .before .before .before .before .before .before .before .before .before .args .words .now) (c .before .before .before .before .before .before .before .before .before .before .before .before .args .sets .now)) (c .before .before .before .before .before .before .before .before .check-refusal .ensures) (c .before .before .before .before .before .before .before .if1 .taken) (c .before .before .before .before .refuse .ensures)
 
 clear-words-requires : tie.Need-clear-words-requires
 clear-words-requires c κs = search needs
@@ -99,7 +106,7 @@ same-length-4 c = search needs
 returns-2 : tie.Need-returns-2
 returns-2 c =
     let at = c .before .before .before .before .before .before .before .before .before .before .before .before in
-    refused-states (table at) (begun at .args .words .now) (begun at .args .sets .now) (read at .passed) (words-size at) (sets-size at)
+    refused-states (table at) (lends at) (read at .passed) (sizes at)
     (ends at) (c .before .before .before .before .before .before .before .if2 .taken) (c .before .before .before .before .refuse2 .ensures)
 
 too-long-requires : tie.Need-too-long-requires
@@ -110,7 +117,7 @@ refuse-requires-3 : tie.Need-refuse-requires-3
 refuse-requires-3 c κs = search needs
 
 same-length-5 : tie.Need-same-length-5
-same-length-5 c = c .before .before .before .before .refuse3 .kept .1 .0 ∙ words-size (c .before .before .before .before .before .before .before .before .before .before .before .before .before .before)
+same-length-5 c = c .before .before .before .before .refuse3 .kept .1 .0 ∙ sizes (c .before .before .before .before .before .before .before .before .before .before .before .before .before .before) .words
 
 same-length-6 : tie.Need-same-length-6
 same-length-6 c = search needs
@@ -118,7 +125,7 @@ same-length-6 c = search needs
 returns-3 : tie.Need-returns-3
 returns-3 c =
     let at = c .before .before .before .before .before .before .before .before .before .before .before .before .before .before in
-    refused-edges (table at) (begun at .args .words .now) (begun at .args .sets .now) (read at .passed) (words-size at) (sets-size at)
+    refused-edges (table at) (lends at) (read at .passed) (sizes at)
     (ends at) (c .before .before .before .before .before .before .before .before .before .if2 .left) (c .before .before .before .before .before .before .before .before .too-long .ensures) (c .before .before .before .before .before .before .before .if3 .taken) (c .before .before .before .before .refuse3 .ensures)
 
 lay-out-requires : tie.Need-lay-out-requires
@@ -144,7 +151,7 @@ cast-t41 c =
     let few = built-counts (read at) (ends-within (c .before .before .before .before .before .before .before .before .before .before .before .before .if2 .left) (ends at)) (c .before .before .before .before .before .before .before .before .before .before .before .too-long .ensures) (c .before .before .before .before .before .before .before .before .before .before .if3 .left) .1 in omega arith
 
 same-length-7 : tie.Need-same-length-7
-same-length-7 c = c .before .before .set-flags .kept .0 ∙ (c .before .before .before .before .before .before .before .before .lay-out .kept .0) ∙ words-size (c .before .before .before .before .before .before .before .before .before .before .before .before .before .before .before .before .before)
+same-length-7 c = c .before .before .set-flags .kept .0 ∙ (c .before .before .before .before .before .before .before .before .lay-out .kept .0) ∙ sizes (c .before .before .before .before .before .before .before .before .before .before .before .before .before .before .before .before .before) .words
 
 same-length-8 : tie.Need-same-length-8
 same-length-8 c = search needs
@@ -153,7 +160,7 @@ returns-4 : tie.Need-returns-4
 returns-4 c =
     let at = c .before .before .before .before .before .before .before .before .before .before .before .before .before .before .before .before .before in
     built-says (read at) (ends-within (c .before .before .before .before .before .before .before .before .before .before .before .before .if2 .left) (ends at)) (c .before .before .before .before .before .before .before .before .before .before .before .too-long .ensures) (c .before .before .before .before .before .before .before .before .before .before .if3 .left) (c .before .before .before .before .before .before .before .before .lay-out .ensures) (c .before .before .before .before .before .before .before .before .lay-out .kept .0)
-    (begun at .args .words .now) (begun at .args .sets .now) (words-size at) (sets-size at) (c .before .before .before .initial-count .ensures) (c .before .before .set-flags .ensures)
+    (lends at) (sizes at) (c .before .before .before .initial-count .ensures) (c .before .before .set-flags .ensures)
 
 pub build-complement-spec : {M : Type 1} → statement M
 build-complement-spec =

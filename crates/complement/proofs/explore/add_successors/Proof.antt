@@ -4,6 +4,7 @@ use Prim.Native.Nat.{_≤_, _-_}
 use native.Mathlib.Omega.{arith}
 use Rattle.ncsb.specs.Array.{nth-successor}
 use Rattle.ncsb.proofs.Choices.{choices-fit}
+use Rattle.complement.specs.Build.{lent}
 use Rattle.complement.specs.Found.{array-moves}
 use Rattle.complement.proofs.Letters.{Choosing, choose-start, choose-asks, choose-turn, letter-blocked, letter-full, letter-end}
 use Rattle.complement.proofs.explore.add_successors.Statement.{statement}
@@ -11,7 +12,7 @@ use Rattle.complement.proofs.explore.add_successors.Tie as tie
 
 abbrev Inv-loop : tie.InvT-loop
 Inv-loop masks words₀ sets₀ source x letter asked choices progress₀ choice₀ words sets progress choice =
-    (choice ≤ choices) × Choosing (nth-successor x asked) source letter words₀ sets₀ progress₀ words sets progress choice
+    (choice ≤ choices) × Choosing (nth-successor x asked) source letter (lent words₀ sets₀) progress₀ (lent words sets) progress choice
 
 abbrev μ-loop : tie.MeasureT-loop
 μ-loop masks words₀ sets₀ source x letter asked choices progress₀ choice₀ words sets progress choice = choices - choice
@@ -46,10 +47,10 @@ meet-requires c κs =
     choose-asks (c .before .before .before .before .loop .inv .1) (array-moves (c .before .before .before .before .before .before .before .before .before .before .before .args .masks .now) (c .before .before .before .before .before .before .before .before .before .before .before .args .shape)) (c .before .before .before .before .before .before .before .before .before .before .before .pre .1)
 
 same-length : tie.Need-same-length Inv-loop μ-loop
-same-length c = c .before .before .before .before .before .meet .kept .0 ∙ (c .before .before .before .before .before .before .before .before .before .before .loop .inv .1 .words-size)
+same-length c = c .before .before .before .before .before .meet .kept .0 ∙ (c .before .before .before .before .before .before .before .before .before .before .loop .inv .1 .sizes .words)
 
 same-length-2 : tie.Need-same-length-2 Inv-loop μ-loop
-same-length-2 c = c .before .before .before .before .before .meet .kept .1 .0 ∙ (c .before .before .before .before .before .before .before .before .before .before .loop .inv .1 .sets-size)
+same-length-2 c = c .before .before .before .before .before .meet .kept .1 .0 ∙ (c .before .before .before .before .before .before .before .before .before .before .loop .inv .1 .sizes .sets)
 
 returns-2 : tie.Need-returns-2 Inv-loop μ-loop
 returns-2 c =
@@ -65,14 +66,14 @@ loop-less c = omega arith
 loop-again : tie.Need-loop-again Inv-loop μ-loop
 loop-again c = (
   omega arith,
-  choose-turn (c .before .before .before .before .before .before .before .before .before .before .loop .inv .1) (λ d. rw (c .before .before .before .before .before .before .successor .ensures) at ((c .before .before .before .before .before .meet .ensures) d)) (c .before .before .before .before .before .meet .kept .0) (c .before .before .before .before .before .meet .kept .1 .0) (c .if2 .left),
+  choose-turn (c .before .before .before .before .before .before .before .before .before .before .loop .inv .1) (λ d. rw (c .before .before .before .before .before .before .successor .ensures) at ((c .before .before .before .before .before .meet .ensures) d)) (record { words = c .before .before .before .before .before .meet .kept .0; sets = c .before .before .before .before .before .meet .kept .1 .0 }) (c .if2 .left),
 )
 
 same-length-3 : tie.Need-same-length-3 Inv-loop μ-loop
-same-length-3 c = c .before .loop .inv .1 .words-size
+same-length-3 c = c .before .loop .inv .1 .sizes .words
 
 same-length-4 : tie.Need-same-length-4 Inv-loop μ-loop
-same-length-4 c = c .before .loop .inv .1 .sets-size
+same-length-4 c = c .before .loop .inv .1 .sizes .sets
 
 returns-3 : tie.Need-returns-3 Inv-loop μ-loop
 returns-3 c =

@@ -4,6 +4,7 @@ use Prim.Native.Nat.{ℕ, _-_}
 use native.Mathlib.Omega.{arith}
 use mathlib.Core.List.{List}
 use lib.ListN.{length}
+use Rattle.complement.specs.Build.{lent}
 use Rattle.complement.specs.Found.{Read-off}
 use Rattle.complement.proofs.Numbering.{Exploring, begin-full, begin-within, expand-asks, expand-full, expand-turn, explore-limit, explore-end}
 use Rattle.complement.proofs.explore.explore.Statement.{statement}
@@ -12,7 +13,7 @@ use Rattle.complement.proofs.explore.explore.Tie as tie
 abbrev Inv-loop : tie.InvT-loop
 Inv-loop masks shape words₀ sets₀ found₀ number₀ words sets found number =
     (length words ≡ length words₀) × (length sets ≡ length sets₀)
-    × ((t : List ℕ) → Read-off t masks shape → Exploring t words sets found number)
+    × ((t : List ℕ) → Read-off t masks shape → Exploring t (lent words sets) found number)
 
 abbrev μ-loop : tie.MeasureT-loop
 μ-loop masks shape words₀ sets₀ found₀ number₀ words sets found number = 65535 - number

@@ -3,6 +3,7 @@ use mathlib.Core.Path.{_∙_}
 use Prim.Native.Nat.{_≤_, _-_}
 use native.Mathlib.Omega.{arith}
 use Rattle.sets.proofs.Grid.{narrow}
+use Rattle.complement.specs.Build.{lent}
 use Rattle.complement.specs.Found.{array-moves}
 use Rattle.complement.proofs.Letters.{Spelling, spell-start, spell-asks, spell-turn, spell-full, spell-end, expand-load}
 use Rattle.complement.proofs.explore.step.Statement.{statement}
@@ -11,7 +12,7 @@ use Rattle.complement.proofs.explore.step.Tie as tie
 abbrev Inv-loop : tie.InvT-loop
 Inv-loop shape words₀ sets₀ source masks x letters progress₀ letter₀ words sets progress letter =
     (letter ≤ letters)
-    × Spelling (array-moves masks shape) source x words₀ sets₀ progress₀ words sets progress letter
+    × Spelling (array-moves masks shape) source x (lent words₀ sets₀) progress₀ (lent words sets) progress letter
 
 abbrev μ-loop : tie.MeasureT-loop
 μ-loop shape words₀ sets₀ source masks x letters progress₀ letter₀ words sets progress letter = letters - letter
@@ -28,10 +29,10 @@ add-successors-requires c κs =
     (narrow (start .args .t1) _ (start .good .0), spell-asks (c .before .before .before .before .loop .inv .1) (c .before .before .before .loop-test .taken) (start .pre))
 
 same-length : tie.Need-same-length Inv-loop μ-loop
-same-length c = c .before .before .before .before .before .add-successors .kept .1 .1 .0 ∙ (c .before .before .before .before .before .before .before .before .before .before .loop .inv .1 .reaching .words-size)
+same-length c = c .before .before .before .before .before .add-successors .kept .1 .1 .0 ∙ (c .before .before .before .before .before .before .before .before .before .before .loop .inv .1 .reaching .sizes .words)
 
 same-length-2 : tie.Need-same-length-2 Inv-loop μ-loop
-same-length-2 c = c .before .before .before .before .before .add-successors .kept .1 .1 .1 .0 ∙ (c .before .before .before .before .before .before .before .before .before .before .loop .inv .1 .reaching .sets-size)
+same-length-2 c = c .before .before .before .before .before .add-successors .kept .1 .1 .1 .0 ∙ (c .before .before .before .before .before .before .before .before .before .before .loop .inv .1 .reaching .sizes .sets)
 
 returns : tie.Need-returns Inv-loop μ-loop
 returns c =
@@ -47,14 +48,14 @@ loop-less c = omega arith
 loop-again : tie.Need-loop-again Inv-loop μ-loop
 loop-again c = (
   omega arith,
-  spell-turn (c .before .before .before .before .before .before .before .before .before .before .loop .inv .1) (c .before .before .before .before .before .add-successors .ensures) (c .before .before .before .before .before .add-successors .kept .1 .1 .0) (c .before .before .before .before .before .add-successors .kept .1 .1 .1 .0) (c .if1 .left),
+  spell-turn (c .before .before .before .before .before .before .before .before .before .before .loop .inv .1) (c .before .before .before .before .before .add-successors .ensures) (record { words = c .before .before .before .before .before .add-successors .kept .1 .1 .0; sets = c .before .before .before .before .before .add-successors .kept .1 .1 .1 .0 }) (c .if1 .left),
 )
 
 same-length-3 : tie.Need-same-length-3 Inv-loop μ-loop
-same-length-3 c = c .before .loop .inv .1 .reaching .words-size
+same-length-3 c = c .before .loop .inv .1 .reaching .sizes .words
 
 same-length-4 : tie.Need-same-length-4 Inv-loop μ-loop
-same-length-4 c = c .before .loop .inv .1 .reaching .sets-size
+same-length-4 c = c .before .loop .inv .1 .reaching .sizes .sets
 
 returns-2 : tie.Need-returns-2 Inv-loop μ-loop
 returns-2 c =
