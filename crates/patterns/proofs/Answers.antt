@@ -1,31 +1,55 @@
--- From the parts of the check to its answer. Assumes nothing.
-use mathlib.Core.Path.{_≡_, refl, sym, _∙_}
+-- From the parts of a reading to what it answers and leaves, and from a reading to the check's answer. Assumes nothing.
+use mathlib.Core.Path.{_≡_, refl, sym, _∙_, ap}
 use mathlib.Core.Bool.{Bool, true, false}
 use mathlib.Core.List.{List}
 use Prim.Native.Nat.{ℕ, zero, suc}
+use native.Mathlib.Omega.{arith}
 use lib.Dec.{eqb}
 use Rattle.basics.specs.Buffers.{or-else}
-use Rattle.basics.proofs.Booleans.{ne-eqb}
+use Rattle.basics.proofs.Booleans.{eq-eqb, ne-eqb}
 use Rattle.tables.specs.Access.{limits}
 use Rattle.tables.specs.Table.{pattern-range, table-refusal, meaning}
-use Rattle.patterns.specs.Check.{check-refusal, as-checked}
+use Rattle.patterns.specs.Check.{check-refusal, as-checked, as-reading, reading, masks-read}
 use Rattle.patterns.specs.Masks.{masks-of}
 use Rattle.patterns.specs.Pattern.{moves}
 use Rattle.patterns.specs.Shape.{shape-of, forked, Shape-asks, Small-shape}
 use Rattle.patterns.specs.declared.Checked.the-variants.{Passed, Refused}
+use Rattle.patterns.specs.declared.Reading.{Reading}
+use Rattle.patterns.specs.declared.Reading.the-variants as read
 use Rattle.patterns.specs.declared.Shape.{Shape}
 use Rattle.patterns.proofs.Forks.{check-number}
 use Rattle.patterns.proofs.Masks.{pattern-fits}
+use Rattle.patterns.proofs.Passed.{checked-table}
 use Rattle.patterns.proofs.Shapes.{shape-small}
+
+-- the answer for a number that is no zero
+as-refused : (number : ℕ) (shape : Shape) → (number ≡ 0 → ⊥) → read.Refused number ≡ as-reading number shape
+unfolding as-reading
+as-refused zero shape met = absurd (met refl)
+as-refused (suc r) shape met = refl
+
+as-passed : (number : ℕ) (shape : Shape) → number ≡ 0 → read.Pattern shape ≡ as-reading number shape
+unfolding as-reading
+as-passed zero shape none = refl
+as-passed (suc r) shape none = absurd (omega arith)
 
 -- what refusals 2 to 9 say
 module _ (t : List ℕ) (number : ℕ) (told : number ≡ table-refusal (limits 32 4096) t) where
   -- one of them is met, and is the check's
-  pub table-refused : (number ≡ 0 → ⊥) → number ≡ check-refusal t
-  unfolding check-refusal or-else pattern-range
+  first-met : (number ≡ 0 → ⊥) → eqb (table-refusal pattern-range t) 0 ≡ false
+  unfolding pattern-range
+  first-met met = ne-eqb (table-refusal pattern-range t) 0 (λ z. met (told ∙ z))
+
+  pub table-refused : (number ≡ 0 → ⊥) → read.Refused number ≡ reading t
+  unfolding reading check-refusal or-else pattern-range
   table-refused met =
-      let e : eqb (table-refusal pattern-range t) 0 ≡ false = ne-eqb (table-refusal pattern-range t) 0 (λ z. met (told ∙ z)) in
-      rw e told
+      let e = first-met met in
+      let same : number ≡ check-refusal t = rw e told in
+      as-refused number (shape-of (moves (meaning t))) met ∙ rw same
+
+  pub masks-kept : (number ≡ 0 → ⊥) → (before : List (List ℕ)) → before ≡ masks-read t before
+  unfolding masks-read
+  masks-kept met before = let e = first-met met in cc
 
   -- none is
   pub table-passed : number ≡ 0 → table-refusal pattern-range t ≡ 0
@@ -38,15 +62,81 @@ module _ (t : List ℕ) (number : ℕ) (told : number ≡ table-refusal (limits 
   pub asks-small : number ≡ 0 → (shape : Shape) → shape ≡ shape-of (moves (meaning t)) → Small-shape shape
   asks-small none shape e = rw e (shape-small t (pattern-fits t (table-passed none)))
 
-  -- then 10 is the answer exactly where a fork is found
-  module _
-      (none : number ≡ 0) (masks : List (List ℕ)) (shape : Shape) (spread : masks ≡ masks-of (moves (meaning t)))
-      (shaped : shape ≡ shape-of (moves (meaning t))) (found : Bool) (tested : found ≡ forked masks shape) where
-    pub fork-refused : found ≡ true → 10 ≡ check-refusal t
-    fork-refused h = cc (check-number t (table-passed none))
+  module _ (none : number ≡ 0) (masks : List (List ℕ)) (spread : masks ≡ masks-of (moves (meaning t))) where
+    pub masks-spread : (before : List (List ℕ)) → masks ≡ masks-read t before
+    unfolding masks-read
+    masks-spread before = let e : eqb (table-refusal pattern-range t) 0 ≡ true = eq-eqb (table-passed none) in cc
 
-    pub even-passed : found ≡ false → 0 ≡ check-refusal t
-    even-passed h = cc (check-number t (table-passed none))
+    -- then 10 is the answer exactly where a fork is found
+    module _
+        (shape : Shape) (shaped : shape ≡ shape-of (moves (meaning t))) (found : Bool) (tested : found ≡ forked masks shape) where
+      pub fork-refused : found ≡ true → read.Refused 10 ≡ reading t
+      unfolding reading as-reading
+      fork-refused h =
+          let e : 10 ≡ check-refusal t = cc (check-number t (table-passed none)) in rw (← e)
+
+      pub even-passed : found ≡ false → read.Pattern shape ≡ reading t
+      unfolding reading as-reading
+      even-passed h =
+          let e : 0 ≡ check-refusal t = cc (check-number t (table-passed none)) in rw (← e, shaped)
+
+-- WHAT A READING SAYS
+number-in : Reading → ℕ
+number-in (read.Refused r) = r
+number-in (read.Pattern shape) = 0
+
+refusals-in : Reading → ℕ
+refusals-in (read.Refused r) = 1
+refusals-in (read.Pattern shape) = 0
+
+shape-in : Reading → (other : Shape) → Shape
+shape-in (read.Refused r) other = other
+shape-in (read.Pattern shape) other = shape
+
+as-numbered : (number : ℕ) (shape : Shape) → number-in (as-reading number shape) ≡ number
+unfolding as-reading number-in
+as-numbered zero shape = refl
+as-numbered (suc r) shape = refl
+
+as-met : (told number : ℕ) (shape : Shape) → read.Refused number ≡ as-reading told shape → told ≡ 0 → ⊥
+unfolding as-reading refusals-in
+as-met zero number shape e none = let z : _≡_ {A = ℕ} 1 0 = ap refusals-in e in omega arith
+as-met (suc r) number shape e none = omega arith
+
+as-shaped : (number : ℕ) (shape : Shape) → number ≡ 0 → shape-in (as-reading number shape) shape ≡ shape
+unfolding as-reading shape-in
+as-shaped zero shape none = refl
+as-shaped (suc r) shape none = absurd (omega arith)
+
+module _ (t : List ℕ) where
+  -- its number is the check's
+  pub reading-refused : (number : ℕ) → read.Refused number ≡ reading t → number ≡ check-refusal t
+  unfolding reading number-in
+  reading-refused number e = ap number-in e ∙ as-numbered (check-refusal t) (shape-of (moves (meaning t)))
+
+  -- a refusal's number is no zero
+  pub reading-met : (number : ℕ) → read.Refused number ≡ reading t → number ≡ 0 → ⊥
+  unfolding reading
+  reading-met number e none =
+      as-met (check-refusal t) number (shape-of (moves (meaning t))) e (sym (reading-refused number e) ∙ none)
+
+  -- where it gives a shape the check passes, the shape is the pattern's, and so are the masks
+  module _ (shape : Shape) (told : read.Pattern shape ≡ reading t) where
+    pub reading-passed : 0 ≡ check-refusal t
+    unfolding reading number-in
+    reading-passed = ap number-in told ∙ as-numbered (check-refusal t) (shape-of (moves (meaning t)))
+
+    pub reading-shape : shape ≡ shape-of (moves (meaning t))
+    unfolding reading shape-in
+    reading-shape =
+        ap (λ (r : Reading). shape-in r (shape-of (moves (meaning t)))) told
+        ∙ as-shaped (check-refusal t) (shape-of (moves (meaning t))) (sym reading-passed)
+
+    pub reading-masks :
+        (before masks : List (List ℕ)) → masks ≡ masks-read t before → masks ≡ masks-of (moves (meaning t))
+    unfolding masks-read
+    reading-masks before masks e =
+        let none : eqb (table-refusal pattern-range t) 0 ≡ true = eq-eqb (checked-table t (sym reading-passed)) in cc
 
 -- the number as the answer
 pub answer-passed : (number refusal : ℕ) → number ≡ refusal → number ≡ 0 → Passed ≡ as-checked refusal

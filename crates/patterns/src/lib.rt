@@ -13,7 +13,7 @@ ghost use mathlib.Core.Bool.{_&&_};
 ghost use Prim.Native.Nat.{_≤_, _<_};
 ghost use Rattle.sets.specs.Sets.{has, Narrow};
 ghost use Rattle.tables.specs.Table.{pattern-range, table-refusal, meaning};
-ghost use Rattle.patterns.specs.Check.{check-refusal, as-checked};
+ghost use Rattle.patterns.specs.Check.{check-refusal, as-checked, reading, masks-read};
 ghost use Rattle.patterns.specs.Masks.{row-of, masks-of, joined, joined-in, Row-asks};
 ghost use Rattle.patterns.specs.Pattern.{initial-states, accepting-states, moves};
 ghost use Rattle.patterns.specs.Shape.{shape-of, row-forked, forked, Shape-asks, Small-shape};
@@ -31,6 +31,12 @@ pub struct Shape {
     pub starts: u32,
     pub marks: u32,
     pub inner: u32,
+}
+
+// What a reading of a table answers: the number of the refusal, or what the step reads of the pattern beside the masks.
+pub enum Reading {
+    Refused(u32),
+    Pattern(Shape),
 }
 
 // THE TABLE BY STATE AND BY LETTER OF TARGET SETS
@@ -198,19 +204,33 @@ pub fn some_fork(masks: [[u32; 16]; 32], shape: Shape) -> bool
 
 // THE CHECK
 
-// The first of refusals 2 to 10 that the table meets, or zero. The masks are spread out once refusals 2 to 9 have passed.
-pub fn check_refusal(table: &[u16]) -> u32
-    ensures { λ r. ⌜ r ≡ check-refusal (now (table .entry)) ⌝ }
+// Reads a pattern once, for the check and for the build: the first of refusals 2 to 10 that the table meets, or the shape. Where 2 to 9
+// have passed the masks become the pattern's, also where it forks; where one of them is met the masks are left as they are.
+pub fn read_pattern(table: &[u16], masks: &mut [[u32; 16]; 32]) -> Reading
+    ensures told { λ r. ⌜ r ≡ reading (now (table .entry)) ⌝ }
+    ensures spread { λ _. ⌜ now (masks .exit) ≡ masks-read (now (table .entry)) (now (masks .entry)) ⌝ }
 {
     let refusal = table_refusal(table, 32, 4096);
     if refusal != 0 {
-        return refusal;
+        return Reading::Refused(refusal);
     }
-    let masks = masks_of(table);
-    if some_fork(masks, shape_of(table, masks)) {
-        return 10;
+    *masks = masks_of(table);
+    let shape = shape_of(table, *masks);
+    if some_fork(*masks, shape) {
+        return Reading::Refused(10);
     }
-    0
+    Reading::Pattern(shape)
+}
+
+// The first of refusals 2 to 10 that the table meets, or zero.
+pub fn check_refusal(table: &[u16]) -> u32
+    ensures { λ r. ⌜ r ≡ check-refusal (now (table .entry)) ⌝ }
+{
+    let mut masks = [[0u32; 16]; 32];
+    match read_pattern(table, &mut masks) {
+        Reading::Refused(number) => number,
+        Reading::Pattern(_) => 0,
+    }
 }
 
 // Whether the table is a pattern that can be complemented.

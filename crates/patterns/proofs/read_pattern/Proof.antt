@@ -1,0 +1,67 @@
+-- `patterns::read_pattern` meets its contract: refusals 2 to 9 first, then the masks and the shape, then 10 where a fork is found.
+-- Assumes nothing.
+use mathlib.Core.Path.{_≡_}
+use Rattle.tables.specs.Access.{limits}
+use Rattle.tables.specs.Table.{table-refusal}
+use Rattle.patterns.proofs.Answers.{table-refused, masks-kept, table-passed, asks-shape, asks-small, masks-spread, fork-refused, even-passed}
+use Rattle.patterns.proofs.read_pattern.Statement.{statement}
+use Rattle.patterns.proofs.read_pattern.Tie as tie
+
+table-refusal-requires : tie.Need-table-refusal-requires
+table-refusal-requires c κs = tt
+
+returns : tie.Need-returns
+returns c =
+    let told = c .before .table-refusal .ensures in
+    (table-refused _ _ told (c .if1 .taken), masks-kept _ _ told (c .if1 .taken) _)
+
+masks-of-requires : tie.Need-masks-of-requires
+masks-of-requires c κs = table-passed _ _ (c .before .table-refusal .ensures) (c .if1 .left)
+
+shape-of-requires : tie.Need-shape-of-requires
+shape-of-requires c κs =
+    let spread = c .before in
+    let passed = spread .before in
+    asks-shape _ _ (passed .before .table-refusal .ensures) (passed .if1 .left) _ (spread .masks-of .ensures)
+
+some-fork-requires : tie.Need-some-fork-requires
+some-fork-requires c κs =
+    let shaped = c .before in
+    let passed = shaped .before .before .before in
+    asks-small _ _ (passed .before .table-refusal .ensures) (passed .if1 .left) _ (shaped .shape-of .ensures)
+
+returns-2 : tie.Need-returns-2
+returns-2 c =
+    let searched = c .before in
+    let shaped = searched .before .before in
+    let spread = shaped .before .before in
+    let passed = spread .before in
+    let told = passed .before .table-refusal .ensures in (
+      fork-refused _ _ told (passed .if1 .left) _ (spread .masks-of .ensures) _ (shaped .shape-of .ensures) _
+          (searched .some-fork .ensures) (c .if2 .taken),
+      masks-spread _ _ told (passed .if1 .left) _ (spread .masks-of .ensures) _,
+    )
+
+returns-3 : tie.Need-returns-3
+returns-3 c =
+    let searched = c .before in
+    let shaped = searched .before .before in
+    let spread = shaped .before .before in
+    let passed = spread .before in
+    let told = passed .before .table-refusal .ensures in (
+      even-passed _ _ told (passed .if1 .left) _ (spread .masks-of .ensures) _ (shaped .shape-of .ensures) _
+          (searched .some-fork .ensures) (c .if2 .left),
+      masks-spread _ _ told (passed .if1 .left) _ (spread .masks-of .ensures) _,
+    )
+
+pub read-pattern-spec : {M : Type 1} → statement M
+read-pattern-spec =
+    tie.close
+    (tie.spec
+    table-refusal-requires
+    returns
+    masks-of-requires
+    shape-of-requires
+    some-fork-requires
+    returns-2
+    returns-3)
