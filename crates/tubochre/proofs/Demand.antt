@@ -64,11 +64,11 @@ module _ (t : List ℕ) (passed : check-refusal t ≡ 0) (fits : Fits t) (u v : 
       (Takes (meaning t) word × (d ≡ Taken) × (e ≡ NotTaken)) ⊎ (Takes (meaning c) word × (d ≡ NotTaken) × (e ≡ Taken))
   decisions (inl (taken, none)) d e w w-now z z-now says other h k =
       inl
-      (taken, says-taken says (checked-wide t passed) lasso h taken, says-not other (words-valid t passed fits) over-complement k none)
+      (taken, says-taken says h taken, says-not other k none)
   decisions (inr (none, one)) d e w w-now z z-now says other h k =
       let taken : Takes (meaning c) word = record { run = one .run; accepting-run = one .accepting-run } in
       inr
-      (taken, says-not says (checked-wide t passed) lasso h none, says-taken other (words-valid t passed fits) over-complement k taken)
+      (taken, says-not says h none, says-taken other k taken)
 
   refusals :
       (d : Decision) (w w-now : List ℕ) (number : ℕ) → Lasso-says t u v d w w-now ⊎ Lasso-says c u v d w w-now →

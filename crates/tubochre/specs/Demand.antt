@@ -1,4 +1,4 @@
--- The second and the third demand, each as one statement over what the check, the build and the lasso decision answer and leave
+-- The second and the third demand, as statements over what the check, the build and the lasso decision answer and leave
 -- (document 01, "Numbering and result" and "Runs, and what the third demand compares"). Assumes nothing: these are definitions.
 use mathlib.Core.Path.{_≡_}
 use mathlib.Core.Bool.{true}
@@ -21,6 +21,7 @@ use Rattle.complement.specs.Build.{Lent, Build-says, used, used-sets}
 use Rattle.complement.specs.Complement.{system-of, complement, complement-automaton, complement-words, sets-words}
 use Rattle.complement.specs.declared.Counts.{Counts}
 use Rattle.lassos.specs.Decision.{Lasso-says}
+use Rattle.lassos.specs.Refusals.{lasso-refusal}
 use Rattle.lassos.specs.declared.Decision.{Decision}
 use Rattle.lassos.specs.declared.Decision.the-variants.{Taken, NotTaken, Refused}
 
@@ -47,6 +48,21 @@ pub record Built-exactly (t : List ℕ) (r : Counts) (left : Lent) : Type 0 wher
 unfoldable pub Second-demand : Type 0
 Second-demand =
     (t : List ℕ) (r : Counts) (before after : Lent) → Build-says t r before after → r .number ≡ 0 → Built-exactly t r after
+
+-- THE SECOND DEMAND, of a lasso decision d on a table t, a prefix u and a loop v, with so many work words: a lasso is taken exactly if
+-- an infinite run over it passes accepting states without end
+pub record Decided-exactly (t u v : List ℕ) (d : Decision) (work : ℕ) : Type 0 where
+  -- a refusal is the first of 2 to 9 and 13 to 16 that is met, and nothing else is refused
+  pub refused : (number : ℕ) → (d ≡ Refused number) ↔ ((lasso-refusal t u v work ≡ number) × (1 ≤ number))
+  -- where none is met, the table is a valid wide one and the lasso is over its letters
+  pub over : lasso-refusal t u v work ≡ 0 → (table-refusal wide-range t ≡ 0) × Lasso (k-of t) u v
+  -- taken exactly if there is an accepting run, and not taken exactly if there is none
+  pub taken : (d ≡ Taken) ↔ ((lasso-refusal t u v work ≡ 0) × Takes (meaning t) (letter-at u v))
+  pub not-taken : (d ≡ NotTaken) ↔ ((lasso-refusal t u v work ≡ 0) × (Takes (meaning t) (letter-at u v) → ⊥))
+
+unfoldable pub Lasso-demand : Type 0
+Lasso-demand =
+    (t u v : List ℕ) (d : Decision) (w w-now : List ℕ) → Lasso-says t u v d w w-now → Decided-exactly t u v d (length w)
 
 -- THE THIRD DEMAND. A decision that does not refuse
 unfoldable pub Not-refused : Decision → Type 0
