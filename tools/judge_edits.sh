@@ -9,12 +9,14 @@
 #
 #   - stands in proofs/: an error in src/ or specs/ means that the edited line itself makes no sense;
 #   - is in no need of the form LOOP-less, which asks that a loop ends;
+#   - does not ask that a number is below a power of 2: that it fits its word, or is a set of so many states. The edited line mostly
+#     keeps that, and only the proof no longer fits;
 #   - is of one of these kinds:
 #       two types differ (what is to be proved, and what the proof proves);
 #       an equation that had to wait for an argument does not hold;
 #       omega: the goal fails at numbers that it names;
 #       rw or simp without a last argument: two ends are left, and they differ;
-#       cc: the two sides are not equal by the equations at hand.
+#       cc: the two sides are not equal by the equations at hand (not: it met a bound of its own before it knew).
 #
 # A further kind is added only after reading a log that has it.
 set -eu
@@ -32,12 +34,14 @@ judge() {
         function fault() {
             if (place !~ /^proofs\//) return "its first error is not in a proof"
             if (name ~ /-less(-[0-9]+)?$/ && place ~ /\/Proof\.antt:/) return "its first error is about the end of a loop"
+            if (text ~ /expected type `([^`]* <|suc [^`]* ≤) 2 \^ [^`]*`/ || text ~ /`([^`]* <|suc [^`]* ≤) 2 \^ [^`]*` *\(expected\)/)
+                return "its first error is about the width of a number"
             if (text ~ /^(as printed|computed as far as they go), the two types /) return ""
             if (text ~ /^expected type `.*but this has type `/) return ""
             if (text ~ /^`.*  ≟ `.*  does not hold /) return ""
             if (text ~ /^`omega`: the goal does not follow from what it read\. All of that holds, and the goal fails, at /) return ""
             if (text ~ /what it leaves must be a path whose two ends are equal, and `.* is none/) return ""
-            if (text ~ /^list the missing equation with its arguments, or rewrite by `rw` or `simp`/) return ""
+            if (text ~ /`cc`: the equations do not join `/) return ""
             return "its first error is of a kind that is not about a fact"
         }
         END {
