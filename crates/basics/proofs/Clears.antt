@@ -1,10 +1,12 @@
--- Laws of clearing a buffer: word by word from the front, that only its length matters, and what zero words are. Assumes nothing.
-use mathlib.Core.Path.{_≡_, refl, _∙_}
+-- Laws of clearing a buffer: word by word from the front, that only its length matters, what zero words are, and clearing a part. Assumes nothing.
+use mathlib.Core.Path.{_≡_, refl, sym, ap, _∙_}
 use mathlib.Core.List.{List, _++_, append-nil}
-use Prim.Native.Nat.{ℕ, zero, suc, _+_, _≤_, _<_}
+use Prim.Native.Nat.{ℕ, zero, suc, _+_, _-_, _≤_, _<_}
 use native.Mathlib.Omega.{arith}
 use borrow.Author.Fill.{fill-none, fill-more}
-use lib.ListN.{length, getD, set, drop, replicate, length-append, length-replicate, length-drop, drop-of-length-le}
+use borrow.Rule.Slice.PartMut.{putMid, mid-len, drop-put}
+use lib.ListN.{length, getD, set, take, drop, replicate, length-append, length-replicate, length-drop, drop-of-length-le, List·getD-append}
+use lib.Seq.{length-take-le, getD-drop, getD-append-add}
 use Rattle.basics.specs.Buffers.{zeros}
 
 -- the first i words are zero, and the others as they were
@@ -45,3 +47,30 @@ pub zeros-at : (k i : ℕ) → getD (replicate {A = ℕ} k 0) i 0 ≡ 0
 zeros-at zero i = refl
 zeros-at (suc k) zero = refl
 zeros-at (suc k) (suc i) = zeros-at k i
+
+-- A PART OF A BUFFER: its words are zero where they were cleared as a slice
+pub front-cleared : (k : ℕ) (w part : List ℕ) → k ≤ length w → part ≡ zeros (take k w) → (i : ℕ) → i < k → getD (part ++ drop k w) i 0 ≡ 0
+unfolding zeros
+front-cleared k w part inside clear i l =
+    let long = zeros-length (take k w) in
+    let short = length-take-le k w inside in
+    let b : i < length (zeros (take k w)) = omega arith in
+    rw clear (List·getD-append (zeros (take k w)) (drop k w) 0 i b ∙ zeros-at (length (take k w)) i)
+
+module _ (a e : ℕ) (w part : List ℕ) (order : a ≤ e) (inside : e ≤ length w) (clear : part ≡ zeros (take (e - a) (drop a w))) where
+  pub part-cleared : (i : ℕ) → i < e - a → getD (putMid a (e - a) w part) (a + i) 0 ≡ 0
+  part-cleared i l =
+      let long = length-take-le a w (omega arith) in
+      let rest = length-drop a w in
+      let far : e - a ≤ length (drop a w) = omega arith in
+      ap (λ (j : ℕ). getD (putMid a (e - a) w part) (j + i) 0) (sym long)
+      ∙ (getD-append-add (take a w) (part ++ drop (e - a) (drop a w)) i 0 ∙ front-cleared (e - a) (drop a w) part far clear i l)
+
+  -- and the words behind it are as they were
+  pub part-others : (i : ℕ) → e ≤ i → getD (putMid a (e - a) w part) i 0 ≡ getD w i 0
+  part-others i l =
+      let size : length part ≡ e - a = rw clear (zeros-length (take (e - a) (drop a w)) ∙ mid-len a e w inside) in
+      let s : e + (i - e) ≡ i = omega arith in
+      rw (← s)
+      (sym (getD-drop e (putMid a (e - a) w part) (i - e) 0)
+      ∙ (ap (λ (l : List ℕ). getD l (i - e) 0) (drop-put a e w part order inside size) ∙ getD-drop e w (i - e) 0))

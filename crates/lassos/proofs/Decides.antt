@@ -2,13 +2,15 @@
 -- definition's. Assumes nothing.
 use mathlib.Core.Path.{_≡_, refl, sym, _∙_}
 use mathlib.Core.Bool.{Bool, true, false}
-use mathlib.Core.List.{List, append-nil}
+use mathlib.Core.List.{List, _++_}
 use Prim.Native.Nat.{ℕ, zero, suc, _+_, _*_, _/_, _^_, _≤_, _<_}
 use native.Mathlib.Omega.{arith}
 use native.Mathlib.Nat.{mul-le-mul, mul-comm, mul-assoc}
-use lib.ListN.{length, getD, drop, replicate, length-replicate, drop-of-length-le, getD-replicate, List·getD-append}
+use lib.ListN.{length, take, drop}
+use lib.Seq.{length-front}
 use Rattle.basics.specs.Buffers.{zeros}
 use Rattle.basics.proofs.Booleans.{not-both}
+use Rattle.basics.proofs.Clears.{zeros-length, zeros-same, front-cleared}
 use Rattle.basics.proofs.Packed.{packed-zero}
 use Rattle.automata.specs.Decision.{takes?}
 use Rattle.automata.specs.Lasso.{positions}
@@ -16,14 +18,13 @@ use Rattle.automata.proofs.Cycles.{takes-cycle, cycle-takes}
 use Rattle.automata.proofs.Decision.{takes-right}
 use Rattle.tables.specs.Table.{n-of, meaning, wide-range}
 use Rattle.tables.proofs.Laws.{Valid, valid, meaning-closed}
-use Rattle.lassos.specs.Decision.{as-decision, decision, Lasso-says, Takes-asks, cleared}
+use Rattle.lassos.specs.Decision.{as-decision, decision, Lasso-says, Takes-asks}
 use Rattle.lassos.specs.Graph.{Graph}
 use Rattle.lassos.specs.Product.{product}
 use Rattle.lassos.specs.Refusals.{lasso-refusal}
 use Rattle.lassos.specs.Search.{colour, Search}
 use Rattle.lassos.specs.Steps.{Given, Explore-asks, Searched, found, nothing}
 use Rattle.lassos.specs.declared.Decision.the-variants.{Taken, NotTaken, Refused}
-use Rattle.basics.proofs.Clears.{Clearing}
 use Rattle.lassos.proofs.Colours.{coloured-le}
 use Rattle.lassos.proofs.Given.{size-is}
 use Rattle.lassos.proofs.Parts.{Accepted, accepted}
@@ -49,25 +50,6 @@ fresh g w long white =
       red = λ x y l o. absurd (unmet x l (omega arith));
       fruitless = λ x l o. absurd (unmet x l (omega arith));
     }
-
--- THE WORK WORDS, cleared from the front
-pub record Clearing-to (w : List ℕ) (count : ℕ) (w-now : List ℕ) (i : ℕ) : Type 0 where
-  pub upto : i ≤ count
-  pub clearing : Clearing w w-now i
-
-pub cleared-end : {w w1 : List ℕ} {count i : ℕ} → Clearing-to w count w1 i → count ≤ i → w1 ≡ cleared count w
-unfolding cleared
-cleared-end {count = count} {i = i} h l = let e : i ≡ count = (let b = h .upto in omega arith) in rw e at (h .clearing .is)
-
-cleared-at : (k : ℕ) (w : List ℕ) (i : ℕ) → i < k → getD (cleared k w) i 0 ≡ 0
-unfolding cleared
-cleared-at k w i l =
-    let b : i < length (replicate {A = ℕ} k 0) = rw (length-replicate {A = ℕ} k 0) l in
-    List·getD-append (replicate k 0) (drop k w) 0 i b ∙ getD-replicate k i 0 0 l
-
-cleared-all : (w w1 : List ℕ) → length w1 ≡ length w → cleared (length w) w1 ≡ zeros w
-unfolding cleared zeros
-cleared-all w w1 same = let l : length w1 ≤ length w = omega arith in rw (drop-of-length-le w1 l, append-nil)
 
 -- A TABLE AND A LASSO that are not refused
 module _ {t u v w : List ℕ} (a : Takes-asks t u v w) where
@@ -119,18 +101,20 @@ module _ {t u v w : List ℕ} (a : Takes-asks t u v w) where
         let k = enough in omega arith
 
     pub takes-explore :
-        {w1 : List ℕ} → w1 ≡ cleared ((length u + length v) * states / 16 + 1) w → length w1 ≡ length w →
-        Explore-asks t u v w1 states ((length u + length v) * states) 0
+        {colours : List ℕ} → colours ≡ zeros (take ((length u + length v) * states / 16 + 1) w) →
+        Explore-asks t u v (colours ++ drop ((length u + length v) * states / 16 + 1) w) states ((length u + length v) * states) 0
     unfolding colour
-    takes-explore {w1} is-clear same =
+    takes-explore {colours} clear =
         let s = takes-sized in
+        let k = (length u + length v) * states / 16 + 1 in
+        let w1 = colours ++ drop k w in
+        let same : length w1 ≡ length w = length-front w colours k (rw clear (zeros-length (take k w))) in
         record {
           given = takes-given;
           search =
               fresh (product t u v) w1 (let k = enough in omega arith)
               (λ x l.
-              packed-zero 4 (omega arith) 16 w1 x
-              (rw is-clear (cleared-at ((length u + length v) * states / 16 + 1) w (x / 16) (omega arith))));
+              packed-zero 4 (omega arith) 16 w1 x (front-cleared k w colours colours-inside clear (x / 16) (omega arith)));
         }
 
   -- what the search finds is what the automaton takes
@@ -161,22 +145,22 @@ unfolding as-decision
 as-not-taken r b z e = rw (z, e)
 
 module _ (t u v w : List ℕ) {r : ℕ} (is-refusal : r ≡ lasso-refusal t u v (length w)) where
-  pub decide-refused : {w1 : List ℕ} → (r ≡ 0 → ⊥) → w1 ≡ cleared (length w) w → Lasso-says t u v (Refused r) w w1
+  pub decide-refused : {w1 : List ℕ} → (r ≡ 0 → ⊥) → w1 ≡ zeros w → Lasso-says t u v (Refused r) w w1
   unfolding decision
   decide-refused ne is-clear =
       record {
         answer = rw (sym is-refusal) (as-refused r (takes? (meaning t) u v) ne);
-        work = is-clear ∙ cleared-all w w refl;
+        work = is-clear;
       }
 
   module _ (z : r ≡ 0) {b : Bool} (is-taken : b ≡ takes? (meaning t) u v) (w1 : List ℕ) {w2 : List ℕ}
-      (same : length w1 ≡ length w) (is-clear : w2 ≡ cleared (length w) w1) where
+      (same : length w1 ≡ length w) (is-clear : w2 ≡ zeros w1) where
     pub decide-taken : b ≡ true → Lasso-says t u v Taken w w2
     unfolding decision
     decide-taken e =
         record {
           answer = rw (sym is-refusal) (as-taken r (takes? (meaning t) u v) z (sym is-taken ∙ e));
-          work = is-clear ∙ cleared-all w w1 same;
+          work = is-clear ∙ zeros-same w w1 same;
         }
 
     pub decide-not-taken : b ≡ false → Lasso-says t u v NotTaken w w2
@@ -184,5 +168,5 @@ module _ (t u v w : List ℕ) {r : ℕ} (is-refusal : r ≡ lasso-refusal t u v 
     decide-not-taken e =
         record {
           answer = rw (sym is-refusal) (as-not-taken r (takes? (meaning t) u v) z (sym is-taken ∙ e));
-          work = is-clear ∙ cleared-all w w1 same;
+          work = is-clear ∙ zeros-same w w1 same;
         }

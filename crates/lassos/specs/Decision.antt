@@ -1,9 +1,9 @@
 -- What the lasso decision answers and leaves. Assumes nothing: these are definitions.
 use mathlib.Core.Path.{_≡_}
 use mathlib.Core.Bool.{Bool, true, false}
-use mathlib.Core.List.{List, _++_}
+use mathlib.Core.List.{List}
 use Prim.Native.Nat.{ℕ, zero, suc}
-use lib.ListN.{length, replicate, drop}
+use lib.ListN.{length}
 use Rattle.basics.specs.Buffers.{zeros}
 use Rattle.automata.specs.Decision.{takes?}
 use Rattle.tables.specs.Table.{meaning}
@@ -29,7 +29,3 @@ pub record Lasso-says (t u v : List ℕ) (r : Decision) (w w-now : List ℕ) : T
 -- what the search asks: nothing is refused; it is held to the table's meaning
 pub record Takes-asks (t u v w : List ℕ) : Type 0 where
   pub accepted : lasso-refusal t u v (length w) ≡ 0
-
--- the first words of a buffer are zero, and the others as they were
-unfoldable pub cleared : (count : ℕ) → (before : List ℕ) → List ℕ
-cleared k o = replicate k 0 ++ drop k o

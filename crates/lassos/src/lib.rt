@@ -4,6 +4,7 @@ mod inner_search;
 mod nodes;
 mod outer_search;
 
+use basics::clear32;
 use outer_search::search;
 use tables::letters_of;
 use tables::states_of;
@@ -14,7 +15,7 @@ ghost use lib.ListN.{length};
 ghost use Rattle.automata.specs.Decision.{takes?};
 ghost use Rattle.automata.specs.Lasso.{all-below};
 ghost use Rattle.tables.specs.Table.{meaning};
-ghost use Rattle.lassos.specs.Decision.{Lasso-says, Takes-asks, cleared};
+ghost use Rattle.lassos.specs.Decision.{Lasso-says, Takes-asks};
 ghost use Rattle.lassos.specs.Refusals.{parts-refusal, lasso-refusal};
 
 // What the decision answers: taken, not taken, or the number of the refusal.
@@ -76,18 +77,6 @@ fn lasso_refusal(table: &[u16], prefix: &[u8], cycle: &[u8], work: usize) -> u32
     parts_refusal(states_of(table), letters_of(table), prefix, cycle, work)
 }
 
-// Sets the first work words to zero.
-fn clear(work: &mut [u32], count: usize)
-    requires { ⌜ count ≤ length (now work) ⌝ }
-    ensures { λ _. ⌜ now (work .exit) ≡ cleared count (now (work .entry)) ⌝ }
-{
-    let mut i = 0;
-    while i < count {
-        work[i] = 0;
-        i += 1;
-    }
-}
-
 // Whether a table takes a lasso, none of which is refused. The search asks for white nodes only, so nothing but their colours is cleared.
 fn takes(table: &[u16], prefix: &[u8], cycle: &[u8], work: &mut [u32]) -> bool
     requires { ⌜ Takes-asks (now table) (now prefix) (now cycle) (now work) ⌝ }
@@ -95,7 +84,7 @@ fn takes(table: &[u16], prefix: &[u8], cycle: &[u8], work: &mut [u32]) -> bool
 {
     let states = states_of(table);
     let size = (prefix.len() + cycle.len()) * states;
-    clear(work, size / 16 + 1);
+    clear32(&mut work[..size / 16 + 1]);
     search(table, prefix, cycle, work, states, size)
 }
 
@@ -106,11 +95,11 @@ pub fn decide_lasso(table: &[u16], prefix: &[u8], cycle: &[u8], work: &mut [u32]
     let count = work.len();
     let refusal = lasso_refusal(table, prefix, cycle, count);
     if refusal != 0 {
-        clear(work, count);
+        clear32(work);
         return Decision::Refused(refusal);
     }
     let taken = takes(table, prefix, cycle, work);
-    clear(work, count);
+    clear32(work);
     if taken {
         return Decision::Taken;
     }

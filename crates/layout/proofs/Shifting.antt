@@ -1,14 +1,16 @@
--- Moving the triples up and clearing the state words, a word at a time. Assumes nothing.
+-- Moving the triples up, a word at a time, and clearing the state words. Assumes nothing.
 use mathlib.Core.Path.{_≡_, refl, _∙_}
 use mathlib.Core.List.{List}
 use mathlib.Core.Logic.{inl, inr}
 use Prim.Native.Nat.{ℕ, _+_, _*_, _-_, _≤_, _<_}
 use native.Mathlib.Omega.{arith}
-use borrow.Author.Count.{below-more}
+use borrow.Rule.Slice.PartMut.{putMid}
 use lib.Dec.{eqb}
-use lib.ListN.{length, getD, set, length-set}
+use lib.ListN.{length, getD, set, take, drop, length-set}
 use lib.Seq.{getD-set-same, getD-set-other}
+use Rattle.basics.specs.Buffers.{zeros}
 use Rattle.basics.proofs.Booleans.{either, eqb-eq, eqb-ne}
+use Rattle.basics.proofs.Clears.{part-cleared, part-others}
 use Rattle.layout.specs.Steps.{Room, Moved, Cleared}
 
 -- while the words are moved, from the last to the first: those from i on have been
@@ -57,36 +59,15 @@ move-turn {n} {m} {i} {w} {v} r h l =
 pub move-end : {n m i : ℕ} {w v : List ℕ} → Moving n m i w v → i ≤ 0 → Moved n m w v
 move-end h l = record { moved = λ i b. h .moved i (omega arith) b; beyond = h .beyond }
 
--- while the state words are cleared, from the first to the last: those below i have been
-pub record Clearing (n i : ℕ) (w v : List ℕ) : Type 0 where
-  pub size : length v ≡ length w
-  pub done : i ≤ 2 * n
-  pub cleared : (j : ℕ) → j < i → getD v (3 + j) 0 ≡ 0
-  pub others : (j : ℕ) → 3 + 2 * n ≤ j → getD v j 0 ≡ getD w j 0
-
-pub clear-start : (n : ℕ) (w : List ℕ) → Clearing n 0 w w
-clear-start n w =
-    record {
-      size = refl;
-      done = omega arith;
-      cleared = λ j l. absurd (omega arith);
-      others = λ j l. refl;
-    }
-
-pub clear-turn :
-    {n i : ℕ} {w v : List ℕ} → Room w n 0 → Clearing n i w v → i < 2 * n → Clearing n (i + 1) w (set v (3 + i) 0)
-clear-turn {n} {i} {w} {v} r h l =
+-- the state words are cleared as one part of the words
+pub states-cleared :
+    {n : ℕ} {w part : List ℕ} → Room w n 0 → part ≡ zeros (take (3 + 2 * n - 3) (drop 3 w)) →
+    Cleared n w (putMid 3 (3 + 2 * n - 3) w part)
+states-cleared {n} {w} {part} r clear =
     let room = r .room in
-    let long = h .size in
+    let order : 3 ≤ 3 + 2 * n = omega arith in
+    let inside : 3 + 2 * n ≤ length w = omega arith in
     record {
-      size = length-set v (3 + i) 0 ∙ h .size;
-      done = omega arith;
-      cleared =
-          below-more (λ j. getD (set v (3 + i) 0) (3 + j) 0 ≡ 0) i
-          (λ j a. getD-set-other v (3 + i) (3 + j) 0 0 (omega arith) ∙ h .cleared j a)
-          (getD-set-same v (3 + i) 0 0 (omega arith));
-      others = λ j a. getD-set-other v (3 + i) j 0 0 (omega arith) ∙ h .others j a;
+      cleared = λ i l. part-cleared 3 (3 + 2 * n) w part order inside clear i (omega arith);
+      others = λ i l. part-others 3 (3 + 2 * n) w part order inside clear i l;
     }
-
-pub clear-end : {n i : ℕ} {w v : List ℕ} → Clearing n i w v → 2 * n ≤ i → Cleared n w v
-clear-end h l = record { cleared = λ i b. h .cleared i (omega arith); others = h .others }

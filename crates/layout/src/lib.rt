@@ -1,5 +1,6 @@
 // From numbered states and edges to the words of a chained table. While a system is explored its edges stand in the words as triples (letter,
 // target, source); once the number of states is known they become records, in place.
+use basics::clear16;
 ghost use mathlib.Core.Path.{_≡_};
 ghost use Prim.Native.Nat.{_<_};
 ghost use lib.ListN.{length};
@@ -25,11 +26,7 @@ fn clear_states(words: &mut [u16], states: usize)
     requires { ⌜ Room (now words) states 0 ⌝ }
     ensures { λ _. ⌜ Cleared states (now (words .entry)) (now (words .exit)) ⌝ }
 {
-    let mut i = 0;
-    while i < 2 * states {
-        words[3 + i] = 0;
-        i += 1;
-    }
+    clear16(&mut words[3..3 + 2 * states]);
 }
 
 // The record behind record r + 1, where the edge behind edge r has the same source; zero ends the chain.

@@ -1,7 +1,6 @@
 -- `lassos::decide_lasso` meets its contract. Assumes nothing.
 use borrow.Author.Needs.{needs}
 use mathlib.Core.Path.{sym, _∙_}
-use native.Mathlib.Nat.{le-of-eq}
 use Rattle.lassos.proofs.Decides.{decide-refused, decide-taken, decide-not-taken}
 use Rattle.lassos.proofs.decide_lasso.Statement.{statement}
 use Rattle.lassos.proofs.decide_lasso.Tie as tie
@@ -9,8 +8,8 @@ use Rattle.lassos.proofs.decide_lasso.Tie as tie
 lasso-refusal-requires : tie.Need-lasso-refusal-requires
 lasso-refusal-requires c κs = search needs
 
-clear-requires : tie.Need-clear-requires
-clear-requires c κs = search needs
+clear32-requires : tie.Need-clear32-requires
+clear32-requires c κs = search needs
 
 same-length : tie.Need-same-length
 same-length c = search needs
@@ -19,15 +18,15 @@ returns : tie.Need-returns
 returns c =
     let clean = c .before .before in
     let refused = clean .before .before in
-    decide-refused _ _ _ _ (refused .before .lasso-refusal .ensures) (refused .if1 .taken) (clean .clear .ensures)
+    decide-refused _ _ _ _ (refused .before .lasso-refusal .ensures) (refused .if1 .taken) (clean .clear32 .ensures)
 
 takes-requires : tie.Need-takes-requires
 takes-requires c κs =
     let tested = c .before in
     record { accepted = sym (tested .before .lasso-refusal .ensures) ∙ tested .if1 .left }
 
-clear-requires-2 : tie.Need-clear-requires-2
-clear-requires-2 c κs = le-of-eq (sym (c .before .before .before .takes .kept .1 .1 .1 .0))
+clear32-requires-2 : tie.Need-clear32-requires-2
+clear32-requires-2 c κs = search needs
 
 same-length-2 : tie.Need-same-length-2
 same-length-2 c = search needs
@@ -39,7 +38,7 @@ returns-2 c =
     let tested = decided .before .before in
     decide-taken _ _ _ _ (tested .before .lasso-refusal .ensures) (tested .if1 .left) (decided .takes .ensures) _
     (decided .takes .kept .1 .1 .1 .0)
-    (clean .clear2 .ensures)
+    (clean .clear322 .ensures)
     (c .if2 .taken)
 
 same-length-3 : tie.Need-same-length-3
@@ -52,7 +51,7 @@ returns-3 c =
     let tested = decided .before .before in
     decide-not-taken _ _ _ _ (tested .before .lasso-refusal .ensures) (tested .if1 .left) (decided .takes .ensures) _
     (decided .takes .kept .1 .1 .1 .0)
-    (clean .clear2 .ensures)
+    (clean .clear322 .ensures)
     (c .if2 .left)
 
 pub decide-lasso-spec : {M : Type 1} → statement M
@@ -60,11 +59,11 @@ decide-lasso-spec =
     tie.close
     (tie.spec
     lasso-refusal-requires
-    clear-requires
+    clear32-requires
     same-length
     returns
     takes-requires
-    clear-requires-2
+    clear32-requires-2
     same-length-2
     returns-2
     same-length-3

@@ -1,10 +1,22 @@
 -- `lassos::takes` meets its contract: an accepting node that is reached lies on a cycle of the product exactly where the
 -- automaton takes the lasso. Assumes nothing.
 use borrow.Author.Needs.{needs}
+use mathlib.Core.Path.{sym}
 use native.Mathlib.Omega.{arith}
+use lib.Seq.{length-take-le}
 use Rattle.lassos.proofs.Decides.{size-fits, colours-inside, takes-explore, takes-end}
 use Rattle.lassos.proofs.takes.Statement.{statement}
 use Rattle.lassos.proofs.takes.Tie as tie
+
+-- the places: where the function begins, where the states are counted, and where the colours are cleared
+abbrev start : tie.After-states-of → tie.Start
+start c = c .before .before .before .before .before
+
+abbrev counted : tie.After-clear32 → tie.After-states-of
+counted c = c .before .before
+
+abbrev cleared : tie.After-search-arg → tie.After-clear32
+cleared c = c .before .before .before
 
 states-of-requires : tie.Need-states-of-requires
 states-of-requires c κs = search needs
@@ -13,32 +25,30 @@ add-size : tie.Need-add-size
 add-size c = search needs
 
 mul-size : tie.Need-mul-size
-mul-size c =
-    record { fits = size-fits (c .before .before .before .before .before .pre) (c .states-of .ensures .is) }
+mul-size c = record { fits = size-fits (start c .pre) (c .states-of .ensures .is) }
 
-add-clear : tie.Need-add-clear
-add-clear c = omega (arith, mul-size (c .before))
+add-clear32 : tie.Need-add-clear32
+add-clear32 c = omega (arith, mul-size c)
 
-clear-requires : tie.Need-clear-requires
-clear-requires c κs =
-    let known = c .before in
-    omega (arith, colours-inside (known .before .before .before .before .before .pre) (known .states-of .ensures .is))
+slice-relend-prefix-clear32 : tie.Need-slice-relend-prefix-clear32
+slice-relend-prefix-clear32 c = omega (arith, colours-inside (start c .pre) (c .states-of .ensures .is))
+
+slice-aggregate-clear32 : tie.Need-slice-aggregate-clear32
+slice-aggregate-clear32 c = sym (length-take-le _ _ (slice-relend-prefix-clear32 (c .before)))
+
+clear32-requires : tie.Need-clear32-requires
+clear32-requires c κs = search needs
 
 search-requires : tie.Need-search-requires
 search-requires c κs =
-    let clean = c .before .before .before in
-    let known = clean .before .before in
-    takes-explore (known .before .before .before .before .before .pre) (known .states-of .ensures .is) (clean .clear .ensures)
-    (clean .clear .kept .0)
+    let known = counted (cleared c) in takes-explore (start known .pre) (known .states-of .ensures .is) (cleared c .clear32 .ensures)
 
 same-length : tie.Need-same-length
 same-length c = search needs
 
 returns : tie.Need-returns
 returns c =
-    let searched = c .before .before in
-    let known = searched .before .before .before .before .before .before in
-    takes-end (known .before .before .before .before .before .pre) (searched .search .ensures)
+    let searched = c .before .before in takes-end (start (counted (cleared (searched .before))) .pre) (searched .search .ensures)
 
 pub takes-spec : {M : Type 1} → statement M
 takes-spec =
@@ -47,8 +57,10 @@ takes-spec =
     states-of-requires
     add-size
     mul-size
-    add-clear
-    clear-requires
+    add-clear32
+    slice-relend-prefix-clear32
+    slice-aggregate-clear32
+    clear32-requires
     search-requires
     same-length
     returns)

@@ -1,59 +1,42 @@
--- `layout::clear_states` meets its contract: a turn clears one word (Shifting). Assumes nothing.
-use Prim.Native.Nat.{_-_, _*_}
+-- `layout::clear_states` meets its contract: the state words are one part of the words (Shifting). Assumes nothing.
 use borrow.Author.Needs.{needs}
-use Rattle.layout.proofs.Shifting.{Clearing, clear-start, clear-turn, clear-end}
+use Rattle.layout.proofs.Shifting.{states-cleared}
 use Rattle.layout.proofs.clear_states.Statement.{statement}
 use Rattle.layout.proofs.clear_states.Tie as tie
 
-abbrev Inv-loop : tie.InvT-loop
-Inv-loop words₀ states i₀ words i = Clearing states i words₀ words
+mul-clear16 : tie.Need-mul-clear16
+mul-clear16 c = search needs
 
-abbrev μ-loop : tie.MeasureT-loop
-μ-loop words₀ states i₀ words i = 2 * states - i
+add-clear16 : tie.Need-add-clear16
+add-clear16 c = search needs
 
-loop-holds : tie.Need-loop-holds Inv-loop μ-loop
-loop-holds c = clear-start (c .args .states) (c .args .words .now)
+sub-clear16 : tie.Need-sub-clear16
+sub-clear16 c = search needs
 
-mul-loop : tie.Need-mul-loop Inv-loop μ-loop
-mul-loop c = search needs
+part-clear16-start : tie.Need-part-clear16-start
+part-clear16-start c = search needs
 
-add-words : tie.Need-add-words Inv-loop μ-loop
-add-words c = search needs
+part-clear16-end : tie.Need-part-clear16-end
+part-clear16-end c = search needs
 
-mul-words : tie.Need-mul-words Inv-loop μ-loop
-mul-words c = search needs
+clear16-requires : tie.Need-clear16-requires
+clear16-requires c κs = search needs
 
-slice-write-words : tie.Need-slice-write-words Inv-loop μ-loop
-slice-write-words c = search needs
+same-length : tie.Need-same-length
+same-length c = search needs
 
-add-i : tie.Need-add-i Inv-loop μ-loop
-add-i c = search needs
-
-loop-less : tie.Need-loop-less Inv-loop μ-loop
-loop-less c = search needs
-
-loop-again : tie.Need-loop-again Inv-loop μ-loop
-loop-again c = clear-turn (c .before .before .pre) (c .before .loop .inv) (c .loop-test .taken)
-
-same-length : tie.Need-same-length Inv-loop μ-loop
-same-length c = c .before .loop .inv .size
-
-returns : tie.Need-returns Inv-loop μ-loop
-returns c = clear-end (c .before .loop .inv) (c .loop-test .left)
+returns : tie.Need-returns
+returns c = let clean = c .before .before in states-cleared (clean .before .before .before .pre) (clean .clear16 .ensures)
 
 pub clear-states-spec : {M : Type 1} → statement M
 clear-states-spec =
     tie.close
     (tie.spec
-    Inv-loop
-    μ-loop
-    loop-holds
-    mul-loop
-    add-words
-    mul-words
-    slice-write-words
-    add-i
-    loop-less
-    loop-again
+    mul-clear16
+    add-clear16
+    sub-clear16
+    part-clear16-start
+    part-clear16-end
+    clear16-requires
     same-length
     returns)
