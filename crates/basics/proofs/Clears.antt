@@ -31,7 +31,8 @@ module _ {w w1 : List ℕ} {i : ℕ} (h : Clearing w w1 i) where
   unfolding zeros
   clearing-end l =
       let e : i ≡ length w = (let s = clearing-length in let b = h .upto in omega arith) in
-      let f : length w ≤ i = omega arith in h .is ∙ rw (drop-of-length-le w f, append-nil, e)
+      let f : length w ≤ i = omega arith in
+      let z : replicate i 0 ++ drop i w ≡ replicate (length w) 0 = rw (drop-of-length-le w f, append-nil, e) in h .is ∙ z
 
 -- only the length of what was there matters
 pub zeros-same : (w w1 : List ℕ) → length w1 ≡ length w → zeros w1 ≡ zeros w

@@ -6,6 +6,8 @@ mod outer_search;
 
 use basics::clear32;
 use outer_search::search;
+use tables::WIDE_RECORDS;
+use tables::WIDE_STATES;
 use tables::letters_of;
 use tables::states_of;
 use tables::table_refusal;
@@ -17,6 +19,9 @@ ghost use Rattle.automata.specs.Lasso.{all-below};
 ghost use Rattle.tables.specs.Table.{meaning};
 ghost use Rattle.lassos.specs.Decision.{Lasso-says, Takes-asks};
 ghost use Rattle.lassos.specs.Refusals.{parts-refusal, lasso-refusal};
+
+// The letters that a prefix may have, and a loop.
+pub const PART_LETTERS: usize = 4096;
 
 // What the decision answers: taken, not taken, or the number of the refusal.
 pub enum Decision {
@@ -48,10 +53,10 @@ pub fn parts_refusal(n: usize, k: usize, prefix: &[u8], cycle: &[u8], work: usiz
     if cycle.len() == 0 {
         return 13;
     }
-    if prefix.len() > 4096 {
+    if prefix.len() > PART_LETTERS {
         return 14;
     }
-    if cycle.len() > 4096 {
+    if cycle.len() > PART_LETTERS {
         return 14;
     }
     if !letters_below(prefix, k) {
@@ -70,7 +75,7 @@ pub fn parts_refusal(n: usize, k: usize, prefix: &[u8], cycle: &[u8], work: usiz
 fn lasso_refusal(table: &[u16], prefix: &[u8], cycle: &[u8], work: usize) -> u32
     ensures { λ r. ⌜ r ≡ lasso-refusal (now (table .entry)) (now (prefix .entry)) (now (cycle .entry)) work ⌝ }
 {
-    let refusal = table_refusal(table, 65535, 65535);
+    let refusal = table_refusal(table, WIDE_STATES, WIDE_RECORDS);
     if refusal != 0 {
         return refusal;
     }

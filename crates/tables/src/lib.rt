@@ -9,6 +9,24 @@ ghost use Rattle.tables.specs.Marks.{Mark, Heads-named, Nexts-named};
 ghost use Rattle.tables.specs.Sizes.{sizes-refusal};
 ghost use Rattle.tables.specs.Table.{n-of, k-of, m-of, flags-of, head-of, letter-of, target-of, next-of, flags-good, records-good, chains-good, table-refusal};
 
+// THE LIMITS of document 01's tables.
+
+// The largest 16-bit word.
+pub const WORD_MOST: usize = 65535;
+
+// The letters that any table may have.
+pub const LETTERS: usize = 16;
+
+// A pattern's states and records.
+pub const PATTERN_STATES: usize = 32;
+
+pub const PATTERN_RECORDS: usize = 4096;
+
+// A wide table's states and records.
+pub const WIDE_STATES: usize = WORD_MOST;
+
+pub const WIDE_RECORDS: usize = WORD_MOST;
+
 // READING WORDS. Every reading answers a number wide enough to index with.
 
 // A word of the table; zero past its end.
@@ -237,7 +255,7 @@ fn sizes_refusal(table: &[u16], states: usize, records: usize) -> u32
     if k < 1 {
         return 4;
     }
-    if k > 16 {
+    if k > LETTERS {
         return 4;
     }
     let m = records_of(table);
