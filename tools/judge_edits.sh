@@ -34,7 +34,8 @@ judge() {
         function fault() {
             if (place !~ /^proofs\//) return "its first error is not in a proof"
             if (name ~ /-less(-[0-9]+)?$/ && place ~ /\/Proof\.antt:/) return "its first error is about the end of a loop"
-            if (text ~ /expected type `([^`]* <|suc [^`]* ≤) 2 \^ [^`]*`/ || text ~ /`([^`]* <|suc [^`]* ≤) 2 \^ [^`]*` *\(expected\)/)
+            if (text ~ /expected type `([^`]* <|suc [^`]* ≤) 2 \^ [^`]*`/ || text ~ /`([^`]* <|suc [^`]* ≤) 2 \^ [^`]*` *\(expected\)/ ||
+                text ~ /expected type `[^` ]*_<_ [^`]*_\^_ 2 (\([^`()]*\)|[0-9]+)\)`/)
                 return "its first error is about the width of a number"
             if (text ~ /^(as printed|computed as far as they go), the two types /) return ""
             if (text ~ /^expected type `.*but this has type `/) return ""
