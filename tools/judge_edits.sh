@@ -39,7 +39,7 @@ judge() {
                 return "its first error is about the width of a number"
             if (text ~ /^(as printed|computed as far as they go), the two types /) return ""
             if (text ~ /^expected type `.*but this has type `/) return ""
-            if (text ~ /  ≟ `.*  does not hold \(this comparison/) return ""
+            if (text ~ /≟ `.*does not hold \(this comparison/) return ""
             if (text ~ /^`omega`: the goal does not follow from what it read\. All of that holds, and the goal fails, at /) return ""
             if (text ~ /what it leaves must be a path whose two ends are equal, and `.* is none/) return ""
             if (text ~ /`cc`: the equations do not join `/) return ""
