@@ -3,67 +3,84 @@ RT = rt
 CC = cc
 CXX = c++
 PREFIX = /usr/local
-VERSION = 0.1.0
 
-# Where the C programs go, and how they are compiled. ARCHIVE is made from the proved crates.
+# The version stands in the header, and nowhere else.
+VERSION = $(shell sed -n 's/^.define TUBOCHRE_VERSION_[A-Z]* //p' include/tubochre.h | paste -sd. -)
+
+# What the proved crates are made into. The archive of the records is installed under a name of the library's own.
+ARCHIVE = target/staticlib/libtubochre.a
+RECORDS = target/staticlib/librecords.a
+LISTING = target/bin/listing
+
+# Where the C programs go, and how they are compiled.
 OUT = target/host
 CFLAGS = -O2 -g
 WARNINGS = -Wall -Wextra -Wpedantic -Werror
-ARCHIVE = target/staticlib/libtubochre.a
-RECORDS = target/staticlib/librecords.a
+BUILD = $(CC) -std=c11 $(WARNINGS) $(CFLAGS) -Iinclude -Iprograms -Ibench -Itests/calls -Itests/support -Itests/reference
 
-BUILD = $(CC) -std=c11 $(WARNINGS) $(CFLAGS) -Iinclude -Ihost -Ibench -Itests/support -Itests/reference
-SUPPORT = tests/support/draw.c tests/support/fence.c tests/support/rings.c tests/support/stack.c
-REFERENCE = tests/reference/reference.c tests/reference/reference_lasso.c tests/reference/reference_listing.c
-HEADERS = $(wildcard include/*.h host/*.h bench/*.h tests/support/*.h tests/reference/*.h)
-TESTS = $(addprefix $(OUT)/,test_header test_header_cxx test_calls test_rooms test_limits test_records compare compare_listing)
+HEADERS = $(wildcard include/*.h programs/*.h bench/*.h tests/*/*.h)
+PARTS = $(addprefix programs/,common.c words.c places.c lassos.c complement.c print.c progress.c)
+SUPPORT = $(addprefix tests/support/,arguments.c draw.c fence.c rings.c room.c stack.c)
+REFERENCE = $(addprefix tests/reference/,reference.c reference_lasso.c reference_listing.c)
+CALLS = $(addprefix $(OUT)/,test_calls test_rooms test_limits test_null)
+TESTS = $(CALLS) $(addprefix $(OUT)/,test_header test_header_cxx test_records compare compare_listing)
 
-.PHONY: run test lib host bench install clean
+.PHONY: run test test-c tests lib host bench install clean
 
 run:
 	$(RT) check listing
-	echo '2 2 4 1 1 2 4 0 0 2 1 0 3 0 1 0 0 1 0' | target/bin/listing
+	$(LISTING) < examples/pattern-a.txt
 
+# The gate: proofs, must-fail edits, programs, and test-c.
 test:
 	.ci/run
 
+# The tests in C alone, on the archives and the listing program.
+test-c: lib $(LISTING)
+	tests/run_host.sh
+
 lib: $(ARCHIVE) $(RECORDS)
+
+# The programs for people, and the programs that test the calls (these ask for a C++ compiler too).
+host: $(OUT)/tubochre-bench
+
+tests: $(TESTS)
+
+bench: $(OUT)/measure
+	$(OUT)/measure
+	bench/instructions.sh $(OUT)/measure
 
 SOURCES = crates.txt $(shell find crates -name '*.rt' -o -name '*.antt')
 
-target/staticlib/libtubochre.a: $(SOURCES)
-	$(RT) staticlib tubochre
+target/staticlib/lib%.a: $(SOURCES)
+	$(RT) staticlib $*
 
-target/staticlib/librecords.a: $(SOURCES)
-	$(RT) staticlib records
+target/bin/listing: $(SOURCES)
+	$(RT) check listing
 
-host: $(OUT)/tubochre-bench $(TESTS)
-
-bench: $(OUT)/bench
-	$(OUT)/bench
-	bench/instructions.sh $(OUT)/bench
-
-$(OUT)/tubochre-bench: host/bench.c $(ARCHIVE)
-$(OUT)/test_header: host/test_header.c
-$(OUT)/test_calls $(OUT)/test_rooms $(OUT)/test_limits: $(OUT)/%: host/%.c host/test.c $(SUPPORT) $(ARCHIVE)
-$(OUT)/test_records: host/test_records.c host/test.c $(SUPPORT) $(ARCHIVE) $(RECORDS)
+$(OUT)/tubochre-bench: programs/tubochre_bench.c $(PARTS) $(ARCHIVE)
+$(OUT)/test_header: tests/calls/test_header.c
+$(CALLS): $(OUT)/%: tests/calls/%.c tests/calls/test.c $(SUPPORT) $(ARCHIVE) $(RECORDS)
+$(OUT)/test_records: tests/calls/test_records.c tests/calls/test.c $(SUPPORT) $(ARCHIVE) $(RECORDS)
 $(OUT)/compare $(OUT)/compare_listing: $(OUT)/%: tests/reference/%.c $(REFERENCE) $(SUPPORT) $(ARCHIVE)
-$(OUT)/bench: bench/bench.c bench/fast.c $(SUPPORT) $(ARCHIVE)
+$(OUT)/measure: bench/measure.c bench/fast.c $(SUPPORT) $(ARCHIVE)
 
 $(OUT)/%: $(HEADERS)
 	@mkdir -p $(OUT)
 	$(BUILD) $(filter %.c %.a,$^) -pthread -o $@
 
-$(OUT)/test_header_cxx: host/test_header.c $(HEADERS)
+$(OUT)/test_header_cxx: tests/calls/test_header.c $(HEADERS)
 	@mkdir -p $(OUT)
 	$(CXX) -std=c++11 $(WARNINGS) $(CFLAGS) -Iinclude -x c++ $< -o $@
 
-install: $(ARCHIVE) $(RECORDS)
-	install -d $(DESTDIR)$(PREFIX)/lib/pkgconfig $(DESTDIR)$(PREFIX)/include
+install: $(ARCHIVE) $(RECORDS) $(LISTING) $(OUT)/tubochre-bench
+	install -d $(DESTDIR)$(PREFIX)/bin $(DESTDIR)$(PREFIX)/lib/pkgconfig $(DESTDIR)$(PREFIX)/include
+	install -m 755 $(OUT)/tubochre-bench $(DESTDIR)$(PREFIX)/bin/tubochre-bench
+	install -m 755 $(LISTING) $(DESTDIR)$(PREFIX)/bin/tubochre-listing
 	install -m 644 $(ARCHIVE) $(DESTDIR)$(PREFIX)/lib/libtubochre.a
-	install -m 644 $(RECORDS) $(DESTDIR)$(PREFIX)/lib/librecords.a
+	install -m 644 $(RECORDS) $(DESTDIR)$(PREFIX)/lib/libtubochre_records.a
 	install -m 644 include/tubochre.h $(DESTDIR)$(PREFIX)/include/tubochre.h
-	sed -e 's|@PREFIX@|$(PREFIX)|' -e 's|@VERSION@|$(VERSION)|' host/tubochre.pc.in > $(DESTDIR)$(PREFIX)/lib/pkgconfig/tubochre.pc
+	sed -e 's|@PREFIX@|$(PREFIX)|' -e 's|@VERSION@|$(VERSION)|' include/tubochre.pc.in > $(DESTDIR)$(PREFIX)/lib/pkgconfig/tubochre.pc
 
 clean:
 	rm -rf target

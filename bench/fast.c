@@ -1,21 +1,13 @@
 #include "fast.h"
 
+#include "room.h"
+
 #include <stdbool.h>
 #include <stdio.h>
 #include <stdlib.h>
 #include <string.h>
 
 enum { STATES = 32, LETTERS = 16, RECORDS = 4096, WIDE = 65535, PART = 4096 };
-
-static void *memory(size_t bytes)
-{
-    void *const p = malloc(bytes > 0 ? bytes : 1);
-    if (p == NULL) {
-        fputs("fast: out of memory\n", stderr);
-        exit(2);
-    }
-    return p;
-}
 
 /* ---- The table. */
 
@@ -183,7 +175,7 @@ static void widen(struct build *b)
     uint32_t i;
     free(b->slot);
     b->slots *= 2;
-    b->slot = memory(b->slots * sizeof *b->slot);
+    b->slot = room_for(b->slots, sizeof *b->slot);
     memset(b->slot, 0, b->slots * sizeof *b->slot);
     for (i = 0; i < b->states; i++)
         *slot_for(b, b->sets + 4 * (size_t)i) = i + 1;
@@ -230,9 +222,7 @@ static void add_edge(struct build *b, uint32_t source, uint32_t letter, uint32_t
     if (b->edges < WIDE) {
         if (b->edges == b->room) {
             b->room = 2 * b->room + 256;
-            b->edge = realloc(b->edge, b->room * sizeof *b->edge);
-            if (b->edge == NULL)
-                exit(2);
+            b->edge = room_grown(b->edge, b->room, sizeof *b->edge);
         }
         b->edge[b->edges] = edge;
     }
@@ -498,8 +488,8 @@ struct fast_decision fast_lasso(const uint16_t *table, size_t len, const uint8_t
     if (d.number != 0)
         return d;
     memset(&s, 0, sizeof s);
-    first = memory(((size_t)table[0] * table[1] + 2) * sizeof *first);
-    target = memory(table[2] * sizeof *target);
+    first = room_for((size_t)table[0] * table[1] + 2, sizeof *first);
+    target = room_for(table[2], sizeof *target);
     list_targets(table, first, target);
     s.table = table;
     s.prefix = prefix;

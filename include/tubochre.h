@@ -40,6 +40,14 @@
 #include <stddef.h>
 #include <stdint.h>
 
+/* The version of this header, of the archives and of the programs. */
+#define TUBOCHRE_VERSION_MAJOR 0
+#define TUBOCHRE_VERSION_MINOR 1
+#define TUBOCHRE_VERSION_PATCH 0
+#define TUBOCHRE_VERSION_TEXT(major, minor, patch) #major "." #minor "." #patch
+#define TUBOCHRE_VERSION_OF(major, minor, patch) TUBOCHRE_VERSION_TEXT(major, minor, patch)
+#define TUBOCHRE_VERSION TUBOCHRE_VERSION_OF(TUBOCHRE_VERSION_MAJOR, TUBOCHRE_VERSION_MINOR, TUBOCHRE_VERSION_PATCH)
+
 #ifdef __cplusplus
 extern "C" {
 #endif

@@ -5,12 +5,13 @@
  * Each trial has a seed of its own, one more than the last. At a difference the program says which trial it was and
  * ends with status 1; --seed with that number runs it as the first trial. All that the library writes to lies between
  * unreadable pages and holds garbage before the call; every word of it is compared after. */
+#include "arguments.h"
 #include "draw.h"
 #include "fence.h"
 #include "reference.h"
+#include "room.h"
 #include "tubochre.h"
 
-#include <errno.h>
 #include <inttypes.h>
 #include <stdarg.h>
 #include <stdio.h>
@@ -72,16 +73,6 @@ static struct {
     uint32_t *expected_sets, *expected_work;
 } lent;
 
-static void *room_for(size_t bytes)
-{
-    void *const p = malloc(bytes);
-    if (p == NULL) {
-        fputs("compare: out of memory\n", stderr);
-        exit(2);
-    }
-    return p;
-}
-
 static void make_rooms(void)
 {
     lent.table = fence_make(WORDS_ROOM * sizeof(uint16_t));
@@ -90,9 +81,9 @@ static void make_rooms(void)
     lent.words = fence_make(WORDS_ROOM * sizeof(uint16_t));
     lent.sets = fence_make(SETS_ROOM * sizeof(uint32_t));
     lent.work = fence_make(WORK_ROOM * sizeof(uint32_t));
-    lent.expected_words = room_for(WORDS_ROOM * sizeof(uint16_t));
-    lent.expected_sets = room_for(SETS_ROOM * sizeof(uint32_t));
-    lent.expected_work = room_for(WORK_ROOM * sizeof(uint32_t));
+    lent.expected_words = room_for(WORDS_ROOM, sizeof(uint16_t));
+    lent.expected_sets = room_for(SETS_ROOM, sizeof(uint32_t));
+    lent.expected_work = room_for(WORK_ROOM, sizeof(uint32_t));
 }
 
 static enum fence_side some_side(struct random *r)
@@ -315,7 +306,7 @@ static void try_complement(struct random *r, const struct drawn_table *t, const 
                            struct tubochre_counts counts)
 {
     const size_t len = tubochre_table_words(counts.states, counts.edges);
-    uint16_t *const words = room_for(len * sizeof *words);
+    uint16_t *const words = room_for(len, sizeof *words);
     int i;
     memcpy(words, lent.expected_words, len * sizeof *words); /* compared with what the library wrote */
     if (counts.states > reference_bound(t->words))
@@ -418,35 +409,13 @@ static void print_summary(uint64_t seed, uint64_t trials)
            tally.lassos, tally.decisions, tally.taken, tally.runs_checked, tally.damaged);
 }
 
-static uint64_t number_argument(const char *text)
-{
-    char *end;
-    uint64_t number;
-    errno = 0;
-    number = strtoull(text, &end, 10);
-    if (text[0] < '0' || text[0] > '9' || *end != '\0' || errno != 0) {
-        fprintf(stderr, "compare: not a number: %s\n", text);
-        exit(2);
-    }
-    return number;
-}
-
 int main(int argc, char **argv)
 {
+    static const char usage[] = "usage: compare [--seed N] [--trials N]\n";
     uint64_t seed = default_seed, trials = TRIALS, i;
-    int a;
-    for (a = 1; a + 1 < argc; a += 2) {
-        if (strcmp(argv[a], "--seed") == 0)
-            seed = number_argument(argv[a + 1]);
-        else if (strcmp(argv[a], "--trials") == 0)
-            trials = number_argument(argv[a + 1]);
-        else
-            break;
-    }
-    if (a < argc) {
-        fputs("usage: compare [--seed N] [--trials N]\n", stderr);
-        return 2;
-    }
+    const struct argument known[] = {{"--seed", &seed, NULL}, {"--trials", &trials, NULL}};
+    if (read_arguments(argc, argv, known, 2, usage) > 0)
+        wrong_use(argv[1], usage);
     make_rooms();
     fence_watch(trial.text);
     printf("compare: %" PRIu64 " trials from seed %" PRIu64 "\n", trials, seed);

@@ -5,9 +5,11 @@
  * Each trial has a seed of its own, one more than the last. At a difference the program shows the input, says which
  * trial it was, and ends with status 1. */
 #define _GNU_SOURCE
+#include "arguments.h"
 #include "draw.h"
 #include "reference.h"
 #include "rings.h"
+#include "room.h"
 
 #include <errno.h>
 #include <fcntl.h>
@@ -249,8 +251,7 @@ static int finish_program(pid_t child, char **printed, size_t *len)
     int status;
     ssize_t got;
     need(waitpid(child, &status, 0) == child, "waitpid");
-    *printed = malloc((size_t)room);
-    need(*printed != NULL, "malloc");
+    *printed = room_for((size_t)room, 1);
     got = pread(program.output, *printed, (size_t)room, 0);
     need(got >= 0, "pread");
     *len = (size_t)got;
@@ -323,36 +324,14 @@ static void compare_rings(struct random *r)
     }
 }
 
-static uint64_t number_argument(const char *text)
-{
-    char *end;
-    uint64_t number;
-    errno = 0;
-    number = strtoull(text, &end, 10);
-    if (text[0] < '0' || text[0] > '9' || *end != '\0' || errno != 0) {
-        fprintf(stderr, "compare_listing: not a number: %s\n", text);
-        exit(2);
-    }
-    return number;
-}
-
 int main(int argc, char **argv)
 {
+    static const char usage[] = "usage: compare_listing PROGRAM [--seed N] [--trials N]\n";
     uint64_t seed = default_seed, trials = TRIALS, i;
+    const struct argument known[] = {{"--seed", &seed, NULL}, {"--trials", &trials, NULL}};
     struct random r = random_from(0);
-    int a;
-    for (a = 2; a + 1 < argc; a += 2) {
-        if (strcmp(argv[a], "--seed") == 0)
-            seed = number_argument(argv[a + 1]);
-        else if (strcmp(argv[a], "--trials") == 0)
-            trials = number_argument(argv[a + 1]);
-        else
-            break;
-    }
-    if (argc < 2 || argv[1][0] == '-' || a < argc) {
-        fputs("usage: compare_listing PROGRAM [--seed N] [--trials N]\n", stderr);
-        return 2;
-    }
+    if (read_arguments(argc, argv, known, 2, usage) != 1)
+        wrong_use("one program is named", usage);
     program.path = argv[1];
     program.input = nameless_file();
     program.output = nameless_file();

@@ -1,6 +1,7 @@
 /* The check and the build. */
 #include "reference.h"
 #include "reference_parts.h"
+#include "room.h"
 
 #include <stdio.h>
 #include <stdlib.h>
@@ -8,23 +9,6 @@
 
 /* Up to so many states, candidates are all sets of states. */
 enum { EVERY_CANDIDATE = 6 };
-
-void *reference_grown(void *old, size_t count, size_t size)
-{
-    void *const p = realloc(old, (count > 0 ? count : 1) * size);
-    if (p == NULL) {
-        fputs("reference: out of memory\n", stderr);
-        exit(2);
-    }
-    return p;
-}
-
-void *reference_cleared(size_t count, size_t size)
-{
-    void *const p = reference_grown(NULL, count, size);
-    memset(p, 0, (count > 0 ? count : 1) * size);
-    return p;
-}
 
 /* ---- The table: refusals 2 to 9. */
 
@@ -69,7 +53,7 @@ static int by_value(const void *a, const void *b)
 /* All links that name a record, sorted, are 1, 2, … m exactly if each record is named once. */
 static bool each_named_once(const uint16_t *t)
 {
-    uint16_t *const link = reference_grown(NULL, (size_t)t[0] + t[2], sizeof *link);
+    uint16_t *const link = room_for((size_t)t[0] + t[2], sizeof *link);
     size_t count = 0, i;
     uint32_t q, r;
     bool good;
@@ -239,7 +223,7 @@ static uint32_t add_state(struct reference_complement *x, const struct quadruple
 {
     if (x->states == x->states_room) {
         x->states_room = 2 * x->states_room + 16;
-        x->state = reference_grown(x->state, x->states_room, sizeof *x->state);
+        x->state = room_grown(x->state, x->states_room, sizeof *x->state);
     }
     memset(&x->state[x->states], 0, sizeof x->state[0]);
     x->state[x->states].quadruple = *q;
@@ -275,7 +259,7 @@ static void add_edge(struct reference_complement *x, uint32_t source, uint32_t l
     if (x->edges < WIDE_MOST) {
         if (x->edges == x->edges_room) {
             x->edges_room = 2 * x->edges_room + 16;
-            x->edge = reference_grown(x->edge, x->edges_room, sizeof *x->edge);
+            x->edge = room_grown(x->edge, x->edges_room, sizeof *x->edge);
         }
         x->edge[x->edges] = edge;
     }
@@ -439,7 +423,7 @@ static void add_initials(struct reference_complement *x, const struct pattern *p
 
 struct reference_complement *reference_explore(const uint16_t *table, size_t len)
 {
-    struct reference_complement *const x = reference_cleared(1, sizeof *x);
+    struct reference_complement *const x = room_cleared(1, sizeof *x);
     struct pattern p;
     uint32_t source, letter;
     x->number = pattern_refusal(table, len, &p);

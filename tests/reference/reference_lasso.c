@@ -1,6 +1,7 @@
 /* The lasso decision, by powers of the loop's relation, and the number of accepting runs. */
 #include "reference.h"
 #include "reference_parts.h"
+#include "room.h"
 
 #include <stdlib.h>
 #include <string.h>
@@ -21,14 +22,14 @@ static struct graph graph_of(const uint16_t *t)
     const size_t lists = (size_t)g.states * g.letters;
     size_t i, *fill;
     uint32_t q, r;
-    g.first = reference_cleared(lists + 1, sizeof *g.first);
-    g.target = reference_cleared(t[2], sizeof *g.target);
+    g.first = room_cleared(lists + 1, sizeof *g.first);
+    g.target = room_cleared(t[2], sizeof *g.target);
     for (q = 0; q < g.states; q++)
         for (r = head_of(t, q); r != 0; r = record_of(t, r)[2])
             g.first[(size_t)q * g.letters + record_of(t, r)[0] + 1]++;
     for (i = 0; i < lists; i++)
         g.first[i + 1] += g.first[i];
-    fill = reference_grown(NULL, lists, sizeof *fill);
+    fill = room_for(lists, sizeof *fill);
     memcpy(fill, g.first, lists * sizeof *fill);
     for (q = 0; q < g.states; q++)
         for (r = head_of(t, q); r != 0; r = record_of(t, r)[2])
@@ -63,7 +64,7 @@ static size_t bits_words(uint32_t size)
 
 static bits bits_new(uint32_t size)
 {
-    return reference_cleared(bits_words(size), sizeof(uint64_t));
+    return room_cleared(bits_words(size), sizeof(uint64_t));
 }
 
 static bool bits_has(const uint64_t *set, uint32_t i)
@@ -193,15 +194,15 @@ static struct relation relation_of(const struct graph *g, const uint64_t *starts
     struct relation m = {0, NULL, 0, NULL, NULL};
     struct found_rows f;
     uint32_t i;
-    m.member = reference_grown(NULL, g->states, sizeof *m.member);
-    f.number = reference_cleared(g->states, sizeof *f.number);
-    f.path = reference_cleared(g->states, sizeof *f.path);
-    f.through = reference_cleared(g->states, sizeof *f.through);
+    m.member = room_for(g->states, sizeof *m.member);
+    f.number = room_cleared(g->states, sizeof *f.number);
+    f.path = room_cleared(g->states, sizeof *f.path);
+    f.through = room_cleared(g->states, sizeof *f.through);
     add_members(&m, &f, g, starts);
     find_rows(&m, &f, g, loop, len);
     m.words = bits_words(m.members);
-    m.path = reference_cleared(m.members * m.words, sizeof *m.path);
-    m.through = reference_cleared(m.members * m.words, sizeof *m.through);
+    m.path = room_cleared(m.members * m.words, sizeof *m.path);
+    m.through = room_cleared(m.members * m.words, sizeof *m.through);
     for (i = 0; i < m.members; i++) {
         renumber(&f, g, f.path[i], m.path + i * m.words);
         renumber(&f, g, f.through[i], m.through + i * m.words);
@@ -370,7 +371,7 @@ static unsigned targets_in(const struct graph *g, uint32_t q, uint32_t letter, c
 static bool live_back(const struct graph *g, const uint8_t *word, size_t len, const uint64_t *reached, bits living)
 {
     const size_t words = bits_words(g->states);
-    bits *const at = reference_cleared(len + 1, sizeof *at);
+    bits *const at = room_cleared(len + 1, sizeof *at);
     bool forks = false;
     size_t i;
     for (i = 0; i <= len; i++) {

@@ -1,6 +1,7 @@
 /* The text that the listing program prints. */
 #include "reference.h"
 #include "reference_parts.h"
+#include "room.h"
 
 #include <stdarg.h>
 #include <stdio.h>
@@ -18,7 +19,7 @@ static void print(struct page *page, const char *format, ...)
     va_list words;
     if (page->room - page->len < 100) {
         page->room = 2 * page->room + 100;
-        page->text = reference_grown(page->text, page->room, 1);
+        page->text = room_grown(page->text, page->room, 1);
     }
     va_start(words, format);
     page->len += (size_t)vsnprintf(page->text + page->len, 100, format, words);
@@ -85,9 +86,9 @@ static void print_complement(struct page *page, const struct reference_complemen
 char *reference_listing(const char *text, size_t len, size_t *printed)
 {
     struct page page = {NULL, 0, 0};
-    uint16_t *const table = reference_grown(NULL, NUMBERS_MOST + 1, sizeof *table);
-    uint16_t *const words = reference_grown(NULL, LISTING_WORDS, sizeof *words);
-    uint32_t *const sets = reference_grown(NULL, 4 * LISTING_STATES, sizeof *sets);
+    uint16_t *const table = room_for(NUMBERS_MOST + 1, sizeof *table);
+    uint16_t *const words = room_for(LISTING_WORDS, sizeof *words);
+    uint32_t *const sets = room_for(4 * LISTING_STATES, sizeof *sets);
     size_t count;
     if (!read_words(text, len, table, &count)) {
         print(&page, "refused 1\n");

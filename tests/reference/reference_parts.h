@@ -1,4 +1,4 @@
-/* What the reference's files share: memory, and the words of a table. */
+/* What the reference's files share: the words of a table, and a complement as it is explored. */
 #ifndef REFERENCE_PARTS_H
 #define REFERENCE_PARTS_H
 
@@ -7,10 +7,6 @@
 #include <stdint.h>
 
 enum { PATTERN_STATES = 32, PATTERN_RECORDS = 4096, WIDE_MOST = 65535, LETTERS_MOST = 16 };
-
-/* Memory for so many things, its old content kept, or the end of the program. */
-void *reference_grown(void *old, size_t count, size_t size);
-void *reference_cleared(size_t count, size_t size);
 
 /* Which of 2 to 9 refuses a table, or 0. */
 uint32_t reference_table_refusal(const uint16_t *t, size_t len, uint32_t states_most, uint32_t records_most);

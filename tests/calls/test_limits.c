@@ -1,6 +1,7 @@
 /* The largest complements and tables, what the calls need of the stack, and calls from many threads at once. */
 #define _GNU_SOURCE
 #include "rings.h"
+#include "room.h"
 #include "stack.h"
 #include "test.h"
 
@@ -11,16 +12,6 @@
 
 enum { STACK_PROMISED = 32 * 1024, THREADS = 4, ROUNDS = 20 };
 
-static void *room_for(size_t bytes)
-{
-    void *const p = malloc(bytes);
-    if (p == NULL) {
-        fputs("test_limits: out of memory\n", stderr);
-        exit(2);
-    }
-    return p;
-}
-
 /* ---- Large complements. */
 
 /* A build with more room than the largest complement may have, so that only the limits can refuse. */
@@ -29,8 +20,8 @@ static void try_large(uint32_t p, uint32_t r, uint32_t k, uint32_t number)
     static uint16_t table[2000];
     const size_t len = tubochre_table_words(p + r + 1, (p + r + 1) * k);
     const size_t words_len = TUBOCHRE_WIDE_WORDS_MOST + 1000, sets_len = tubochre_sets_words(70000);
-    uint16_t *const words = room_for(words_len * sizeof *words);
-    uint32_t *const sets = room_for(sets_len * sizeof *sets);
+    uint16_t *const words = room_for(words_len, sizeof *words);
+    uint32_t *const sets = room_for(sets_len, sizeof *sets);
     const uint32_t states = number == 0 ? p << r : 0;
     struct tubochre_counts counts;
     size_t i, left = 0;
@@ -58,7 +49,7 @@ static void try_largest_table(void)
     const uint32_t n = TUBOCHRE_WIDE_STATES_MOST;
     const size_t len = tubochre_table_words(n, n);
     const struct lasso one = {zeros, 0, zeros, 1}, three = {zeros, 5, zeros, 3};
-    uint16_t *const words = room_for(len * sizeof *words);
+    uint16_t *const words = room_for(len, sizeof *words);
     ring_table(words, n, 1, n);
     expect(decide(words, len, one) == TUBOCHRE_TAKEN, "a ring of 65,535 with an accepting state");
     expect(decide(words, len, three) == TUBOCHRE_TAKEN, "a ring of 65,535 with an accepting state, a longer lasso");
@@ -78,7 +69,7 @@ static void try_most_records(void)
     static const uint8_t zeros[100];
     const size_t len = tubochre_table_words(1, TUBOCHRE_WIDE_RECORDS_MOST);
     const struct lasso l = {zeros, 50, zeros, 50};
-    uint16_t *const words = room_for(len * sizeof *words);
+    uint16_t *const words = room_for(len, sizeof *words);
     ring_table(words, 1, 1, TUBOCHRE_WIDE_RECORDS_MOST);
     expect(decide(words, len, l) == TUBOCHRE_TAKEN, "one edge 65,535 times");
     words[3] = 1;
@@ -120,7 +111,7 @@ static void *all_calls(void *data)
 
 static struct job *new_job(void)
 {
-    struct job *const j = room_for(sizeof *j);
+    struct job *const j = room_for(1, sizeof *j);
     memset(j, 0xa5, sizeof *j);
     ring_pattern(j->pattern, P, R, K);
     return j;

@@ -2,6 +2,7 @@
 
 #include "draw.h"
 #include "fence.h"
+#include "room.h"
 
 #include <stdarg.h>
 #include <stdio.h>
@@ -67,11 +68,7 @@ static void *spoilt(const struct fence *fence, size_t len, enum fence_side side)
 
 static void *kept(const void *bytes, size_t len)
 {
-    void *const copy = malloc(len > 0 ? len : 1);
-    if (copy == NULL) {
-        fputs("test: out of memory\n", stderr);
-        exit(2);
-    }
+    void *const copy = room_for(len, 1);
     memcpy(copy, bytes, len);
     return copy;
 }

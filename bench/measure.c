@@ -1,19 +1,21 @@
 /* The library's calls beside an unverified reference written for speed, in one process, on the same inputs.
  *
- *     bench [--quick] [check] [build] [growth] [stack]
- *     bench count LETTERS
+ *     measure [--quick] [check] [build] [growth] [stack]
+ *     measure --count LETTERS
  *
  * For each row both are run once to warm up, and what they answer and leave is compared. Then they take turns, and the
  * medians of the processor's time are printed. What is timed is whole calls that leave the same in the lent memory:
  * both clear the unused words of a build, and after a decision as many work words as the library is lent. The reference
  * allocates and frees its own tables, and is lent one block of work words more.
  *
- * `count` makes one decision only, with a loop of so many letters on the table of the growth rows, for a tool that
+ * `--count` makes one decision only, with a loop of so many letters on the table of the growth rows, for a tool that
  * counts its instructions (instructions.sh). */
 #define _GNU_SOURCE
+#include "arguments.h"
 #include "draw.h"
 #include "fast.h"
 #include "rings.h"
+#include "room.h"
 #include "stack.h"
 #include "tubochre.h"
 
@@ -31,27 +33,17 @@ static int quick;
 
 /* ---- Small things. */
 
-static void *memory(size_t bytes)
-{
-    void *const p = malloc(bytes > 0 ? bytes : 1);
-    if (p == NULL) {
-        fputs("bench: out of memory\n", stderr);
-        exit(2);
-    }
-    return p;
-}
-
 /* On large pages where the system has them: otherwise the cost of finding pages would grow with the work words. */
 static void *large_memory(size_t bytes)
 {
     const size_t page = (size_t)2 << 20, room = (bytes / page + 1) * page;
     void *const p = aligned_alloc(page, room);
     if (p == NULL) {
-        fputs("bench: out of memory\n", stderr);
+        fprintf(stderr, "out of memory: %zu bytes on large pages\n", room);
         exit(2);
     }
     if (madvise(p, room, MADV_HUGEPAGE) != 0)
-        fputs("bench: no large pages\n", stderr);
+        fputs("measure: no large pages\n", stderr);
     return p;
 }
 
@@ -65,7 +57,7 @@ static size_t most_lent(void)
 static void must(int holds, const char *what)
 {
     if (!holds) {
-        fprintf(stderr, "bench: library and reference differ: %s\n", what);
+        fprintf(stderr, "measure: library and reference differ: %s\n", what);
         exit(1);
     }
 }
@@ -297,15 +289,15 @@ struct complement {
 static struct complement compare_builds(struct input *in)
 {
     const size_t words_most = TUBOCHRE_WIDE_WORDS_MOST, sets_most = tubochre_sets_words(TUBOCHRE_WIDE_STATES_MOST);
-    uint16_t *const words = memory(words_most * sizeof *words);
-    uint32_t *const sets = memory(sets_most * sizeof *sets);
+    uint16_t *const words = room_for(words_most, sizeof *words);
+    uint32_t *const sets = room_for(sets_most, sizeof *sets);
     const struct fast_counts sizes = fast_build(in->table, in->len, words, words_most, sets, sets_most, FAST_HASH);
     struct complement c;
     must(sizes.number == 0, "the reference refuses a pattern of a row");
     c.len = in->words_len = tubochre_table_words(sizes.states, sizes.edges);
     in->sets_len = tubochre_sets_words(sizes.states);
-    in->words = memory(in->words_len * sizeof *in->words);
-    in->sets = memory(in->sets_len * sizeof *in->sets);
+    in->words = room_for(in->words_len, sizeof *in->words);
+    in->sets = room_for(in->sets_len, sizeof *in->sets);
     c.counts = tubochre_build(in->table, in->len, in->words, in->words_len, in->sets, in->sets_len);
     must(c.counts.number == 0 && c.counts.states == sizes.states && c.counts.edges == sizes.edges, "counts of a build");
     must(memcmp(in->words, words, in->words_len * sizeof *words) == 0, "words of a build");
@@ -459,7 +451,7 @@ static void growth_by_loop(const char *edges, uint32_t reach)
 {
     const uint32_t states = 10000;
     const size_t len = tubochre_table_words(states, 3 * states);
-    uint16_t *const table = memory(len * sizeof *table);
+    uint16_t *const table = room_for(len, sizeof *table);
     struct cost cost[9];
     char name[80];
     int i;
@@ -480,7 +472,7 @@ static void growth_by_table(void)
     for (i = 0; i < 6; i++) {
         const uint32_t states = 625U << i;
         const size_t len = tubochre_table_words(states, 3 * states);
-        uint16_t *const table = memory(len * sizeof *table);
+        uint16_t *const table = room_for(len, sizeof *table);
         barren_table(table, states, 1);
         snprintf(name, sizeof name, "%" PRIu32 " states, %" PRIu32 " own edges", states, 3 * states);
         cost[i] = lasso_row(name, table, len, 16);
@@ -591,20 +583,16 @@ static void growth_rows(void)
     growth_by_table();
 }
 
-/* One decision on the table of growth_by_loop, and nothing else. */
-static int count_one(const char *letters)
+/* One decision on the table of growth_by_loop, with a loop of 1 to 4,096 letters, and nothing else. */
+static int count_one(size_t loop_len)
 {
     static const uint8_t loop[TUBOCHRE_LASSO_PART_MOST];
     const uint32_t states = 10000;
-    const size_t len = tubochre_table_words(states, 3 * states), loop_len = strtoul(letters, NULL, 10);
+    const size_t len = tubochre_table_words(states, 3 * states);
     const size_t work_len = tubochre_work_words(states, 0, loop_len);
-    uint16_t *const table = memory(len * sizeof *table);
-    uint32_t *const work = memory(work_len * sizeof *work);
+    uint16_t *const table = room_for(len, sizeof *table);
+    uint32_t *const work = room_for(work_len, sizeof *work);
     struct tubochre_decision d;
-    if (loop_len == 0 || loop_len > sizeof loop) {
-        fputs("bench: a loop has 1 to 4096 letters\n", stderr);
-        return 2;
-    }
     barren_table(table, states, 1);
     d = tubochre_lasso(table, len, loop, 0, loop, loop_len, work, work_len);
     free(table);
@@ -619,30 +607,35 @@ static const struct part {
 
 enum { PARTS = sizeof parts / sizeof parts[0] };
 
+static const char usage[] = "usage: measure [--quick] [check] [build] [growth] [stack]\n"
+                            "       measure --count LETTERS    (1 to 4096)\n";
+
 static int part_of(const char *name)
 {
     int i;
     for (i = 0; i < PARTS; i++)
         if (strcmp(name, parts[i].name) == 0)
             return i;
-    fputs("usage: bench [--quick] [check] [build] [growth] [stack]\n       bench count LETTERS\n", stderr);
-    exit(2);
+    wrong_use(name, usage);
+    return PARTS;
 }
 
 int main(int argc, char **argv)
 {
-    int wanted[PARTS] = {0}, some = 0, i;
-    if (argc == 3 && strcmp(argv[1], "count") == 0)
-        return count_one(argv[2]);
-    for (i = 1; i < argc; i++)
-        if (strcmp(argv[i], "--quick") == 0)
-            quick = 1;
-        else
-            some = wanted[part_of(argv[i])] = 1;
+    int wanted[PARTS] = {0}, words, i;
+    uint64_t letters = 0;
+    const struct argument known[] = {{"--quick", NULL, &quick}, {"--count", &letters, NULL}};
+    words = read_arguments(argc, argv, known, 2, usage);
+    for (i = 1; i <= words; i++)
+        wanted[part_of(argv[i])] = 1;
+    if (letters > TUBOCHRE_LASSO_PART_MOST)
+        wrong_use("--count", usage);
+    if (letters > 0)
+        return count_one(letters);
     printf("Medians of whole calls, by turns in one process, after a warm-up. Reference: compiler %s.\n", __VERSION__);
     puts("Timed with both: clearing unused words after a build, and the lent work words after a decision.");
     for (i = 0; i < PARTS; i++)
-        if (wanted[i] || !some)
+        if (wanted[i] || words == 0)
             parts[i].run();
     return 0;
 }

@@ -1,0 +1,22 @@
+/* What the programs share: exit statuses, messages, memory, and the end of the output. */
+#ifndef COMMON_H
+#define COMMON_H
+
+#include <stddef.h>
+
+/* Exit statuses: all was answered; something was refused; wrong use, or a file, memory or output that failed. */
+enum { FINE = 0, REFUSED = 1, TROUBLE = 2 };
+
+/* The name that messages begin with; each program's main file defines it. */
+extern const char program_name[];
+
+/* Prints "program: what: why" on standard error and ends the program with status 2. */
+_Noreturn void trouble(const char *what, const char *why);
+
+/* Memory for so many things of a size, or trouble with what it was for. The caller frees it. */
+void *memory(size_t count, size_t size, const char *what_for);
+
+/* Ends the output: the status, or 2 with a message where not all of it could be written. */
+int finish(int status);
+
+#endif

@@ -1,0 +1,258 @@
+#include "places.h"
+
+#include <stdarg.h>
+#include <stdio.h>
+
+static struct place place(size_t word, const char *format, ...)
+#if defined(__GNUC__)
+    __attribute__((format(printf, 2, 3)))
+#endif
+    ;
+
+static struct place place(size_t word, const char *format, ...)
+{
+    struct place p;
+    va_list more;
+    va_start(more, format);
+    vsnprintf(p.sentence, sizeof p.sentence, format, more);
+    va_end(more);
+    p.word = word;
+    return p;
+}
+
+/* A refusal of which there is no more to say than its number does. */
+static struct place nowhere(uint32_t number)
+{
+    return place(NO_WORD, "%s", tubochre_refusal_text(number));
+}
+
+/* ---- The words of a table. */
+
+static size_t flags_word(unsigned state)
+{
+    return 3 + 2 * (size_t)state;
+}
+
+static size_t head_word(unsigned state)
+{
+    return 4 + 2 * (size_t)state;
+}
+
+/* The first of a record's three words: letter, target, next. */
+static size_t record_word(const uint16_t *t, unsigned record)
+{
+    return 3 + 2 * (size_t)t[0] + 3 * (size_t)(record - 1);
+}
+
+static size_t next_word(const uint16_t *t, unsigned record)
+{
+    return record_word(t, record) + 2;
+}
+
+/* ---- 2 to 8: sizes, flags and records. */
+
+static struct place bad_length(const uint16_t *t, size_t len)
+{
+    return place(NO_WORD, "the number of words is %zu, and by those of states and records it is 3 + 2 * %u + 3 * %u = %zu",
+                 len, t[0], t[2], tubochre_table_words(t[0], t[2]));
+}
+
+static struct place bad_flags(const uint16_t *t)
+{
+    unsigned q;
+    for (q = 0; q < t[0]; q++)
+        if (t[flags_word(q)] > 3)
+            return place(flags_word(q), "state %u has flags %u, and flags are 0 to 3", q, t[flags_word(q)]);
+    return nowhere(TUBOCHRE_FLAGS);
+}
+
+static struct place bad_record(const uint16_t *t)
+{
+    unsigned r;
+    for (r = 1; r <= t[2]; r++) {
+        const size_t at = record_word(t, r);
+        if (t[at] >= t[1])
+            return place(at, "record %u has letter %u, and the letters are 0 to %u", r, t[at], t[1] - 1U);
+        if (t[at + 1] >= t[0])
+            return place(at + 1, "record %u has target %u, and the states are 0 to %u", r, t[at + 1], t[0] - 1U);
+    }
+    return nowhere(TUBOCHRE_RECORD);
+}
+
+/* ---- 9: chains. */
+
+/* A link that leads nowhere or back, heads before nexts. */
+static struct place bad_link(const uint16_t *t)
+{
+    unsigned q, r;
+    for (q = 0; q < t[0]; q++)
+        if (t[head_word(q)] > t[2])
+            return place(head_word(q), "state %u has head %u, and the number of records is %u", q, t[head_word(q)], t[2]);
+    for (r = 1; r <= t[2]; r++) {
+        const unsigned next = t[next_word(t, r)];
+        if (next > t[2])
+            return place(next_word(t, r), "record %u has next %u, and the number of records is %u", r, next, t[2]);
+        if (next != 0 && next <= r)
+            return place(next_word(t, r), "record %u has next %u, and a next is 0 or larger than its own record's number",
+                         r, next);
+    }
+    return nowhere(TUBOCHRE_CHAIN);
+}
+
+/* The first link from a word on that names a record, heads before nexts; NO_WORD where there is none. */
+static size_t naming(const uint16_t *t, unsigned record, size_t from)
+{
+    unsigned q, r;
+    for (q = 0; q < t[0]; q++)
+        if (head_word(q) >= from && t[head_word(q)] == record)
+            return head_word(q);
+    for (r = 1; r <= t[2]; r++)
+        if (next_word(t, r) >= from && t[next_word(t, r)] == record)
+            return next_word(t, r);
+    return NO_WORD;
+}
+
+/* What a link is: a state's head or a record's next. */
+struct link {
+    const char *of, *is;
+    size_t number;
+};
+
+static struct link link_at(const uint16_t *t, size_t word)
+{
+    const size_t records = record_word(t, 1);
+    if (word < records)
+        return (struct link){"state", "head", (word - 4) / 2};
+    return (struct link){"record", "next", (word - records) / 3 + 1};
+}
+
+static struct place bad_chain(const uint16_t *t)
+{
+    const struct place wrong = bad_link(t);
+    unsigned r;
+    if (wrong.word != NO_WORD)
+        return wrong;
+    for (r = 1; r <= t[2]; r++) {
+        const size_t first = naming(t, r, 0), second = first == NO_WORD ? NO_WORD : naming(t, r, first + 1);
+        if (first == NO_WORD)
+            return place(NO_WORD, "record %u is in no chain: no head and no next names it", r);
+        if (second != NO_WORD) {
+            const struct link a = link_at(t, first), b = link_at(t, second);
+            return place(second, "record %u is named twice, by the %s of %s %zu and by the %s of %s %zu", r, a.is, a.of,
+                         a.number, b.is, b.of, b.number);
+        }
+    }
+    return nowhere(TUBOCHRE_CHAIN);
+}
+
+/* ---- 10: forks. */
+
+/* For each state and letter the set of targets, state q being 2^q. */
+struct edges {
+    uint32_t targets[TUBOCHRE_PATTERN_STATES_MOST][TUBOCHRE_LETTERS_MOST];
+};
+
+static struct edges edges_of(const uint16_t *t)
+{
+    struct edges e = {{{0}}};
+    unsigned q, r;
+    for (q = 0; q < t[0]; q++)
+        for (r = t[head_word(q)]; r != 0; r = t[next_word(t, r)])
+            e.targets[q][t[record_word(t, r)]] |= UINT32_C(1) << t[record_word(t, r) + 1];
+    return e;
+}
+
+/* Q2: the accepting states and all that they reach. */
+static uint32_t accepting_and_behind(const uint16_t *t, const struct edges *e)
+{
+    uint32_t set = 0, before;
+    unsigned q, c;
+    for (q = 0; q < t[0]; q++)
+        set |= t[flags_word(q)] >= 2 ? UINT32_C(1) << q : 0;
+    do {
+        before = set;
+        for (q = 0; q < t[0]; q++)
+            for (c = 0; c < t[1]; c++)
+                set |= set >> q & 1 ? e->targets[q][c] : 0;
+    } while (set != before);
+    return set;
+}
+
+static struct place fork_in(const uint16_t *t)
+{
+    const struct edges e = edges_of(t);
+    const uint32_t inner = accepting_and_behind(t, &e);
+    unsigned q, c;
+    for (q = 0; q < t[0]; q++)
+        for (c = 0; c < t[1]; c++)
+            if (inner >> q & 1 && (e.targets[q][c] & (e.targets[q][c] - 1)) != 0)
+                return place(NO_WORD,
+                             "the pattern is not semi-deterministic: state %u is accepting or behind an accepting one, "
+                             "and has two targets on letter %u",
+                             q, c);
+    return nowhere(TUBOCHRE_FORK);
+}
+
+/* ---- All of them. */
+
+struct place place_in_pattern(uint32_t number, const uint16_t *words, size_t len)
+{
+    switch (number) {
+    case TUBOCHRE_SHORT: return place(NO_WORD, "the number of words is %zu, and a table has at least 3", len);
+    case TUBOCHRE_STATES:
+        return place(0, "the number of states is %u, and a pattern has 1 to %d", words[0], TUBOCHRE_PATTERN_STATES_MOST);
+    case TUBOCHRE_LETTERS:
+        return place(1, "the number of letters is %u, and a table has 1 to %d", words[1], TUBOCHRE_LETTERS_MOST);
+    case TUBOCHRE_RECORDS:
+        return place(2, "the number of records is %u, and a pattern has at most %d", words[2], TUBOCHRE_PATTERN_RECORDS_MOST);
+    case TUBOCHRE_LENGTH: return bad_length(words, len);
+    case TUBOCHRE_FLAGS: return bad_flags(words);
+    case TUBOCHRE_RECORD: return bad_record(words);
+    case TUBOCHRE_CHAIN: return bad_chain(words);
+    case TUBOCHRE_FORK: return fork_in(words);
+    default: return nowhere(number);
+    }
+}
+
+struct place place_in_complement(uint32_t number)
+{
+    switch (number) {
+    case TUBOCHRE_MANY_STATES:
+        return place(NO_WORD, "it has more than %d states, the most that a table has", TUBOCHRE_WIDE_STATES_MOST);
+    case TUBOCHRE_MANY_EDGES:
+        return place(NO_WORD, "it has more than %d edges, the most that a table has", TUBOCHRE_WIDE_RECORDS_MOST);
+    default: return nowhere(number);
+    }
+}
+
+/* Where the first letter stands that is none of the table's; the length where there is none. */
+static size_t bad_letter(const uint16_t *words, const struct letters *l)
+{
+    size_t i = 0;
+    while (i < l->len && l->letter[i] < words[1])
+        i++;
+    return i;
+}
+
+static struct place bad_letter_in(const uint16_t *words, const struct lasso *l)
+{
+    const int in_prefix = bad_letter(words, &l->prefix) < l->prefix.len;
+    const struct letters *const part = in_prefix ? &l->prefix : &l->loop;
+    const size_t at = bad_letter(words, part);
+    if (at == part->len)
+        return nowhere(TUBOCHRE_LETTER);
+    return place(NO_WORD, "letter %u stands at place %zu of the %s, and the letters are 0 to %u", part->letter[at], at + 1,
+                 in_prefix ? "prefix" : "loop", words[1] - 1U);
+}
+
+struct place place_in_lasso(uint32_t number, const uint16_t *words, const struct lasso *l)
+{
+    const int prefix_long = l->prefix.len > TUBOCHRE_LASSO_PART_MOST;
+    switch (number) {
+    case TUBOCHRE_LASSO_LONG:
+        return place(NO_WORD, "the %s has %zu letters, and a part has at most %d", prefix_long ? "prefix" : "loop",
+                     prefix_long ? l->prefix.len : l->loop.len, TUBOCHRE_LASSO_PART_MOST);
+    case TUBOCHRE_LETTER: return bad_letter_in(words, l);
+    default: return nowhere(number);
+    }
+}

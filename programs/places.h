@@ -1,0 +1,27 @@
+/* Where a refusal lies. The library answers its number; these look for the place again, in the order of the rules. */
+#ifndef PLACES_H
+#define PLACES_H
+
+#include "lassos.h"
+
+#include <stddef.h>
+#include <stdint.h>
+
+#define NO_WORD ((size_t)-1)
+
+/* A sentence without a full stop, and the word of the table at fault, or NO_WORD. */
+struct place {
+    char sentence[200];
+    size_t word;
+};
+
+/* Of a pattern that the check refuses by 2 to 10. */
+struct place place_in_pattern(uint32_t number, const uint16_t *words, size_t len);
+
+/* Of a complement that a build refuses by 11 or 12 though it was lent all the room that there can be. */
+struct place place_in_complement(uint32_t number);
+
+/* Of a lasso that is refused by 13 to 15. */
+struct place place_in_lasso(uint32_t number, const uint16_t *words, const struct lasso *l);
+
+#endif

@@ -1,0 +1,15 @@
+/* Complements and graphs on standard output. */
+#ifndef PRINT_H
+#define PRINT_H
+
+#include "complement.h"
+
+/* A line for each state, as the listing has it: number, N, C, S, B, flags. */
+void print_states(const struct complement *c);
+
+/* A table that passes 2 to 9, or a complement, as a graph in DOT: accepting states have a double ring, an arrow from
+ * nowhere marks initial ones, and all letters from one state to another stand on one arrow. */
+void print_pattern_graph(const uint16_t *words);
+void print_complement_graph(const struct complement *c);
+
+#endif

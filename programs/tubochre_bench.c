@@ -1,0 +1,304 @@
+/* tubochre-bench: checks a pattern, builds its complement, and says which of the two takes each lasso.
+ *
+ * It uses the header's calls only. The options stand in a table below; `usage` says what it takes and answers. */
+#include "common.h"
+#include "complement.h"
+#include "lassos.h"
+#include "places.h"
+#include "print.h"
+#include "tubochre.h"
+#include "words.h"
+
+#include <stdio.h>
+#include <stdlib.h>
+#include <string.h>
+
+const char program_name[] = "tubochre-bench";
+
+/* ---- The command line. */
+
+enum graph { NO_GRAPH, PATTERN_GRAPH, COMPLEMENT_GRAPH };
+
+/* What the command line asks for. Words are the pattern's name, then two for each lasso. */
+struct request {
+    int help, version, states;
+    enum graph graph;
+    int count;
+    char **words;
+};
+
+static const char synopsis[] = "usage: tubochre-bench [OPTION]... PATTERN [PREFIX LOOP]...\n";
+
+static const char description[] =
+    "\n"
+    "Checks a pattern, builds its complement, and says of each lasso which of the two takes it.\n"
+    "\n"
+    "PATTERN is a file that holds a pattern's words as decimal numbers divided by spaces and newlines,\n"
+    "or - for standard input.\n"
+    "\n"
+    "Each PREFIX and LOOP is a lasso: the word that reads PREFIX once and then LOOP for ever. Either is\n"
+    "written as digits, one for each letter (0110), or as numbers divided by commas (10,3,15; a single\n"
+    "letter above 9 is written with a comma behind it: 12,). The empty prefix is - or ''.\n"
+    "\n"
+    "Options:\n";
+
+static const char statuses[] =
+    "  --               ends the options: all words behind it are PATTERN, PREFIX and LOOP\n"
+    "\n"
+    "Exit status: 0 all was answered; 1 the pattern, its complement or a lasso was refused;\n"
+    "2 wrong use, or a file, memory or output that failed.\n";
+
+/* Prints why a command line is wrong, with the word at fault if there is one, and how one looks. */
+static _Noreturn void wrong_use(const char *what, const char *why)
+{
+    fprintf(stderr, "%s: %s%s%s\n%s%s --help says more\n", program_name, what, why != NULL ? ": " : "",
+            why != NULL ? why : "", synopsis, program_name);
+    exit(TROUBLE);
+}
+
+static void ask_states(struct request *r, const char *value)
+{
+    (void)value;
+    r->states = 1;
+}
+
+static void ask_graph(struct request *r, const char *value)
+{
+    if (strcmp(value, "pattern") == 0)
+        r->graph = PATTERN_GRAPH;
+    else if (strcmp(value, "complement") == 0)
+        r->graph = COMPLEMENT_GRAPH;
+    else
+        wrong_use("this is no graph, which is pattern or complement", value);
+}
+
+static void ask_help(struct request *r, const char *value)
+{
+    (void)value;
+    r->help = 1;
+}
+
+static void ask_version(struct request *r, const char *value)
+{
+    (void)value;
+    r->version = 1;
+}
+
+static const struct option {
+    const char *name, *short_name, *value; /* value: what stands behind it, or NULL */
+    void (*ask)(struct request *, const char *);
+    const char *help;
+} options[] = {
+    {"--states", NULL, NULL, ask_states,
+     "  --states         also prints each state of the complement: number, N, C, S, B, flags\n"},
+    {"--dot", NULL, "GRAPH", ask_graph,
+     "  --dot GRAPH      writes the graph of the pattern or of the complement in DOT, and nothing else;\n"
+     "                   GRAPH is pattern or complement\n"},
+    {"--help", "-h", NULL, ask_help, "  -h, --help       prints this, and ends\n"},
+    {"--version", NULL, NULL, ask_version, "  --version        prints the version, and ends\n"},
+};
+
+enum { OPTIONS = sizeof options / sizeof options[0] };
+
+static void usage(void)
+{
+    int i;
+    fputs(synopsis, stdout);
+    fputs(description, stdout);
+    for (i = 0; i < OPTIONS; i++)
+        fputs(options[i].help, stdout);
+    fputs(statuses, stdout);
+}
+
+/* Whether a word is this option, by its name, its short name, or its name with =VALUE behind it. */
+static int is_option(const struct option *o, const char *word)
+{
+    const size_t len = strlen(o->name);
+    if (o->short_name != NULL && strcmp(word, o->short_name) == 0)
+        return 1;
+    return strncmp(word, o->name, len) == 0 && (word[len] == '\0' || word[len] == '=');
+}
+
+/* Reads the option at argv[i], and answers where its last word stands. */
+static int read_option(struct request *r, int argc, char **argv, int i)
+{
+    const char *const equals = strchr(argv[i], '=');
+    const struct option *o = options;
+    while (o < options + OPTIONS && !is_option(o, argv[i]))
+        o++;
+    if (o == options + OPTIONS)
+        wrong_use("unknown option", argv[i]);
+    if (o->value == NULL && equals != NULL)
+        wrong_use("this option takes no value", argv[i]);
+    if (o->value != NULL && equals == NULL && i + 1 == argc)
+        wrong_use("a value is missing behind this option", argv[i]);
+    if (o->value == NULL || equals != NULL) {
+        o->ask(r, equals != NULL ? equals + 1 : "");
+        return i;
+    }
+    o->ask(r, argv[i + 1]);
+    return i + 1;
+}
+
+/* Options may stand anywhere before "--"; the other words are moved to the front. A lone - is a word. */
+static struct request read_command_line(int argc, char **argv)
+{
+    struct request r = {0, 0, 0, NO_GRAPH, 0, argv + 1};
+    int i, ended = 0;
+    for (i = 1; i < argc; i++)
+        if (!ended && strcmp(argv[i], "--") == 0)
+            ended = 1;
+        else if (!ended && argv[i][0] == '-' && argv[i][1] != '\0')
+            i = read_option(&r, argc, argv, i);
+        else
+            r.words[r.count++] = argv[i];
+    return r;
+}
+
+static void check_request(const struct request *r)
+{
+    if (r->count == 0)
+        wrong_use("no pattern is named", NULL);
+    if (r->graph != NO_GRAPH && (r->count > 1 || r->states))
+        wrong_use("--dot writes a graph alone, without lassos and states", NULL);
+    if (r->count % 2 == 0)
+        wrong_use("a prefix has no loop beside it", r->words[r->count - 1]);
+}
+
+/* ---- Refusals. */
+
+/* Says that something is refused, where in the text its word stands, if it is a word, and why. */
+static int say_refused(FILE *out, const char *what, uint32_t number, const struct spot *at, const char *why)
+{
+    fprintf(out, "%s: refused (%u)", what, (unsigned)number);
+    if (at != NULL)
+        fprintf(out, " in line %zu, column %zu", at->line, at->column);
+    fprintf(out, ": %s\n", why);
+    return REFUSED;
+}
+
+static int pattern_refused(FILE *out, uint32_t number, const struct words *w)
+{
+    const struct place p = place_in_pattern(number, w->word, w->len);
+    return say_refused(out, "pattern", number, p.word != NO_WORD ? &w->at[p.word] : NULL, p.sentence);
+}
+
+static int complement_refused(FILE *out, uint32_t number)
+{
+    return say_refused(out, "complement", number, NULL, place_in_complement(number).sentence);
+}
+
+/* ---- Graphs. */
+
+/* A pattern that forks can still be drawn: its table is sound. */
+static int draw_pattern(const struct words *w)
+{
+    const uint32_t number = tubochre_check(w->word, w->len);
+    if (number == TUBOCHRE_OK || number == TUBOCHRE_FORK)
+        print_pattern_graph(w->word);
+    return number == TUBOCHRE_OK ? FINE : pattern_refused(stderr, number, w);
+}
+
+static int draw_complement(const struct words *w)
+{
+    const uint32_t number = tubochre_check(w->word, w->len);
+    struct complement c;
+    int status = FINE;
+    if (number != TUBOCHRE_OK)
+        return pattern_refused(stderr, number, w);
+    c = build(w->word, w->len);
+    if (c.counts.number == TUBOCHRE_OK)
+        print_complement_graph(&c);
+    else
+        status = complement_refused(stderr, c.counts.number);
+    free_complement(&c);
+    return status;
+}
+
+/* ---- Answers. */
+
+/* Says which of the two takes a lasso; both are asked, though each answer decides the other. */
+static int answer_lasso(const struct words *w, const struct complement *c, size_t number, const struct lasso *l)
+{
+    const size_t used = tubochre_table_words(c->counts.states, c->counts.edges);
+    const struct tubochre_decision by_pattern = decide(w->word, w->len, l);
+    struct tubochre_decision by_complement;
+    if (by_pattern.number != TUBOCHRE_OK) {
+        printf("lasso %zu (%s %s): refused (%u): %s\n", number, l->prefix_text, l->loop_text, (unsigned)by_pattern.number,
+               place_in_lasso(by_pattern.number, w->word, l).sentence);
+        return REFUSED;
+    }
+    by_complement = decide(c->words, used, l);
+    if (by_complement.number != TUBOCHRE_OK || by_complement.taken == by_pattern.taken)
+        trouble("lasso", "pattern and complement contradict each other, which the library rules out");
+    printf("lasso %zu (%s %s): the %s takes it\n", number, l->prefix_text, l->loop_text,
+           by_pattern.taken == TUBOCHRE_TAKEN ? "pattern" : "complement");
+    return FINE;
+}
+
+static int answer_complement(const struct request *r, const struct words *w, const struct lasso *lassos)
+{
+    struct complement c = build(w->word, w->len);
+    const size_t count = (size_t)(r->count - 1) / 2;
+    int status = FINE;
+    size_t i;
+    if (c.counts.number != TUBOCHRE_OK) {
+        status = complement_refused(stdout, c.counts.number);
+    } else {
+        printf("complement: states %u, edges %u\n", (unsigned)c.counts.states, (unsigned)c.counts.edges);
+        if (r->states)
+            print_states(&c);
+        for (i = 0; i < count; i++)
+            if (answer_lasso(w, &c, i + 1, &lassos[i]) != FINE)
+                status = REFUSED;
+    }
+    free_complement(&c);
+    return status;
+}
+
+static int answer(const struct request *r, const struct words *w, const struct lasso *lassos)
+{
+    const uint32_t number = tubochre_check(w->word, w->len);
+    if (number != TUBOCHRE_OK)
+        return pattern_refused(stdout, number, w);
+    printf("pattern: passes the check (states %u, letters %u, records %u)\n", (unsigned)w->word[0], (unsigned)w->word[1],
+           (unsigned)w->word[2]);
+    fflush(stdout); /* before the build, which may take long */
+    return answer_complement(r, w, lassos);
+}
+
+/* All lassos are read before the pattern, so that a slip on the command line costs no long build. */
+static int run(const struct request *r)
+{
+    const size_t count = (size_t)(r->count - 1) / 2;
+    struct lasso *const lassos = read_lassos(count, r->words + 1);
+    struct words *const w = memory(1, sizeof *w, "the pattern");
+    struct fault fault;
+    int status;
+    if (!read_words(r->words[0], w, &fault))
+        status = say_refused(r->graph == NO_GRAPH ? stdout : stderr, "pattern", TUBOCHRE_TEXT, &fault.at, fault.sentence);
+    else if (r->graph == PATTERN_GRAPH)
+        status = draw_pattern(w);
+    else if (r->graph == COMPLEMENT_GRAPH)
+        status = draw_complement(w);
+    else
+        status = answer(r, w, lassos);
+    free_lassos(lassos, count);
+    free(w);
+    return status;
+}
+
+int main(int argc, char **argv)
+{
+    const struct request r = read_command_line(argc, argv);
+    int status = FINE;
+    if (r.help) {
+        usage();
+    } else if (r.version) {
+        printf("%s %s\n", program_name, TUBOCHRE_VERSION);
+    } else {
+        check_request(&r);
+        status = run(&r);
+    }
+    return finish(status);
+}

@@ -1,0 +1,161 @@
+#include "words.h"
+
+#include "common.h"
+
+#include <errno.h>
+#include <stdio.h>
+#include <string.h>
+
+enum { WORD_MOST = 65535, DIGITS_SHOWN = 20 };
+
+/* Where reading stands: the byte there, or EOF. */
+struct cursor {
+    FILE *file;
+    const char *name;
+    int byte;
+    struct spot at;
+};
+
+static void read_byte(struct cursor *c)
+{
+    c->byte = getc(c->file);
+    if (c->byte == EOF && ferror(c->file))
+        trouble(c->name, strerror(errno));
+}
+
+static void step(struct cursor *c)
+{
+    if (c->byte == '\n') {
+        c->at.line++;
+        c->at.column = 1;
+    } else {
+        c->at.column++;
+    }
+    read_byte(c);
+}
+
+static int is_digit(int byte)
+{
+    return byte >= '0' && byte <= '9';
+}
+
+static int divides(int byte)
+{
+    return byte == ' ' || byte == '\n';
+}
+
+/* ---- Faults. */
+
+static int is_first(struct spot at)
+{
+    return at.line == 1 && at.column == 1;
+}
+
+/* Whether the file goes on with these bytes; it is read as far as they agree. */
+static int goes_on(struct cursor *c, const char *bytes)
+{
+    for (; *bytes != '\0'; bytes++) {
+        step(c);
+        if (c->byte != (unsigned char)*bytes)
+            return 0;
+    }
+    return 1;
+}
+
+static const char *known_byte(struct cursor *c)
+{
+    switch (c->byte) {
+    case '\t': return "a tab stands here, and only spaces and newlines divide numbers";
+    case '-': return "a minus sign stands here, and a word is a number from 0 to 65535";
+    case '\r':
+        return goes_on(c, "\n") ? "the line ends with CR LF, and it has to end with LF alone"
+                                : "a carriage return stands here, and only spaces and newlines divide numbers";
+    case 0xef:
+        return is_first(c->at) && goes_on(c, "\xbb\xbf") ? "the file begins with a byte order mark, and may not" : NULL;
+    case 0xfe: return is_first(c->at) && goes_on(c, "\xff") ? "the file begins with a byte order mark of UTF-16" : NULL;
+    case 0xff: return is_first(c->at) && goes_on(c, "\xfe") ? "the file begins with a byte order mark of UTF-16" : NULL;
+    default: return NULL;
+    }
+}
+
+static void fault_of_byte(struct cursor *c, struct fault *fault)
+{
+    const int byte = c->byte;
+    const char *known;
+    fault->at = c->at;
+    known = known_byte(c);
+    if (known != NULL)
+        snprintf(fault->sentence, sizeof fault->sentence, "%s", known);
+    else if (byte > ' ' && byte < 0x7f)
+        snprintf(fault->sentence, sizeof fault->sentence, "'%c' is no digit, space or newline", byte);
+    else
+        snprintf(fault->sentence, sizeof fault->sentence, "the byte 0x%02x is no digit, space or newline", byte);
+}
+
+/* ---- Words. */
+
+/* Reads one number up to its end, or until it is too large and enough of it was read to be shown. */
+static int read_number(struct cursor *c, uint16_t *word, struct fault *fault)
+{
+    char digits[DIGITS_SHOWN + 1];
+    size_t shown = 0;
+    uint32_t value = 0;
+    fault->at = c->at;
+    for (; is_digit(c->byte) && shown < DIGITS_SHOWN; step(c)) {
+        if (value <= WORD_MOST)
+            value = 10 * value + (uint32_t)(c->byte - '0');
+        if (value > 0)
+            digits[shown++] = (char)c->byte;
+    }
+    digits[shown] = '\0';
+    if (value > WORD_MOST) {
+        snprintf(fault->sentence, sizeof fault->sentence, "the number %s%s is above %d", digits,
+                 is_digit(c->byte) ? "..." : "", WORD_MOST);
+        return 0;
+    }
+    *word = (uint16_t)value;
+    return 1;
+}
+
+/* Reads the number at the cursor, and the one byte behind it that has to divide. */
+static int read_word(struct cursor *c, struct words *words, struct fault *fault)
+{
+    if (!is_digit(c->byte)) {
+        fault_of_byte(c, fault);
+        return 0;
+    }
+    if (words->len == TUBOCHRE_PATTERN_WORDS_MOST) {
+        fault->at = c->at;
+        snprintf(fault->sentence, sizeof fault->sentence, "number %d begins here, and a pattern has at most %d",
+                 TUBOCHRE_PATTERN_WORDS_MOST + 1, TUBOCHRE_PATTERN_WORDS_MOST);
+        return 0;
+    }
+    words->at[words->len] = c->at;
+    if (!read_number(c, &words->word[words->len], fault))
+        return 0;
+    words->len++;
+    if (c->byte != EOF && !divides(c->byte)) {
+        fault_of_byte(c, fault);
+        return 0;
+    }
+    return 1;
+}
+
+int read_words(const char *name, struct words *words, struct fault *fault)
+{
+    const int standard = strcmp(name, "-") == 0;
+    struct cursor c = {standard ? stdin : fopen(name, "rb"), standard ? "standard input" : name, EOF, {1, 1}};
+    int good = 1;
+    if (c.file == NULL)
+        trouble(name, strerror(errno));
+    words->len = 0;
+    read_byte(&c);
+    while (good && c.byte != EOF)
+        if (divides(c.byte))
+            step(&c);
+        else
+            good = read_word(&c, words, fault);
+    if (!standard)
+        fclose(c.file);
+    return good;
+}

@@ -1,0 +1,296 @@
+#!/usr/bin/env bash
+# Tries tubochre-bench: what it prints, where, and its exit statuses. Usage: test_bench.sh PROGRAM
+set -uo pipefail
+program=$1
+here=$(dirname "$0")
+# shellcheck source=tests/programs/trials.sh
+. "$here/trials.sh"
+
+a='2 2 4 1 1 2 4 0 0 2 1 0 3 0 1 0 0 1 0'
+echo "$a" >"$folder/a"
+passes='pattern: passes the check (states 2, letters 2, records 4)
+complement: states 2, edges 4'
+
+# ---- Patterns, lassos, states and graphs.
+
+expect 'a file' 0 "$passes" '' "$program" "$folder/a"
+expect 'standard input' 0 "$passes" '' "$program" - <<<"$a"
+expect 'leading zeros' 0 "$passes" '' "$program" - <<<"000000000000000000000000000000$a"
+expect 'blanks everywhere' 0 "$passes" '' "$program" - <<<"
+  ${a// /  
+}
+
+"
+expect 'lassos' 0 "$passes
+lasso 1 (- 0): the pattern takes it
+lasso 2 (- 1): the complement takes it
+lasso 3 (1 0): the pattern takes it
+lasso 4 (0,1 1,0,): the complement takes it" '' "$program" "$folder/a" '' 0 - 1 1 0 0,1 1,0,
+states="$passes
+0 1 0 0 0 3
+1 1 2 0 2 0
+lasso 1 (- 0): the pattern takes it"
+expect 'states' 0 "$states" '' "$program" --states "$folder/a" - 0
+expect 'an option behind the words' 0 "$states" '' "$program" "$folder/a" - 0 --states
+expect 'words behind --' 0 "$states" '' "$program" --states -- "$folder/a" - 0
+(cd "$folder" && cp a ./-a)
+expect 'a file that looks like an option' 0 "$passes" '' env -C "$folder" "$(realpath "$program")" -- -a
+
+pattern_graph='digraph pattern {
+    rankdir=LR;
+    node [shape=circle];
+    s0 [label="0"];
+    i0 [shape=none, label=""];
+    i0 -> s0;
+    s1 [label="1", peripheries=2];
+    s0 -> s0 [label="0,1"];
+    s0 -> s1 [label="0"];
+    s1 -> s1 [label="0"];
+}'
+complement_graph='digraph complement {
+    rankdir=LR;
+    label="below each number its sets N C S B";
+    node [shape=ellipse];
+    s0 [label="0\n{0} {} {} {}", peripheries=2];
+    i0 [shape=none, label=""];
+    i0 -> s0;
+    s1 [label="1\n{0} {1} {} {1}"];
+    s0 -> s0 [label="1"];
+    s0 -> s1 [label="0"];
+    s1 -> s0 [label="1"];
+    s1 -> s1 [label="0"];
+}'
+expect 'the graph of a pattern' 0 "$pattern_graph" '' "$program" --dot pattern "$folder/a"
+expect 'the graph of a complement' 0 "$complement_graph" '' "$program" --dot=complement "$folder/a"
+expect 'a graph without edges' 0 'digraph pattern {
+    rankdir=LR;
+    node [shape=circle];
+    s0 [label="0"];
+}' '' "$program" --dot pattern - <<<'1 1 0 0 0'
+expect 'a record twice is one arrow with one letter' 0 'digraph pattern {
+    rankdir=LR;
+    node [shape=circle];
+    s0 [label="0", peripheries=2];
+    i0 [shape=none, label=""];
+    i0 -> s0;
+    s0 -> s0 [label="0"];
+}' '' "$program" --dot pattern - <<<'1 1 2 3 1 0 0 2 0 0 0'
+if command -v dot >/dev/null; then
+    "$program" --dot complement "$folder/a" | dot -Tsvg >/dev/null || wrong 'a viewer' 'dot does not take the graph' ''
+fi
+
+# ---- Refusals of the text: 1.
+
+# text NAME LINE COLUMN SENTENCE INPUT
+text() {
+    expect "$1" 1 "pattern: refused (1) in line $2, column $3: $4" '' "$program" - <<<"$5"
+}
+divide='and only spaces and newlines divide numbers'
+text 'a tab' 2 2 "a tab stands here, $divide" $'2 2\n4\t1'
+text 'CR LF' 1 39 'the line ends with CR LF, and it has to end with LF alone' "${a%0}0 "$'\r\n'
+text 'CR LF behind a number' 1 2 'the line ends with CR LF, and it has to end with LF alone' $'2\r\n2 4\r\n'
+text 'a carriage return' 1 2 "a carriage return stands here, $divide" $'2\r2'
+text 'a byte order mark' 1 1 'the file begins with a byte order mark, and may not' $'\xef\xbb\xbf'"$a"
+text 'half a byte order mark' 1 1 'the byte 0xef is no digit, space or newline' $'\xef\xbb'"$a"
+text 'a byte order mark later' 1 3 'the byte 0xef is no digit, space or newline' $'2 \xef\xbb\xbf'
+text 'UTF-16, little end first' 1 1 'the file begins with a byte order mark of UTF-16' $'\xff\xfe2'
+text 'UTF-16, big end first' 1 1 'the file begins with a byte order mark of UTF-16' $'\xfe\xff2'
+text 'a minus sign' 1 3 'a minus sign stands here, and a word is a number from 0 to 65535' '2 -2'
+text 'a letter' 1 1 "'x' is no digit, space or newline" 'x'
+text 'a letter behind a number' 3 3 "'x' is no digit, space or newline" $'2\n\n12x'
+text 'a comma' 1 2 "',' is no digit, space or newline" '2,2'
+text 'a byte above 127' 1 3 'the byte 0x80 is no digit, space or newline' $'2 \x80'
+text '65536' 1 5 'the number 65536 is above 65535' '1 1 65536'
+text 'zeros before 65536' 2 1 'the number 65536 is above 65535' $'1 1\n00000065536 1'
+text 'a long number' 1 1 'the number 12345678901234567890... is above 65535' '12345678901234567890123'
+text 'too many numbers' 1 63025 'number 12356 begins here, and a pattern has at most 12355' "$(seq -s ' ' 12356)"
+expect 'endless zero bytes' 1 'pattern: refused (1) in line 1, column 1: the byte 0x00 is no digit, space or newline' '' \
+    "$program" /dev/zero
+expect 'endless digits' 1 'pattern: refused (1) in line 1, column 1: the number 99999999999999999999... is above 65535' '' \
+    "$program" - < <(yes 9 | tr -d '\n' 2>/dev/null)
+
+# ---- Refusals of the table: 2 to 10.
+
+# table NUMBER PLACE SENTENCE INPUT; the place is a column in line 1, or 0 where there is none
+table() {
+    local where=" in line 1, column $2"
+    [ "$2" -gt 0 ] || where=
+    expect "$3" 1 "pattern: refused ($1)$where: $3" '' "$program" - <<<"$4"
+}
+table 2 0 'the number of words is 0, and a table has at least 3' ''
+table 2 0 'the number of words is 2, and a table has at least 3' '1 1'
+table 3 1 'the number of states is 0, and a pattern has 1 to 32' '0 0 0'
+table 3 1 'the number of states is 33, and a pattern has 1 to 32' '33 1 0'
+table 4 3 'the number of letters is 0, and a table has 1 to 16' '1 0 0'
+table 4 3 'the number of letters is 17, and a table has 1 to 16' '1 17 0'
+table 5 5 'the number of records is 4097, and a pattern has at most 4096' '1 1 4097'
+length='and by those of states and records it is'
+table 6 0 "the number of words is 18, $length 3 + 2 * 2 + 3 * 4 = 19" "${a% 0}"
+table 6 0 "the number of words is 20, $length 3 + 2 * 2 + 3 * 4 = 19" "$a 0"
+table 7 11 'state 1 has flags 4, and flags are 0 to 3' '2 1 0 3 0 4 0'
+table 8 11 'record 1 has letter 1, and the letters are 0 to 0' '1 1 1 0 1 1 0 0'
+table 8 19 'record 2 has target 1, and the states are 0 to 0' '1 1 2 0 1 0 0 2 0 1 0'
+table 9 9 'state 0 has head 2, and the number of records is 1' '1 1 1 0 2 0 0 0'
+table 9 15 'record 1 has next 2, and the number of records is 1' '1 1 1 0 1 0 0 2'
+forward="and a next is 0 or larger than its own record's number"
+table 9 15 "record 1 has next 1, $forward" '1 1 1 0 0 0 0 1'
+table 9 21 "record 2 has next 1, $forward" '1 1 2 0 2 0 0 0 0 0 1'
+table 9 0 'record 1 is in no chain: no head and no next names it' '1 1 1 0 0 0 0 0'
+twice='record 1 is named twice, by the head of state 0 and by the head of state 1'
+table 9 13 "$twice" '2 1 1 0 1 0 1 0 0 0'
+twice='record 2 is named twice, by the head of state 1 and by the next of record 1'
+table 9 19 "$twice" '2 1 2 0 1 0 2 0 0 2 0 0 0'
+twice='record 3 is named twice, by the next of record 1 and by the next of record 2'
+table 9 25 "$twice" '2 1 3 0 1 0 2 0 0 3 0 0 3 0 0 0'
+fork='is accepting or behind an accepting one, and has two targets on letter'
+fork1="the pattern is not semi-deterministic: state 1 $fork 0"
+fork2="the pattern is not semi-deterministic: state 2 $fork 1"
+table 10 0 "$fork1" '2 1 2 1 0 2 1 0 0 2 0 1 0'
+table 10 0 "$fork2" '3 2 5 1 1 2 3 0 4 0 0 2 1 1 0 0 2 0 1 0 5 1 2 0'
+expect 'a place in a later line' 1 'pattern: refused (8) in line 4, column 3: record 1 has target 7, and the states are 0 to 1' \
+    '' "$program" - <<<$'2 1 1\n0 1\n0 0\n0 7 0'
+expect 'a forking pattern is drawn all the same' 1 'digraph pattern {
+    rankdir=LR;
+    node [shape=circle];
+    s0 [label="0"];
+    i0 [shape=none, label=""];
+    i0 -> s0;
+    s1 [label="1", peripheries=2];
+    s1 -> s0 [label="0"];
+    s1 -> s1 [label="0"];
+}' "pattern: refused (10): $fork1" "$program" --dot pattern - <<<'2 1 2 1 0 2 1 0 0 2 0 1 0'
+expect 'its complement is not' 1 '' "pattern: refused (10): $fork1" "$program" --dot complement - <<<'2 1 2 1 0 2 1 0 0 2 0 1 0'
+expect 'a refused text is not drawn' 1 '' "pattern: refused (1) in line 1, column 1: 'x' is no digit, space or newline" \
+    "$program" --dot pattern - <<<'x'
+expect 'a refused table is not drawn' 1 '' \
+    'pattern: refused (3) in line 1, column 1: the number of states is 0, and a pattern has 1 to 32' \
+    "$program" --dot pattern - <<<'0 1 0'
+
+# ---- Refusals of the complement: 11 and 12. Rings of states have complements of a known size.
+
+rings() { # P R K: p outer states, r inner ones, one accepting; each of k letters moves every state on
+    local p=$1 r=$2 k=$3 n=$(($1 + $2 + 1)) q c flags target
+    echo "$n $k $((n * k))"
+    for q in $(seq 0 $((n - 1))); do
+        flags=0
+        if [ "$q" -eq 0 ] || { [ "$q" -ge "$p" ] && [ "$q" -lt $((p + r)) ]; }; then flags=1; fi
+        if [ "$q" -eq $((p + r)) ]; then flags=2; fi
+        echo "$flags $((q * k + 1))"
+    done
+    for q in $(seq 0 $((n - 1))); do
+        target=$((q + 1))
+        if [ "$target" -eq "$p" ]; then target=0; fi
+        if [ "$target" -ge $((p + r)) ]; then target=$p; fi
+        for c in $(seq 0 $((k - 1))); do echo "$c $target $((c + 1 < k ? q * k + c + 2 : 0))"; done
+    done
+}
+rings 7 10 1 >"$folder/rings"
+expect 'a complement of 7,168 states' 0 'pattern: passes the check (states 18, letters 1, records 18)
+complement: states 7168, edges 7168
+lasso 1 (- 0): the complement takes it' '' "$program" "$folder/rings" - 0
+count=$("$program" --states "$folder/rings" | wc -l)
+[ "$count" -eq 7170 ] || wrong 'all states are printed' 'lines' "$count"
+count=$("$program" --dot complement "$folder/rings" | grep -c -- '-> s.*label')
+[ "$count" -eq 7168 ] || wrong 'all edges are drawn' 'arrows' "$count"
+rings 1 17 1 >"$folder/rings"
+many='complement: refused (11): it has more than 65535 states, the most that a table has'
+expect 'too many states' 1 "pattern: passes the check (states 19, letters 1, records 19)
+$many" '' "$program" "$folder/rings" - 0
+expect 'too many states for a graph' 1 '' "$many" "$program" --dot complement "$folder/rings"
+rings 1 12 16 >"$folder/rings"
+expect 'too many edges' 1 'pattern: passes the check (states 14, letters 16, records 224)
+complement: refused (12): it has more than 65535 edges, the most that a table has' '' "$program" "$folder/rings"
+
+# ---- Refusals of a lasso: 13 to 15.
+
+zeros() { printf '0%.0s' $(seq "$1"); }
+expect 'lassos refused' 1 "$passes
+lasso 1 (1 -): refused (13): the loop is empty
+lasso 2 (- 12,): refused (15): letter 12 stands at place 1 of the loop, and the letters are 0 to 1
+lasso 3 (- 1): the complement takes it
+lasso 4 (0102 3): refused (15): letter 2 stands at place 4 of the prefix, and the letters are 0 to 1" '' \
+    "$program" "$folder/a" 1 '' - 12, - 1 0102 3
+expect 'a loop of 4,097' 1 "$passes
+lasso 1 (- $(zeros 4097)): refused (14): the loop has 4097 letters, and a part has at most 4096" '' \
+    "$program" "$folder/a" - "$(zeros 4097)"
+expect 'a prefix of 5,000' 1 "$passes
+lasso 1 ($(zeros 5000) 1): refused (14): the prefix has 5000 letters, and a part has at most 4096" '' \
+    "$program" "$folder/a" "$(zeros 5000)" 1
+expect 'both parts of 4,096' 0 "$passes
+lasso 1 ($(zeros 4096) $(zeros 4096)): the pattern takes it" '' "$program" "$folder/a" "$(zeros 4096)" "$(zeros 4096)"
+
+# ---- The command line.
+
+# misuse SENTENCE ARGUMENTS...
+misuse() {
+    local sentence=$1
+    shift
+    expect "$sentence" 2 '' "tubochre-bench: $sentence
+usage: tubochre-bench [OPTION]... PATTERN [PREFIX LOOP]...
+tubochre-bench --help says more" "$program" "$@"
+}
+misuse 'no pattern is named'
+misuse 'no pattern is named' --
+misuse 'no pattern is named' --states
+misuse 'a prefix has no loop beside it: 0' "$folder/a" 0
+misuse 'a prefix has no loop beside it: 1' "$folder/a" 0 1 1
+misuse 'unknown option: --stats' --stats "$folder/a"
+misuse 'unknown option: -x' "$folder/a" -x 0
+misuse 'unknown option: -help' -help
+misuse 'this option takes no value: --states=1' --states=1 "$folder/a"
+misuse 'a value is missing behind this option: --dot' "$folder/a" --dot
+misuse 'this is no graph, which is pattern or complement: svg' --dot svg "$folder/a"
+misuse 'this is no graph, which is pattern or complement: ' --dot= "$folder/a"
+misuse '--dot writes a graph alone, without lassos and states' --dot pattern "$folder/a" 0 1
+misuse '--dot writes a graph alone, without lassos and states' --dot pattern --states "$folder/a"
+
+# trouble SENTENCE ARGUMENTS...
+trouble() {
+    local sentence=$1
+    shift
+    expect "$sentence" 2 '' "tubochre-bench: $sentence" "$program" "$@"
+}
+trouble "$folder/none: No such file or directory" "$folder/none"
+trouble "$folder: Is a directory" "$folder"
+parts='a part is digits, or numbers divided by commas'
+trouble "lasso 1 (0 1x1), its loop: $parts" "$folder/a" 0 1x1
+trouble "lasso 2 (a 1), its prefix: $parts" "$folder/a" 0 1 a 1
+trouble "lasso 1 (0 1,,1), its loop: $parts" "$folder/a" 0 1,,1
+trouble "lasso 1 (,1 1), its prefix: $parts" "$folder/a" ,1 1
+trouble "lasso 1 (0 3,256,1), its loop: a letter is a number from 0 to 255" "$folder/a" 0 3,256,1
+trouble "lasso 1 (0 99999999999999999999,), its loop: a letter is a number from 0 to 255" "$folder/a" 0 99999999999999999999,
+
+expect '--version' 0 "tubochre-bench $(sed -n 's/^.define TUBOCHRE_VERSION_[A-Z]* //p' "$here/../../include/tubochre.h" | paste -sd. -)" \
+    '' "$program" --version
+help=$("$program" --help)
+expect '-h' 0 "$help" '' "$program" -h
+expect '--help before all else' 0 "$help" '' "$program" "$folder/none" --help 0
+for word in 'usage: tubochre-bench' --states --dot --help --version 'Exit status'; do
+    grep -q -- "$word" <<<"$help" || wrong '--help' 'it does not say' "$word"
+done
+
+# ---- Outputs that cannot be written.
+
+for arguments in --help --version "$folder/a" "--states $folder/a" "--dot pattern $folder/a" "--dot complement $folder/a" - ; do
+    # shellcheck disable=SC2086 # words
+    expect "a full disk: $arguments" 2 '' 'tubochre-bench: standard output: No space left on device' \
+        sh -c "exec \"\$0\" \"\$@\" >/dev/full" "$program" $arguments <<<'x'
+done
+expect 'a closed output' 2 '' 'tubochre-bench: standard output: Bad file descriptor' sh -c "exec \"\$0\" --version >&-" "$program"
+
+# ---- A terminal shows that a long build goes on; nothing else does.
+
+rings 7 13 1 >"$folder/rings"
+expect 'no progress off a terminal' 0 'pattern: passes the check (states 21, letters 1, records 21)
+complement: states 57344, edges 57344' '' "$program" "$folder/rings"
+if command -v script >/dev/null; then
+    # The build may take less than the half second after which it is shown: then there is nothing to see.
+    start=$(date +%s%N)
+    script -qec "$program $folder/rings" /dev/null >"$folder/out" </dev/null
+    if [ $(($(date +%s%N) - start)) -gt 900000000 ]; then
+        grep -q '^tubochre-bench: building the complement \.' "$folder/out" ||
+            wrong 'progress on a terminal' 'it showed' "$(cat "$folder/out")"
+    fi
+    tried=$((tried + 1))
+fi
+end_trials tubochre-bench
