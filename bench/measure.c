@@ -47,7 +47,8 @@ static void *large_memory(size_t bytes)
     return p;
 }
 
-/* Rows that would be lent more are left out, and said to be: half of the memory that is free, or little in a quick run. */
+/* Rows that would be lent more are left out, and said to be: half of the memory that is free, or little in a quick
+ * run. */
 static size_t most_lent(void)
 {
     const size_t little = (size_t)14 * 1000 * 1000;

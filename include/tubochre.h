@@ -12,27 +12,45 @@
  * that repeat an edge mean it once. One form has two ranges: a pattern has 1 to 32 states and 0 to 4,096 records, a
  * wide table (such as a complement) 1 to 65,535 states and 0 to 65,535 records. Every valid pattern is a valid wide
  * table. A lasso is a prefix and a loop of letters; it stands for the word that reads the prefix once and then the
- * loop for ever.
+ * loop for ever. docs/RULES.md has all rules.
  *
  * What the caller sees to:
  *
  *   - A buffer is a pointer and the number of its elements (not bytes), aligned as C asks for its element type (2 bytes
  *     for uint16_t, 4 for uint32_t), all of it readable, and writable where its pointer is not to const.
  *   - A buffer that is lent to be written overlaps no other buffer of the same call. Those only read may overlap.
- *   - An empty buffer (number 0) still has a pointer that is non-null and aligned. It is not read or written through,
- *     so the address of any object of the element type will do.
+ *   - An empty buffer (number 0) is not read or written through: its pointer may be NULL, or any other.
  *   - A buffer has fewer than 2^63 bytes, and no other thread writes any buffer of a call while it runs.
  *
  * What every call keeps to, for every content of its buffers:
  *
  *   - It returns. It reads and writes nothing outside the lent buffers, and holds no pointer after it has returned.
  *   - Tables, prefixes and loops are only read. Nothing is assumed of what the written buffers hold before.
+ *   - All of a written buffer is written, however much of it is used: what is lent beyond the need costs its clearing.
  *   - It has no state from call to call, no global variables, and allocates nothing, so any number of threads may call
  *     at the same time, each with written buffers of its own.
  *   - It needs less than 32 KiB of stack.
  *
+ * What to lend so that room never refuses:
+ *
+ *   - A build: TUBOCHRE_WIDE_WORDS_MOST words and tubochre_sets_words(TUBOCHRE_WIDE_STATES_MOST) sets words, 1.7 MB in
+ *     all. Then 11 and 12 tell that the complement has more than 65,535 states or edges. Where tubochre_bound is
+ *     smaller, records for that many states are enough; the edges have no bound but 65,535.
+ *   - A decision: tubochre_work_words(n, prefix_len, loop_len) work words, which is 4 n (prefix_len + loop_len). For
+ *     the largest table and the longest lasso that is TUBOCHRE_WORK_WORDS_MOST words, 8.6 GB; a pattern needs at most
+ *     1,048,576 words, 4.2 MB.
+ *
+ * What a call costs:
+ *
+ *   - A check: time that grows with the table's length.
+ *   - A build: every successor is made once and looked up by going through the states found so far, so time grows with
+ *     edges times states. 10,000 states take some hundredths of a second, 57,344 states more than half a second, and
+ *     16 letters multiply that. 11 comes as soon as there are too many states, 12 only when all states are known.
+ *   - A decision: time that grows with records times (prefix_len + loop_len), at most; it may find its answer early.
+ *     Then all work words are cleared, those beyond the need too, and also where it refuses.
+ *
  * The calls are proved against contracts that say the same. This header, the programs that call, and the compiler's
- * back end are outside those proofs. The archive is for x86-64 Linux.
+ * back end are outside those proofs. The archives are for x86-64 Linux.
  */
 #ifndef TUBOCHRE_H
 #define TUBOCHRE_H
@@ -85,10 +103,11 @@ enum tubochre_limit {
     TUBOCHRE_WIDE_STATES_MOST = 65535,
     TUBOCHRE_WIDE_RECORDS_MOST = 65535,
     TUBOCHRE_WIDE_WORDS_MOST = 327678, /* 3 + 2 * 65,535 + 3 * 65,535 */
-    TUBOCHRE_LASSO_PART_MOST = 4096    /* letters of a prefix, and of a loop */
+    TUBOCHRE_LASSO_PART_MOST = 4096,   /* letters of a prefix, and of a loop */
+    TUBOCHRE_WORK_WORDS_MOST = 2147450880 /* 4 * 65,535 * (4,096 + 4,096): the largest table, the longest lasso */
 };
 
-/* What a lasso decision says of a lasso that it does not refuse. */
+/* What a lasso decision says of a lasso that it does not refuse: a truth value. */
 enum tubochre_taken { TUBOCHRE_NOT_TAKEN = 0, TUBOCHRE_TAKEN = 1 };
 
 /* What a build answers: number 0 and both counts, or the number of the refusal and both counts zero. */
@@ -97,7 +116,7 @@ struct tubochre_counts {
 };
 
 /* What a decision answers: number 0 and taken 1 or 0, or the number of the refusal and taken 0. Only number tells a
- * refusal. */
+ * refusal; a lasso is taken if (d.number == 0 && d.taken). */
 struct tubochre_decision {
     uint32_t number, taken;
 };
@@ -132,7 +151,8 @@ struct tubochre_quadruple {
 };
 
 /* Fills records from the sets words of a build, one for each full four words. Records beyond those become zero, and
- * words beyond the last record are not read. It refuses nothing. It stands in an archive of its own, librecords.a. */
+ * words beyond the last record are not read. It refuses nothing. It stands in an archive of its own, which is installed
+ * as libtubochre_records.a. */
 void tubochre_records(struct tubochre_quadruple *records, size_t records_len, const uint32_t *sets, size_t sets_len);
 
 /* What a refusal number means, as a sentence without a full stop. */

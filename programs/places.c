@@ -53,8 +53,9 @@ static size_t next_word(const uint16_t *t, unsigned record)
 
 static struct place bad_length(const uint16_t *t, size_t len)
 {
-    return place(NO_WORD, "the number of words is %zu, and by those of states and records it is 3 + 2 * %u + 3 * %u = %zu",
-                 len, t[0], t[2], tubochre_table_words(t[0], t[2]));
+    return place(NO_WORD,
+                 "the number of words is %zu, and by those of states and records it is 3 + 2 * %u + 3 * %u = %zu", len,
+                 t[0], t[2], tubochre_table_words(t[0], t[2]));
 }
 
 static struct place bad_flags(const uint16_t *t)
@@ -87,14 +88,15 @@ static struct place bad_link(const uint16_t *t)
     unsigned q, r;
     for (q = 0; q < t[0]; q++)
         if (t[head_word(q)] > t[2])
-            return place(head_word(q), "state %u has head %u, and the number of records is %u", q, t[head_word(q)], t[2]);
+            return place(head_word(q), "state %u has head %u, and the number of records is %u", q, t[head_word(q)],
+                         t[2]);
     for (r = 1; r <= t[2]; r++) {
         const unsigned next = t[next_word(t, r)];
         if (next > t[2])
             return place(next_word(t, r), "record %u has next %u, and the number of records is %u", r, next, t[2]);
         if (next != 0 && next <= r)
-            return place(next_word(t, r), "record %u has next %u, and a next is 0 or larger than its own record's number",
-                         r, next);
+            return place(next_word(t, r),
+                         "record %u has next %u, and a next is 0 or larger than its own record's number", r, next);
     }
     return nowhere(TUBOCHRE_CHAIN);
 }
@@ -200,11 +202,13 @@ struct place place_in_pattern(uint32_t number, const uint16_t *words, size_t len
     switch (number) {
     case TUBOCHRE_SHORT: return place(NO_WORD, "the number of words is %zu, and a table has at least 3", len);
     case TUBOCHRE_STATES:
-        return place(0, "the number of states is %u, and a pattern has 1 to %d", words[0], TUBOCHRE_PATTERN_STATES_MOST);
+        return place(0, "the number of states is %u, and a pattern has 1 to %d", words[0],
+                     TUBOCHRE_PATTERN_STATES_MOST);
     case TUBOCHRE_LETTERS:
         return place(1, "the number of letters is %u, and a table has 1 to %d", words[1], TUBOCHRE_LETTERS_MOST);
     case TUBOCHRE_RECORDS:
-        return place(2, "the number of records is %u, and a pattern has at most %d", words[2], TUBOCHRE_PATTERN_RECORDS_MOST);
+        return place(2, "the number of records is %u, and a pattern has at most %d", words[2],
+                     TUBOCHRE_PATTERN_RECORDS_MOST);
     case TUBOCHRE_LENGTH: return bad_length(words, len);
     case TUBOCHRE_FLAGS: return bad_flags(words);
     case TUBOCHRE_RECORD: return bad_record(words);
@@ -241,8 +245,8 @@ static struct place bad_letter_in(const uint16_t *words, const struct lasso *l)
     const size_t at = bad_letter(words, part);
     if (at == part->len)
         return nowhere(TUBOCHRE_LETTER);
-    return place(NO_WORD, "letter %u stands at place %zu of the %s, and the letters are 0 to %u", part->letter[at], at + 1,
-                 in_prefix ? "prefix" : "loop", words[1] - 1U);
+    return place(NO_WORD, "letter %u stands at place %zu of the %s, and the letters are 0 to %u", part->letter[at],
+                 at + 1, in_prefix ? "prefix" : "loop", words[1] - 1U);
 }
 
 struct place place_in_lasso(uint32_t number, const uint16_t *words, const struct lasso *l)

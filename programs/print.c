@@ -115,7 +115,8 @@ void print_pattern_graph(const uint16_t *words)
 
 void print_complement_graph(const struct complement *c)
 {
-    puts("digraph complement {\n    rankdir=LR;\n    label=\"below each number its sets N C S B\";\n    node [shape=ellipse];");
+    puts("digraph complement {\n    rankdir=LR;\n    node [shape=ellipse];");
+    puts("    label=\"below each number its sets N C S B\";");
     print_nodes(c->words, c->sets);
     print_arrows(c->words);
     puts("}");

@@ -224,8 +224,8 @@ static int answer_lasso(const struct words *w, const struct complement *c, size_
     const struct tubochre_decision by_pattern = decide(w->word, w->len, l);
     struct tubochre_decision by_complement;
     if (by_pattern.number != TUBOCHRE_OK) {
-        printf("lasso %zu (%s %s): refused (%u): %s\n", number, l->prefix_text, l->loop_text, (unsigned)by_pattern.number,
-               place_in_lasso(by_pattern.number, w->word, l).sentence);
+        printf("lasso %zu (%s %s): refused (%u): %s\n", number, l->prefix_text, l->loop_text,
+               (unsigned)by_pattern.number, place_in_lasso(by_pattern.number, w->word, l).sentence);
         return REFUSED;
     }
     by_complement = decide(c->words, used, l);
@@ -261,8 +261,8 @@ static int answer(const struct request *r, const struct words *w, const struct l
     const uint32_t number = tubochre_check(w->word, w->len);
     if (number != TUBOCHRE_OK)
         return pattern_refused(stdout, number, w);
-    printf("pattern: passes the check (states %u, letters %u, records %u)\n", (unsigned)w->word[0], (unsigned)w->word[1],
-           (unsigned)w->word[2]);
+    printf("pattern: passes the check (states %u, letters %u, records %u)\n", (unsigned)w->word[0],
+           (unsigned)w->word[1], (unsigned)w->word[2]);
     fflush(stdout); /* before the build, which may take long */
     return answer_complement(r, w, lassos);
 }
@@ -276,7 +276,8 @@ static int run(const struct request *r)
     struct fault fault;
     int status;
     if (!read_words(r->words[0], w, &fault))
-        status = say_refused(r->graph == NO_GRAPH ? stdout : stderr, "pattern", TUBOCHRE_TEXT, &fault.at, fault.sentence);
+        status = say_refused(r->graph == NO_GRAPH ? stdout : stderr, "pattern", TUBOCHRE_TEXT, &fault.at,
+                             fault.sentence);
     else if (r->graph == PATTERN_GRAPH)
         status = draw_pattern(w);
     else if (r->graph == COMPLEMENT_GRAPH)

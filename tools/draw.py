@@ -4,43 +4,99 @@
     target/bin/listing < PATTERN | tools/draw.py PATTERN > picture.svg
 
 States stand in a row. A double ring accepts, an arrow from the left marks an initial state; an edge's label lists its letters.
+For larger automata let `tubochre-bench --dot` write a graph, and any viewer of DOT lay it out.
 """
+import os
+import re
 import sys
 from collections import defaultdict
 
 STEP, RADIUS, LEFT = 150, 26, 70
+MOST_BYTES = 4000000  # no listing, and no pattern without needless zeros, is as long
+STATES_MOST, LETTERS_MOST, RECORDS_MOST = 32, 16, 4096
 
 
-def read_pattern(path):
-    words = [int(w) for w in open(path).read().split()]
-    n, _, m = words[:3]
-    flags = [words[3 + 2 * q] for q in range(n)]
-    edges = []
-    for q in range(n):
-        r = words[4 + 2 * q]
-        while r:
-            at = 3 + 2 * n + 3 * (r - 1)
-            edges.append((q, words[at], words[at + 1]))
-            r = words[at + 2]
-    return [str(q) for q in range(n)], flags, edges
+def stop(sentence):
+    sys.exit("draw.py: " + sentence)
 
 
-def read_listing(lines):
-    head = lines[0].split()
-    if head[0] != "states":
-        sys.exit("the listing is a refusal: " + lines[0])
-    n, m = int(head[1]), int(head[3])
-    rows = [[int(w) for w in line.split()] for line in lines[1:]]
-    names = ["%d,%d,%d,%d" % tuple(row[1:5]) for row in rows[:n]]
-    return names, [row[5] for row in rows[:n]], [tuple(row) for row in rows[n:n + m]]
+def read_text(file, name):
+    """The text of a file, of which no more is read than can be right."""
+    data = file.read(MOST_BYTES + 1)
+    if len(data) > MOST_BYTES:
+        stop("%s is longer than %d bytes" % (name, MOST_BYTES))
+    try:
+        return data.decode("ascii")
+    except UnicodeDecodeError as error:
+        stop("%s is no plain text: byte %d is 0x%02x" % (name, error.start, data[error.start]))
+
+
+def numbers(words, name):
+    for word in words:
+        if not re.fullmatch("0*[0-9]{1,10}", word):
+            stop("%s has %s where a number should stand" % (name, repr(word[:40])))
+    return [int(word[-10:]) for word in words]
+
+
+# ---- The listing, which is looked at first: it says whether the pattern is one.
+
+
+def read_listing(text):
+    """The names of the states, their flags, and the edges."""
+    lines = text.split("\n")[:-1]
+    refused = re.fullmatch("refused ([0-9]+)", lines[0]) if lines else None
+    if refused:
+        stop("the pattern is refused by %s, so there is nothing to draw" % refused.group(1))
+    head = re.fullmatch("states ([0-9]{1,5}) edges ([0-9]{1,5})", lines[0]) if lines else None
+    if not head:
+        stop("standard input is no listing: pass on what the listing program prints")
+    n, m = int(head.group(1)), int(head.group(2))
+    if len(lines) != 1 + n + m:
+        stop("the listing has %d lines, and %d states and %d edges take %d" % (len(lines), n, m, 1 + n + m))
+    rows = [numbers(line.split(" "), "the listing") for line in lines[1:]]
+    states, edges = rows[:n], rows[n:]
+    if any(len(row) != 6 or row[0] != q or row[5] > 3 for q, row in enumerate(states)):
+        stop("the listing's states are not numbered lines of six fields with flags from 0 to 3")
+    if any(len(row) != 3 or row[0] >= n or row[2] >= n for row in edges):
+        stop("the listing's edges are not lines of source, letter and target")
+    return ["%d,%d,%d,%d" % tuple(row[1:5]) for row in states], [row[5] for row in states], [tuple(row) for row in edges]
+
+
+# ---- The pattern, read with no trust in its chains.
+
+
+def chain(words, n, m, q):
+    """The edges of a state: each next is larger than its own record, so a chain ends."""
+    record = words[4 + 2 * q]
+    while record:
+        if record > m:
+            stop("the pattern is no valid table: a link leads to record %d of %d" % (record, m))
+        letter, target, link = words[2 * n + 3 * record : 2 * n + 3 * record + 3]
+        if target >= n or (link and link <= record):
+            stop("the pattern is no valid table: record %d has target %d and next %d" % (record, target, link))
+        yield q, letter, target
+        record = link
+
+
+def read_pattern(text):
+    words = numbers(text.split(), "the pattern")
+    if len(words) < 3:
+        stop("the pattern has fewer than three words")
+    n, k, m = words[:3]
+    if not (1 <= n <= STATES_MOST and 1 <= k <= LETTERS_MOST and m <= RECORDS_MOST and len(words) == 3 + 2 * n + 3 * m):
+        stop("the pattern is no valid table: its first words are %d %d %d, and it has %d" % (n, k, m, len(words)))
+    edges = [edge for q in range(n) for edge in chain(words, n, m, q)]
+    return [str(q) for q in range(n)], [words[3 + 2 * q] for q in range(n)], edges
+
+
+# ---- The picture.
 
 
 def labels(edges):
-    grouped = defaultdict(list)
+    grouped = defaultdict(set)
     for p, c, q in edges:
-        if c not in grouped[p, q]:
-            grouped[p, q].append(c)
-    return {pair: ",".join(map(str, sorted(cs))) for pair, cs in grouped.items()}
+        grouped[p, q].add(c)
+    return {pair: ",".join(map(str, sorted(letters))) for pair, letters in grouped.items()}
 
 
 def draw(title, names, flags, edges, top, out):
@@ -69,19 +125,34 @@ def draw(title, names, flags, edges, top, out):
     return x[-1]
 
 
+def picture(pattern, complement):
+    out = []
+    width = max(draw("the pattern", *pattern, 0, out), draw("its complement: states N,C,S,B", *complement, 180, out)) + 80
+    return "\n".join([
+        '<svg xmlns="http://www.w3.org/2000/svg" width="%d" height="360" font-family="sans-serif" font-size="13">' % width,
+        '<defs><marker id="tip" viewBox="0 0 8 8" refX="7" refY="4" markerWidth="7" markerHeight="7" orient="auto">'
+        '<path d="M 0 0 L 8 4 L 0 8 z" fill="#333"/></marker></defs>',
+        '<rect width="100%" height="100%" fill="#fff"/>',
+        *out,
+        "</svg>",
+        "",
+    ])
+
+
 def main():
     if len(sys.argv) != 2:
         sys.exit(__doc__)
-    pattern = read_pattern(sys.argv[1])
-    complement = read_listing(sys.stdin.read().splitlines())
-    out = []
-    width = max(draw("the pattern", *pattern, 0, out), draw("its complement: states N,C,S,B", *complement, 180, out)) + 80
-    print('<svg xmlns="http://www.w3.org/2000/svg" width="%d" height="360" font-family="sans-serif" font-size="13">' % width)
-    print('<defs><marker id="tip" viewBox="0 0 8 8" refX="7" refY="4" markerWidth="7" markerHeight="7" orient="auto">'
-          '<path d="M 0 0 L 8 4 L 0 8 z" fill="#333"/></marker></defs>')
-    print('<rect width="100%" height="100%" fill="#fff"/>')
-    print("\n".join(out))
-    print("</svg>")
+    if sys.stdin is None or sys.stdout is None:
+        stop("standard input or standard output is closed")
+    try:
+        complement = read_listing(read_text(sys.stdin.buffer, "the listing"))
+        with open(sys.argv[1], "rb") as file:
+            pattern = read_pattern(read_text(file, "the pattern"))
+        sys.stdout.write(picture(pattern, complement))
+        sys.stdout.flush()
+    except OSError as error:
+        os.dup2(os.open(os.devnull, os.O_WRONLY), sys.stdout.fileno())  # what is left to write is not tried again
+        stop("%s: %s" % (error.filename or "standard output", error.strerror))
 
 
 main()

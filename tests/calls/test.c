@@ -183,7 +183,7 @@ struct tubochre_decision lent_lasso(const uint16_t *table, size_t len, struct la
     d = lasso_once(table, len, l, work_len, FENCE_LOW);
     again = lasso_once(table, len, l, work_len, FENCE_HIGH);
     expect(d.number == again.number && d.taken == again.taken, "two decisions of one lasso agree");
-    expect(d.number == TUBOCHRE_OK ? d.taken == TUBOCHRE_TAKEN || d.taken == TUBOCHRE_NOT_TAKEN : d.taken == TUBOCHRE_NOT_TAKEN,
+    expect(d.taken == TUBOCHRE_NOT_TAKEN || (d.number == TUBOCHRE_OK && d.taken == TUBOCHRE_TAKEN),
            "a decision says taken, not taken, or only its refusal");
     return d;
 }

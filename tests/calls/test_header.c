@@ -33,7 +33,8 @@ static void try_sizes(void)
     expect(tubochre_table_words(65535, 65535) == TUBOCHRE_WIDE_WORDS_MOST, "the largest wide table");
     expect(tubochre_table_words(2, 4) == 19, "pattern A");
     expect(tubochre_sets_words(3) == 12, "three records");
-    expect(tubochre_work_words(65535, 4096, 4096) == (size_t)4 * 65535 * 8192, "the most work words");
+    expect(tubochre_work_words(65535, 4096, 4096) == TUBOCHRE_WORK_WORDS_MOST, "the most work words");
+    expect(tubochre_work_words(32, 4096, 4096) == 1048576, "the most work words of a pattern");
     expect(tubochre_bound(1, 1, 0) == 6, "the bound of pattern A");
     expect(tubochre_bound(2, 3, 4) == 4 * 27 * 256, "2^2 3^3 4^4");
     expect(tubochre_bound(0, 40, 0) == UINT64_C(12157665459056928801), "3^40 fits");
@@ -43,8 +44,16 @@ static void try_sizes(void)
     expect(tubochre_bound(UINT32_MAX, UINT32_MAX, UINT32_MAX) == UINT64_MAX, "nor does the largest");
 }
 
+static void try_version(void)
+{
+    char text[40];
+    snprintf(text, sizeof text, "%d.%d.%d", TUBOCHRE_VERSION_MAJOR, TUBOCHRE_VERSION_MINOR, TUBOCHRE_VERSION_PATCH);
+    expect(strcmp(text, TUBOCHRE_VERSION) == 0, "the version as text");
+}
+
 int main(void)
 {
+    try_version();
     try_sentences();
     try_sizes();
     expect(sizeof(struct tubochre_counts) == 12 && sizeof(struct tubochre_decision) == 8, "answers have no gaps");

@@ -49,8 +49,8 @@ pattern_graph='digraph pattern {
 }'
 complement_graph='digraph complement {
     rankdir=LR;
-    label="below each number its sets N C S B";
     node [shape=ellipse];
+    label="below each number its sets N C S B";
     s0 [label="0\n{0} {} {} {}", peripheries=2];
     i0 [shape=none, label=""];
     i0 -> s0;
