@@ -65,6 +65,9 @@ if [ -z "${ARCHIVE:-}" ]; then
 fi
 [ -x "$listing" ] || { say "there is no $listing: rt check listing makes it"; exit 1; }
 
+say 'citations of the rules'
+tests/test_citations.sh
+
 say 'tests of the C calls and programs'
 build "$out" -O2 -g
 run_tests "$out"

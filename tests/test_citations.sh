@@ -1,0 +1,28 @@
+#!/usr/bin/env bash
+# Every citation of the rules leads to a section or a sentence of docs/RULES.md, and none leads outside the repository.
+set -euo pipefail
+cd "$(dirname "$0")/.."
+places=(README.md CONTRIBUTING.md CHANGELOG.md docs include programs tests bench tools)
+failed=0
+
+wrong() {
+    echo "FAILED: $*"
+    failed=1
+}
+
+# Sections, cited by their titles: the page, a comma, then one quoted title or several.
+while IFS= read -r title; do
+    grep -qxF "## $title" docs/RULES.md || wrong "docs/RULES.md has no section \"$title\""
+done < <(grep -rhoE 'docs/RULES\.md, "[^"]+"( and "[^"]+")*' "${places[@]}" crates | grep -oE '"[^"]+"' | tr -d '"' | sort -u)
+
+# Sentences, quoted in a table of docs/THEORY.md.
+while IFS= read -r sentence; do
+    grep -qF -- "$sentence" docs/RULES.md || wrong "docs/RULES.md does not say: $sentence"
+done < <(sed -n '/^## The rules$/,$s/^| "\([^"]*\)".*/\1/p' docs/THEORY.md | sed 's/^… //; s/ …$//')
+
+# Papers and pages that are not here.
+if grep -rnE '[Dd]ocument 0[0-9]+' "${places[@]}" --exclude=test_citations.sh; then
+    wrong 'a document is cited that is not in the repository'
+fi
+[ "$failed" -eq 0 ] && echo 'ok: every citation of the rules leads to its place'
+exit "$failed"
