@@ -17,7 +17,7 @@ void *memory(size_t count, size_t size, const char *what_for)
 {
     const size_t some = count > 0 ? count : 1;
     void *const p = some > SIZE_MAX / size ? NULL : malloc(some * size);
-    char why[80];
+    char why[100];
     if (p == NULL) {
         snprintf(why, sizeof why, "there is not enough memory: it takes %zu times %zu bytes", some, size);
         trouble(what_for, why);

@@ -6,6 +6,7 @@ here=$(dirname "$0")
 # shellcheck source=tests/programs/trials.sh
 . "$here/trials.sh"
 
+zeros() { printf '0%.0s' $(seq "$1"); }
 a='2 2 4 1 1 2 4 0 0 2 1 0 3 0 1 0 0 1 0'
 echo "$a" >"$folder/a"
 passes='pattern: passes the check (states 2, letters 2, records 4)
@@ -192,6 +193,14 @@ count=$("$program" --states "$folder/rings" | wc -l)
 [ "$count" -eq 7170 ] || wrong 'all states are printed' 'lines' "$count"
 count=$("$program" --dot complement "$folder/rings" | grep -c -- '-> s.*label')
 [ "$count" -eq 7168 ] || wrong 'all edges are drawn' 'arrows' "$count"
+# A limit on memory, where the program bears one (its sanitizers do not).
+limited() { (ulimit -v 100000 && exec "$program" "$@"); }
+if limited --version >/dev/null 2>&1; then
+    expect 'too little memory' 2 'pattern: passes the check (states 18, letters 1, records 18)
+complement: states 7168, edges 7168' \
+        "tubochre-bench: a lasso's work words: there is not enough memory: it takes 117440512 times 4 bytes" \
+        limited "$folder/rings" - "$(zeros 4096)"
+fi
 rings 1 17 1 >"$folder/rings"
 many='complement: refused (11): it has more than 65535 states, the most that a table has'
 expect 'too many states' 1 "pattern: passes the check (states 19, letters 1, records 19)
@@ -203,7 +212,6 @@ complement: refused (12): it has more than 65535 edges, the most that a table ha
 
 # ---- Refusals of a lasso: 13 to 15.
 
-zeros() { printf '0%.0s' $(seq "$1"); }
 expect 'lassos refused' 1 "$passes
 lasso 1 (1 -): refused (13): the loop is empty
 lasso 2 (- 12,): refused (15): letter 12 stands at place 1 of the loop, and the letters are 0 to 1
