@@ -3,7 +3,7 @@ use mathlib.Core.Path.{_≡_, refl, sym, _∙_, ap}
 use mathlib.Core.Bool.{Bool, true, false, _||_, cond}
 use mathlib.Core.List.{List}
 use mathlib.Core.Logic.{inl, inr}
-use Prim.Native.Nat.{ℕ, zero, suc, _/_, _≤_, _<_, min}
+use Prim.Native.Nat.{ℕ, zero, suc, _≤_, _<_, min}
 use native.Mathlib.Omega.{arith}
 use lib.Dec.{ltb}
 use lib.ListN.{length}
@@ -11,8 +11,10 @@ use Rattle.basics.specs.Buffers.{or-else, filled}
 use Rattle.basics.proofs.Booleans.{either, or-false-l, or-false-r, ltb-lt, ltb-ge, lt-ltb, ge-ltb, ne-eqb}
 use Rattle.tables.specs.Table.{wide-range}
 use Rattle.patterns.specs.Check.{check-refusal}
+use Rattle.record_words.specs.Record.{full-records}
+use Rattle.record_words.proofs.Laws.{full-kept}
 use Rattle.complement.specs.Build.{Lent, room-of, words-needed, room-refusal, build-refusal, as-counts, after-build, Build-says, Refused-with}
-use Rattle.complement.specs.Complement.{complement, complement-words, sets-words, record-width}
+use Rattle.complement.specs.Complement.{complement, complement-words, sets-words}
 use Rattle.complement.specs.Found.{counted-to, Shows, Ends}
 use Rattle.complement.specs.Records.{capacity}
 use Rattle.complement.specs.declared.Counts.{Counts}
@@ -72,27 +74,27 @@ module _ (t : List ℕ) (lends : Lent) where
     pub states-refuse :
         {l : Lent} {p : Progress} → Ends (complement t) l p → p .full ≡ true → Same-sizes l lends →
         build-refusal t (room-of lends) ≡ 11
-    unfolding capacity record-width wide-range room-of
-    states-refuse ends full sizes =
-        let over : min (length (lends .sets) / 4) 65535 < length (complement t .states) =
-        rw (sizes .sets) at (ends-beyond full ends) in
+    unfolding capacity wide-range room-of
+    states-refuse {l} ends full sizes =
+        let over : min (full-records (lends .sets)) 65535 < length (complement t .states) =
+        rw (full-kept (lends .sets) (l .sets) (sizes .sets)) at (ends-beyond full ends) in
         room-only
-        ∙ states-over (length (lends .words)) (length (lends .sets) / 4) (length (complement t .states)) (length (complement t .edges)) over
+        ∙ states-over (length (lends .words)) (full-records (lends .sets)) (length (complement t .states)) (length (complement t .edges)) over
 
     module _ {l : Lent} {p : Progress} (h : Shows (complement t) l p) (sizes : Same-sizes l lends) where
       both-counts :
           build-refusal t (room-of lends)
           ≡ cond (ltb 65535 (p .edges) || ltb (length (l .words)) (words-needed (p .states) (p .edges))) 12 0
-      unfolding capacity record-width wide-range room-of counted-to
+      unfolding capacity wide-range room-of counted-to
       both-counts =
           let n = length (complement t .states) in
           let m = length (complement t .edges) in
-          let fits : n ≤ min (length (lends .sets) / 4) 65535 = rw (sizes .sets) at (h .states .fits) in
+          let fits : n ≤ min (full-records (lends .sets)) 65535 = rw (full-kept (lends .sets) (l .sets) (sizes .sets)) at (h .states .fits) in
           let count = h .states .counted in
           let stop = h .edges .counted in
-          room-only ∙ states-fit (length (lends .words)) (length (lends .sets) / 4) n m fits
+          room-only ∙ states-fit (length (lends .words)) (full-records (lends .sets)) n m fits
           ∙ rw (sizes .words, count)
-          (ap (λ (b : Bool). cond b 12 0) (sym (stopped-count (length (lends .words)) (length (lends .sets) / 4) n m (p .edges) stop)))
+          (ap (λ (b : Bool). cond b 12 0) (sym (stopped-count (length (lends .words)) (full-records (lends .sets)) n m (p .edges) stop)))
 
       -- 12
       pub edges-refuse :

@@ -2,54 +2,45 @@
 -- records are its sets. Assumes nothing.
 use mathlib.Core.Path.{_≡_, refl, sym, _∙_, ap}
 use mathlib.Core.Bool.{Bool, false, _||_}
-use mathlib.Core.List.{List, [], _∷_, _++_}
+use mathlib.Core.List.{List, [], _∷_}
 use Prim.Native.Nat.{ℕ, zero, suc, _+_, _*_, _≤_, _<_}
 use native.Mathlib.Omega.{arith}
 use lib.Dec.{ltb}
-use lib.ListN.{length, getD, take, List·getD-eq-default}
-use lib.Seq.{take-suc, take-all, take-length}
+use lib.ListN.{length, getD, List·getD-eq-default}
+use lib.Seq.{take-all, take-length}
 use Rattle.basics.specs.Buffers.{filled}
-use Rattle.basics.specs.Rows.{rows}
 use Rattle.basics.proofs.Booleans.{lt-ltb}
 use Rattle.automata.specs.System.{Edge, edge-at, state-at, numbered}
 use Rattle.tables.specs.Table.{wide-range}
-use Rattle.ncsb.specs.Successors.{quadruple, initials, ncsb}
-use Rattle.ncsb.specs.declared.Quadruple.{Quadruple}
+use Rattle.ncsb.specs.Successors.{initials, ncsb}
 use Rattle.patterns.specs.declared.Shape.{Shape}
 use Rattle.layout.specs.Chained.{flags-word, chained-words}
 use Rattle.layout.specs.Steps.{Lay-out-asks}
 use Rattle.layout.specs.Triples.{triples-of, plain}
 use Rattle.layout.proofs.Indexed.{flagging-end}
 use Rattle.layout.proofs.Triples.{triples-are}
+use Rattle.record_words.specs.Record.{record-words, all-words, full-records}
+use Rattle.record_words.proofs.Laws.{all-length, rows-all, full-words}
 use Rattle.complement.specs.Build.{Lent, lent, words-needed, Build-says}
-use Rattle.complement.specs.Complement.{system-of, complement, complement-automaton, complement-words, sets-words, quadruple-words}
+use Rattle.complement.specs.Complement.{system-of, complement, complement-automaton, complement-words, sets-words}
 use Rattle.complement.specs.Flags.{flags-of-record, with-flags, Flags-ask}
-use Rattle.complement.specs.Found.{Begins, records, triple, triples, edge-room, counted-to, Shows, start-moves, Read-off}
+use Rattle.complement.specs.Found.{Begins, triple, triples, edge-room, counted-to, Shows, start-moves, Read-off}
 use Rattle.complement.specs.declared.explore.Progress.{Progress}
 use Rattle.complement.proofs.Answers.{none-refuses, says-built, short-enough}
 use Rattle.complement.proofs.Flagged.{flags-flagging}
-use Rattle.complement.proofs.Kept.{records-length, records-snoc, kept-at, triples-length}
-use Rattle.complement.proofs.Meeting.{capacity-words, capacity-limit}
+use Rattle.complement.proofs.Kept.{capacity-full, kept-at, triples-length}
+use Rattle.complement.proofs.Meeting.{capacity-limit}
 use Rattle.complement.proofs.Numbering.{letters-all, letters-few, starts-same}
 use Rattle.complement.proofs.Reaching.{Same-sizes}
 use Rattle.complement.proofs.Second.{complement-orderly}
 use Rattle.complement.proofs.Stored.{begins-filled}
 
--- SETS: records one after the other are rows of quadruples
-records-rows :
-    (xs : List Quadruple) (k : ℕ) → k ≤ length xs →
-    rows k (λ i. quadruple-words (getD xs i (quadruple 0 0 0 0))) ≡ records (take k xs)
-unfolding rows records
-records-rows xs zero l = refl
-records-rows xs (suc k) l =
-    rw (take-suc xs k (quadruple 0 0 0 0) l, records-snoc (take k xs) (getD xs k (quadruple 0 0 0 0)))
-    (ap (λ (l : List ℕ). l ++ quadruple-words (getD xs k (quadruple 0 0 0 0))) (records-rows xs k (omega arith)))
-
-records-sets : (t : List ℕ) → records (complement t .states) ≡ sets-words t
-unfolding sets-words state-at system-of ncsb
+-- SETS: records one after the other are the complement's sets
+records-sets : (t : List ℕ) → all-words (complement t .states) ≡ sets-words t
+unfolding sets-words state-at
 records-sets t =
     let xs = complement t .states in
-    ap records (sym (take-length xs)) ∙ sym (records-rows xs (length xs) (omega arith))
+    ap all-words (sym (take-length xs)) ∙ sym (rows-all xs (system-of t .blank) (length xs) (omega arith))
 
 -- EDGES by word
 triples-letter : (es : List Edge) (e : ℕ) → e < length es → getD (triples es) (3 * e) 0 ≡ edge-at es e .letter
@@ -88,17 +79,17 @@ module _
       let few = h .states .fits in
       let m = capacity-limit s in omega arith
 
-  sets-room : 4 * p .states ≤ length s
-  sets-room = let e = h .states .counted in let few = h .states .fits in capacity-words s (p .states) (omega arith)
+  sets-room : p .states ≤ full-records s
+  sets-room = let e = h .states .counted in let few = h .states .fits in capacity-full s (p .states) (omega arith)
 
   -- the sets are all there
   pub sets-built : (o : List ℕ) → length s ≡ length o → s ≡ filled (sets-words t) o
   unfolding filled
   sets-built o e =
-      let room = sets-room in
+      let xs = complement t .states in
       let count = h .states .counted in
-      let long = records-length (complement t .states) in
-      let whole : s ≡ filled (records (complement t .states)) s = begins-filled (omega arith) (h .states .begins) in
+      let room : record-words * length xs ≤ length s = full-words s (length xs) (let r = sets-room in omega arith) in
+      let whole : s ≡ filled (all-words xs) s = begins-filled (rw (all-length xs) room) (h .states .begins) in
       whole ∙ rw (records-sets t, e) refl
 
   module _ (short : (p .edges ≤ 65535) × (words-needed (p .states) (p .edges) ≤ length w)) where

@@ -12,8 +12,8 @@ use Rattle.layout.specs.Chained.{flags-word}
 use Rattle.layout.proofs.Indexed.{Flagging, flagging-start, flagging-turn}
 use Rattle.ncsb.specs.Successors.{accepting}
 use Rattle.ncsb.specs.declared.Quadruple.{Quadruple}
+use Rattle.record_words.specs.Record.{quadruple-at}
 use Rattle.complement.specs.Flags.{flags-of-record, with-flags}
-use Rattle.complement.specs.Records.{quadruple-at}
 
 -- the four cases of one state's flags
 module _ (s : List ℕ) (k i : ℕ) {x : Quadruple} {b : Bool} (loaded : x ≡ quadruple-at s i) (asked : b ≡ accepting x) where

@@ -1,8 +1,8 @@
 -- States and edges that the buffers keep: what is read back, and one more of each. Assumes nothing.
-use mathlib.Core.Path.{_≡_, refl, _∙_, ap}
+use mathlib.Core.Path.{_≡_, refl, sym, _∙_, ap}
 use mathlib.Core.List.{List, [], _∷_, _++_}
 use mathlib.Core.Logic.{inl, inr}
-use Prim.Native.Nat.{ℕ, zero, suc, _+_, _*_, _≤_, _<_, min}
+use Prim.Native.Nat.{ℕ, suc, _+_, _*_, _≤_, _<_, min}
 use native.Mathlib.Omega.{arith}
 use lib.Dec.{ltb}
 use lib.ListN.{length, getD, length-append}
@@ -14,76 +14,57 @@ use Rattle.automata.proofs.Graphs.{tabulate-at, tabulate-length}
 use Rattle.tables.specs.Table.{wide-range}
 use Rattle.ncsb.specs.Successors.{quadruple}
 use Rattle.ncsb.specs.declared.Quadruple.{Quadruple}
-use Rattle.complement.specs.Complement.{quadruple-words, record-width}
-use Rattle.complement.specs.Records.{quadruple-at, records-of, with-quadruple, capacity}
-use Rattle.complement.specs.Found.{Begins, records, States-kept, triple, triples, edge-room, counted-to, Edges-kept, with-edge, one-more}
+use Rattle.record_words.specs.Record.{record-words, words-of, all-words, full-records, quadruple-at, with-quadruple}
+use Rattle.record_words.proofs.Laws.{words-length, all-length, all-snoc, with-length, inside-words, full-kept, same-record, read-back}
+use Rattle.complement.specs.Records.{records-of, capacity}
+use Rattle.complement.specs.Found.{Begins, States-kept, triple, triples, edge-room, counted-to, Edges-kept, with-edge, one-more}
 use Rattle.complement.proofs.Stored.{begins-words}
 
 -- RECORDS
-pub records-length : (xs : List Quadruple) → length (records xs) ≡ 4 * length xs
-unfolding records quadruple-words
-records-length [] = refl
-records-length (x ∷ xs) = let h = records-length xs in omega arith
-
-pub records-snoc : (xs : List Quadruple) (x : Quadruple) → records (xs ++ (x ∷ [])) ≡ records xs ++ quadruple-words x
-unfolding records quadruple-words
-records-snoc [] x = refl
-records-snoc (y ∷ xs) x = ap (λ (l : List ℕ). y .N ∷ y .C ∷ y .S ∷ y .B ∷ l) (records-snoc xs x)
-
-nobody : Quadruple
-nobody = quadruple 0 0 0 0
-
 -- a record that is read back
-next-record : (a b c d : ℕ) (w : List ℕ) (i : ℕ) → quadruple-at (a ∷ b ∷ c ∷ d ∷ w) (suc i) ≡ quadruple-at w i
-unfolding quadruple-at record-width
-next-record a b c d w i =
-    let e : 4 * suc i ≡ suc (suc (suc (suc (4 * i)))) = omega arith in
-    let e1 : 4 * suc i + 1 ≡ suc (suc (suc (suc (4 * i + 1)))) = omega arith in
-    let e2 : 4 * suc i + 2 ≡ suc (suc (suc (suc (4 * i + 2)))) = omega arith in
-    let e3 : 4 * suc i + 3 ≡ suc (suc (suc (suc (4 * i + 3)))) = omega arith in rw (e1, e2, e3, e) refl
-
-records-at : (xs : List Quadruple) (i : ℕ) → i < length xs → quadruple-at (records xs) i ≡ getD xs i nobody
-unfolding records quadruple-words quadruple-at record-width quadruple
-records-at [] i l = absurd (omega arith)
-records-at (x ∷ xs) zero l = refl
-records-at (x ∷ xs) (suc i) l =
-    next-record (x .N) (x .C) (x .S) (x .B) (records xs) i ∙ records-at xs i (omega arith)
-
-begins-at : {new w : List ℕ} → Begins new w → (i : ℕ) → quadruple-at w i ≡ quadruple-at new i
-unfolding quadruple-at
-begins-at h i =
-    rw (h .at (record-width * i), h .at (record-width * i + 1), h .at (record-width * i + 2), h .at (record-width * i + 3)) refl
-
 pub kept-at :
     {xs : List Quadruple} {s : List ℕ} {n : ℕ} → States-kept xs s n → (i : ℕ) → i < n →
     quadruple-at s i ≡ getD xs i (quadruple 0 0 0 0)
-unfolding nobody
-kept-at {xs} h i l =
-    let e = h .counted in begins-at (h .begins) i ∙ records-at xs i (omega arith)
+kept-at {xs} {s} h i l =
+    let e = h .counted in same-record s (all-words xs) (h .begins .at) i ∙ read-back xs (quadruple 0 0 0 0) i (omega arith)
 
 -- all records that are read back
 pub kept-records : {xs : List Quadruple} {s : List ℕ} {n : ℕ} → States-kept xs s n → records-of s n ≡ xs
-unfolding records-of nobody
+unfolding records-of
 kept-records {xs} {s} {n} h =
     let e = h .counted in
     let long = tabulate-length n (quadruple-at s) in
-    ext-getD nobody (tabulate n (quadruple-at s)) xs (long ∙ e)
-    (λ i l. tabulate-at n (quadruple-at s) i nobody (omega arith) ∙ kept-at h i (omega arith))
+    ext-getD (quadruple 0 0 0 0) (tabulate n (quadruple-at s)) xs (long ∙ e)
+    (λ i l. tabulate-at n (quadruple-at s) i (quadruple 0 0 0 0) (omega arith) ∙ kept-at h i (omega arith))
+
+-- room for states is room for their records
+pub capacity-full : (s : List ℕ) (n : ℕ) → n ≤ capacity s → n ≤ full-records s
+unfolding capacity
+capacity-full s n l = omega arith
+
+pub capacity-kept : (s s′ : List ℕ) → length s′ ≡ length s → capacity s′ ≡ capacity s
+unfolding capacity
+capacity-kept s s′ e = rw (full-kept s s′ e) refl
+
+pub capacity-with : (s : List ℕ) (n : ℕ) (x : Quadruple) → capacity (with-quadruple s n x) ≡ capacity s
+capacity-with s n x = capacity-kept s (with-quadruple s n x) (with-length s n x)
 
 -- one more state
 pub kept-more :
     {xs : List Quadruple} {s : List ℕ} {n : ℕ} (x : Quadruple) → States-kept xs s n → n < capacity s →
     States-kept (xs ++ (x ∷ [])) (with-quadruple s n x) (n + 1)
-unfolding with-quadruple record-width capacity wide-range quadruple-words
+unfolding with-quadruple
 kept-more {xs} {s} {n} x h l =
     let e = h .counted in
-    let long = records-length xs in
-    let begin : length (records xs) ≡ 4 * n = omega arith in
-    let room : length (records xs) + 4 ≤ length s = omega arith in
+    let begin : length (all-words xs) ≡ record-words * n = all-length xs ∙ ap (λ (k : ℕ). record-words * k) (sym e) in
+    let inside = inside-words s n (capacity-full s (suc n) l) in
+    let one = words-length x in
+    let room : length (all-words xs) + length (words-of x) ≤ length s = omega arith in
+    let same = capacity-with s n x in
     record {
       counted = simp length-append (omega arith);
-      fits = simp (length-append, length-sets) (omega arith);
-      begins = rw (records-snoc xs x, ← begin) (begins-words (quadruple-words x) room (h .begins));
+      fits = simp length-append (omega arith);
+      begins = rw (all-snoc xs x, ← begin) (begins-words (words-of x) room (h .begins));
     }
 
 -- EDGES

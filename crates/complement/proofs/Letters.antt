@@ -2,7 +2,7 @@
 use mathlib.Core.Path.{_≡_, refl, sym, _∙_, ap}
 use mathlib.Core.Bool.{Bool, true, false}
 use mathlib.Core.List.{List}
-use Prim.Native.Nat.{ℕ, zero, suc, _+_, _*_, _^_, _≤_, _<_}
+use Prim.Native.Nat.{ℕ, zero, suc, _+_, _^_, _≤_, _<_}
 use native.Mathlib.Omega.{arith}
 use lib.ListN.{length, getD, take}
 use lib.Seq.{take-all}
@@ -17,10 +17,11 @@ use Rattle.ncsb.specs.declared.Asked.{Asked}
 use Rattle.ncsb.specs.declared.Quadruple.{Quadruple}
 use Rattle.ncsb.proofs.Choices.{blocked-same, none-blocked, choices-count, choice-successor}
 use Rattle.patterns.specs.declared.Shape.{Shape}
+use Rattle.record_words.specs.Record.{full-records}
 use Rattle.complement.specs.Build.{Lent}
 use Rattle.complement.specs.Found.{within, Turns, Step-asks, Expand-asks, array-moves}
 use Rattle.complement.specs.declared.explore.Progress.{Progress}
-use Rattle.complement.proofs.Meeting.{capacity-words}
+use Rattle.complement.proofs.Kept.{capacity-full}
 use Rattle.complement.proofs.Reaching.{Same-sizes, sizes-self, sizes-then, Reaching, reach-start, reach-asks, reach-turn, reach-full, reach-end}
 
 -- CHOICES one by one: an edge to each
@@ -168,9 +169,9 @@ module _ {d : Moves} {i : ℕ} {x : Quadruple} {l₀ : Lent} {p₀ : Progress} w
         let e : k ≡ letters = omega arith in
         reach-end (h .reaching) letters (λ b. ap (λ (n : ℕ). by-letters (ncsb d) n i x b) e)
 
-pub expand-load : {l : Lent} {p : Progress} {i letters : ℕ} → Expand-asks l p i letters → 4 * i + 4 ≤ length (l .sets)
+pub expand-load : {l : Lent} {p : Progress} {i letters : ℕ} → Expand-asks l p i letters → i < full-records (l .sets)
 expand-load {l} {p} {i} asked =
     let inside = asked .inside in
     let fits = asked .shows .states .fits in
     let e = asked .shows .states .counted in
-    let h = capacity-words (l .sets) (suc i) (omega arith) in omega arith
+    capacity-full (l .sets) (suc i) (omega arith)

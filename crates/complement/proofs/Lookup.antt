@@ -2,17 +2,16 @@
 use mathlib.Core.Path.{_≡_, sym}
 use mathlib.Core.Bool.{Bool, true}
 use mathlib.Core.List.{List}
-use Prim.Native.Nat.{ℕ, _/_, _≤_, _<_}
+use Prim.Native.Nat.{ℕ, _≤_, _<_}
 use native.Mathlib.Omega.{arith}
-use lib.ListN.{length}
 use Rattle.basics.proofs.Scans.{None-below}
 use Rattle.automata.proofs.Graphs.{tabulate-length}
 use Rattle.automata.proofs.Members.{number-met, number-missed, number-le}
 use Rattle.tables.specs.Table.{wide-range}
 use Rattle.ncsb.specs.Successors.{same, ncsb}
 use Rattle.ncsb.specs.declared.Quadruple.{Quadruple}
-use Rattle.complement.specs.Complement.{record-width}
-use Rattle.complement.specs.Records.{quadruple-at, records-of, capacity, Looked-up}
+use Rattle.record_words.specs.Record.{full-records, quadruple-at}
+use Rattle.complement.specs.Records.{records-of, capacity, Looked-up}
 
 -- what a comparison with a loaded record says
 pub compared : (x : Quadruple) {y z : Quadruple} {r b : Bool} → r ≡ same x y → y ≡ z → r ≡ b → same x z ≡ b
@@ -33,13 +32,13 @@ looked-none {w} {x} {n} l h =
     record { number = λ d. sym (number-missed (ncsb d) x n (quadruple-at w) (λ i m. h .none i (omega arith))) }
 
 -- the room
-pub room-records : (w : List ℕ) → length w / 4 < 65535 → length w / 4 ≡ capacity w
-unfolding capacity record-width wide-range
-room-records w l = omega arith
+pub room-records : (w : List ℕ) {r : ℕ} → r ≡ full-records w → r < 65535 → r ≡ capacity w
+unfolding capacity wide-range
+room-records w e l = omega arith
 
-pub room-limit : (w : List ℕ) → 65535 ≤ length w / 4 → 65535 ≡ capacity w
-unfolding capacity record-width wide-range
-room-limit w l = omega arith
+pub room-limit : (w : List ℕ) {r : ℕ} → r ≡ full-records w → 65535 ≤ r → 65535 ≡ capacity w
+unfolding capacity wide-range
+room-limit w e l = omega arith
 
 -- a look-up that is not below the count gives the count
 pub looked-all : {w : List ℕ} {n : ℕ} {x : Quadruple} {r : ℕ} → Looked-up w n x r → n ≤ r → Looked-up w n x n

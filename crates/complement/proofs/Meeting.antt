@@ -2,39 +2,25 @@
 use mathlib.Core.Path.{_≡_, refl, sym, _∙_, ap}
 use mathlib.Core.Bool.{false}
 use mathlib.Core.List.{List, [], _∷_, _++_}
-use Prim.Native.Nat.{ℕ, _+_, _*_, _≤_, _<_}
+use Prim.Native.Nat.{ℕ, _+_, _≤_, _<_}
 use native.Mathlib.Omega.{arith}
 use lib.ListN.{length, length-append}
-use lib.Seq.{length-sets}
 use Rattle.automata.specs.System.{Built, built, number-of, an-edge, add-edge}
 use Rattle.automata.proofs.Exploring.{add-edge-known, add-edge-new}
 use Rattle.tables.specs.Table.{wide-range}
 use Rattle.ncsb.specs.Moves.{Moves}
 use Rattle.ncsb.specs.Successors.{ncsb}
 use Rattle.ncsb.specs.declared.Quadruple.{Quadruple}
+use Rattle.record_words.specs.Record.{with-quadruple}
 use Rattle.complement.specs.Build.{lent}
-use Rattle.complement.specs.Complement.{quadruple-words, record-width}
-use Rattle.complement.specs.Records.{with-quadruple, capacity, Looked-up}
+use Rattle.complement.specs.Records.{capacity, Looked-up}
 use Rattle.complement.specs.Found.{States-kept, with-edge, one-more, Shows, Ends, within, beyond, overfull, Turns, Placed, known, fresh, left-out}
 use Rattle.complement.specs.declared.explore.Progress.{Progress}
-use Rattle.complement.proofs.Kept.{kept-records, kept-more, edges-more}
-
--- room for states is room for their words
-pub capacity-words : (s : List ℕ) (n : ℕ) → n ≤ capacity s → 4 * n ≤ length s
-unfolding capacity record-width
-capacity-words s n l = omega arith
+use Rattle.complement.proofs.Kept.{kept-records, capacity-with, kept-more, edges-more}
 
 pub capacity-limit : (s : List ℕ) → capacity s ≤ 65535
 unfolding capacity wide-range
 capacity-limit s = omega arith
-
-pub capacity-kept : (s s′ : List ℕ) → length s′ ≡ length s → capacity s′ ≡ capacity s
-unfolding capacity
-capacity-kept s s′ e = rw e refl
-
-pub capacity-with : (s : List ℕ) (n : ℕ) (x : Quadruple) → capacity (with-quadruple s n x) ≡ capacity s
-unfolding with-quadruple
-capacity-with s n x = capacity-kept s (with-quadruple s n x) (length-sets s (record-width * n) (quadruple-words x))
 
 module _ (d : Moves) (i c : ℕ) (x : Quadruple) where
   -- the number that a look-up gives is the number among the states found

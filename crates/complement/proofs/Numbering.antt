@@ -26,9 +26,9 @@ use Rattle.patterns.specs.Shape.{shape-of}
 use Rattle.patterns.specs.declared.Shape.{Shape}
 use Rattle.patterns.proofs.Masks.{pattern-fits, mask-move}
 use Rattle.patterns.proofs.Passed.{checked-table, checked-split}
+use Rattle.record_words.specs.Record.{quadruple-at}
 use Rattle.complement.specs.Build.{Lent}
 use Rattle.complement.specs.Complement.{system-of, complement}
-use Rattle.complement.specs.Records.{quadruple-at}
 use Rattle.complement.specs.Found.{Begins, Shows, Ends, within, Turns, Expand-asks, array-moves, start-moves, Started}
 use Rattle.complement.specs.declared.explore.Progress.{Progress}
 use Rattle.complement.proofs.Kept.{kept-at}

@@ -11,7 +11,6 @@ use lib.Pow.{pow-pos}
 use Rattle.basics.proofs.Booleans.{ltb-ge, or-false-l, or-false-r}
 use Rattle.basics.proofs.Filled.{filled-take}
 use Rattle.basics.proofs.Refusing.{passed, or-else-none}
-use Rattle.basics.proofs.Rows.{rows-length}
 use Rattle.automata.specs.Automaton.{Same}
 use Rattle.automata.specs.System.{At-most, Decides, Exactly, state-at, numbered}
 use Rattle.automata.proofs.Explore.{explore-exactly, exactly-at-most}
@@ -33,8 +32,10 @@ use Rattle.layout.proofs.Meaning.{chained-meaning}
 use Rattle.layout.proofs.Rising.{numbered-orderly, numbered-lists}
 use Rattle.layout.proofs.Valid.{chained-valid}
 use Rattle.layout.proofs.Words.{chained-length}
+use Rattle.record_words.specs.Record.{record-words}
+use Rattle.record_words.proofs.Laws.{rows-long}
 use Rattle.complement.specs.Build.{Lent, Room, room-of, words-needed, room-refusal, build-refusal, as-counts, after-build, Build-says, used, used-sets}
-use Rattle.complement.specs.Complement.{system-of, complement, complement-automaton, complement-words, sets-words, quadruple-words, record-width}
+use Rattle.complement.specs.Complement.{system-of, complement, complement-automaton, complement-words, sets-words}
 use Rattle.complement.specs.declared.Counts.{Counts}
 
 -- a complement whose states and edges a wide table can have
@@ -124,10 +125,9 @@ words-length :
 unfolding complement-words complement-automaton numbered words-needed
 words-length t = chained-length (complement-automaton t) (complement t .edges)
 
-sets-length : (t : List ℕ) → length (sets-words t) ≡ record-width * length (complement t .states)
-unfolding sets-words record-width quadruple-words
-sets-length t =
-    rows-length 4 (length (complement t .states)) (λ i. quadruple-words (state-at (system-of t) (complement t .states) i)) (λ i l. refl)
+sets-length : (t : List ℕ) → length (sets-words t) ≡ record-words * length (complement t .states)
+unfolding sets-words
+sets-length t = rows-long (length (complement t .states)) (λ i. state-at (system-of t) (complement t .states) i)
 
 module _ {t : List ℕ} {r : Counts} {before after : Lent} (says : Build-says t r before after) (accepted : r .number ≡ 0) where
   build-counts :
@@ -181,4 +181,4 @@ module _ {t : List ℕ} {r : Counts} {before after : Lent} (says : Build-says t 
   unfolding used-sets after-build
   build-sets =
       rw (says .sets, build-accepted)
-      (filled-take (sets-words t) (before .sets) (record-width * r .states) (sets-length t ∙ sym (ap (λ (n : ℕ). record-width * n) build-states)))
+      (filled-take (sets-words t) (before .sets) (record-words * r .states) (sets-length t ∙ sym (ap (λ (n : ℕ). record-words * n) build-states)))

@@ -2,7 +2,7 @@
 use mathlib.Core.Path.{_≡_, refl, sym, _∙_, ap}
 use mathlib.Core.Bool.{false}
 use mathlib.Core.List.{List, [], _∷_, _++_}
-use Prim.Native.Nat.{ℕ, suc, _+_, _*_, _^_, _≤_, _<_}
+use Prim.Native.Nat.{ℕ, suc, _+_, _^_, _≤_, _<_}
 use native.Mathlib.Numerals.{add-one}
 use native.Mathlib.Omega.{arith}
 use lib.Bits.{bitAnd}
@@ -16,12 +16,12 @@ use Rattle.ncsb.specs.Successors.{quadruple, initial-free, initials}
 use Rattle.ncsb.specs.declared.Quadruple.{Quadruple}
 use Rattle.ncsb.proofs.Choices.{choices-fit, initials-count, choice-initial}
 use Rattle.patterns.specs.declared.Shape.{Shape}
+use Rattle.record_words.specs.Record.{all-words, full-records, with-quadruple}
 use Rattle.complement.specs.Build.{Lent}
-use Rattle.complement.specs.Records.{with-quadruple, capacity}
-use Rattle.complement.specs.Found.{Begins, records, States-kept, triples, edge-room, Ends, within, beyond, overfull, start-moves, Started, started, too-many}
+use Rattle.complement.specs.Records.{capacity}
+use Rattle.complement.specs.Found.{Begins, States-kept, triples, edge-room, Ends, within, beyond, overfull, start-moves, Started, started, too-many}
 use Rattle.complement.specs.declared.explore.Progress.{Progress}
-use Rattle.complement.proofs.Kept.{kept-more}
-use Rattle.complement.proofs.Meeting.{capacity-words, capacity-kept}
+use Rattle.complement.proofs.Kept.{capacity-full, capacity-kept, kept-more}
 
 module _ (shape : Shape) where
   start-free : initial-free (start-moves shape) ≡ without (bitAnd (shape .starts) (shape .inner)) (shape .marks)
@@ -59,7 +59,7 @@ module _ (shape : Shape) where
     start-full e l full = let n = counted in too-many full (omega arith)
 
     pub store-start : {s : List ℕ} → Begins [] s → Storing s s 0
-    unfolding records
+    unfolding all-words
     store-start h =
         record {
           size = refl;
@@ -71,8 +71,8 @@ module _ (shape : Shape) where
       below : k < capacity s
       below = let e = capacity-kept s₀ s (h .size) in omega arith
 
-      pub store-asks : 4 * k + 4 ≤ length s
-      store-asks = let b = below in let w = capacity-words s (suc k) (omega arith) in omega arith
+      pub store-asks : k < full-records s
+      store-asks = let b = below in capacity-full s (suc k) (omega arith)
 
       pub store-turn :
           {x : Quadruple} {s′ : List ℕ} → x ≡ nth-initial (from-array [] (shape .starts) (shape .marks) (shape .inner)) k →

@@ -1,9 +1,9 @@
--- Stores into a buffer that begins with given words and is zero beyond: words are appended one by one, records and edges whole. Assumes nothing.
+-- Stores into a buffer that begins with given words and is zero beyond: words are appended one by one, edges whole. Assumes nothing.
 use mathlib.Core.Path.{_≡_, refl, sym, _∙_}
 use mathlib.Core.List.{List, [], _∷_, _++_, append-nil}
 use mathlib.Core.Logic.{inl, inr}
 use Prim.Native.Nat.{ℕ, suc, _+_, _*_, _≤_, _<_}
-use native.Mathlib.Numerals.{add-one, add-two, add-three}
+use native.Mathlib.Numerals.{add-one, add-two}
 use native.Mathlib.Omega.{arith}
 use lib.Dec.{eqb, ltb}
 use lib.ListN.{length, getD, set, length-append, length-set, List·getD-append, List·getD-eq-default}
@@ -14,17 +14,7 @@ use Rattle.basics.proofs.Clears.{zeros-at}
 use Rattle.basics.proofs.Filled.{filled-length, filled-at}
 use Rattle.automata.specs.System.{Edge, an-edge}
 use Rattle.tables.specs.Table.{wide-range}
-use Rattle.ncsb.specs.declared.Quadruple.{Quadruple}
-use Rattle.complement.specs.Complement.{quadruple-words, record-width}
-use Rattle.complement.specs.Records.{with-quadruple}
 use Rattle.complement.specs.Found.{Begins, triple, edge-room, counted-to, with-edge, one-more}
-
--- four words of a record, one by one
-pub stored :
-    (w : List ℕ) (i : ℕ) (x : Quadruple) →
-    set (set (set (set w (4 * i) (x .N)) (4 * i + 1) (x .C)) (4 * i + 2) (x .S)) (4 * i + 3) (x .B) ≡ with-quadruple w i x
-unfolding with-quadruple quadruple-words record-width
-stored w i x = rw (add-one, add-two, add-three) refl
 
 -- a word behind those that a buffer begins with
 pub begins-word : {new w : List ℕ} (v : ℕ) → length new < length w → Begins new w → Begins (new ++ (v ∷ [])) (set w (length new) v)

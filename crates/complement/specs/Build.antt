@@ -2,13 +2,14 @@
 use mathlib.Core.Path.{_≡_}
 use mathlib.Core.Bool.{_||_, cond}
 use mathlib.Core.List.{List}
-use Prim.Native.Nat.{ℕ, zero, suc, _+_, _*_, _/_}
+use Prim.Native.Nat.{ℕ, zero, suc, _+_, _*_}
 use lib.Dec.{ltb}
 use lib.ListN.{length, take}
 use Rattle.basics.specs.Buffers.{or-else, zeros, filled}
 use Rattle.tables.specs.Table.{Limits, wide-range}
 use Rattle.patterns.specs.Check.{check-refusal}
-use Rattle.complement.specs.Complement.{complement, complement-words, sets-words, record-width}
+use Rattle.record_words.specs.Record.{record-words, full-records}
+use Rattle.complement.specs.Complement.{complement, complement-words, sets-words}
 use Rattle.complement.specs.declared.Counts.{Counts}
 
 -- THE LENT BUFFERS of a build: the words of the table, and the words of the sets
@@ -25,7 +26,7 @@ pub record Room : Type 0 where
   pub records : ℕ
 
 unfoldable pub room-of : Lent → Room
-room-of l = record { words = length (l .words); records = length (l .sets) / record-width }
+room-of l = record { words = length (l .words); records = full-records (l .sets) }
 
 unfoldable pub words-needed : (states edges : ℕ) → ℕ
 words-needed n m = 3 + 2 * n + 3 * m
@@ -70,4 +71,4 @@ used r x = take (words-needed (r .states) (r .edges)) x
 
 -- and of the sets words
 unfoldable pub used-sets : Counts → List ℕ → List ℕ
-used-sets r x = take (record-width * r .states) x
+used-sets r x = take (record-words * r .states) x

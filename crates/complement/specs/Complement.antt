@@ -1,5 +1,5 @@
 -- The reachable NCSB complement of a table, and its words (document 01, "Numbering and result"). Assumes nothing: these are definitions.
-use mathlib.Core.List.{List, [], _∷_}
+use mathlib.Core.List.{List}
 use Prim.Native.Nat.{ℕ, _^_}
 use lib.ListN.{length}
 use Rattle.basics.specs.Rows.{rows}
@@ -10,6 +10,7 @@ use Rattle.ncsb.specs.Successors.{ncsb}
 use Rattle.ncsb.specs.declared.Quadruple.{Quadruple}
 use Rattle.patterns.specs.Pattern.{moves}
 use Rattle.layout.specs.Chained.{chained-words}
+use Rattle.record_words.specs.Record.{words-of}
 
 -- the system of quadruples of a pattern
 unfoldable pub system-of : List ℕ → System Quadruple
@@ -27,13 +28,6 @@ complement-automaton t = numbered (system-of t) (complement t)
 unfoldable pub complement-words : List ℕ → List ℕ
 complement-words t = chained-words (complement-automaton t) (complement t .edges)
 
--- how many words a record of sets has
-unfoldable pub record-width : ℕ
-record-width = 4
-
--- a record: N, C, S, B
-unfoldable pub quadruple-words : Quadruple → List ℕ
-quadruple-words x = x .N ∷ x .C ∷ x .S ∷ x .B ∷ []
-
+-- its sets: the records of the states, by number
 unfoldable pub sets-words : List ℕ → List ℕ
-sets-words t = rows (length (complement t .states)) (λ i. quadruple-words (state-at (system-of t) (complement t .states) i))
+sets-words t = rows (length (complement t .states)) (λ i. words-of (state-at (system-of t) (complement t .states) i))

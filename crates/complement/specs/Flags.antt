@@ -6,8 +6,8 @@ use Prim.Native.Nat.{ℕ, zero, suc, _+_, _*_, _≤_}
 use lib.Dec.{ltb}
 use lib.ListN.{length, set}
 use Rattle.ncsb.specs.Successors.{accepting}
+use Rattle.record_words.specs.Record.{full-records, quadruple-at}
 use Rattle.complement.specs.Build.{Lent}
-use Rattle.complement.specs.Records.{quadruple-at}
 
 -- 1 initial, 2 accepting, 3 both; so many states are initial, and come first
 unfoldable pub flags-of-record : (sets-words : List ℕ) → (initial state : ℕ) → ℕ
@@ -21,4 +21,4 @@ with-flags s k (suc i) w = set (with-flags s k i w) (3 + 2 * i) (flags-of-record
 -- the buffers have room for so many states
 pub record Flags-ask (l : Lent) (states : ℕ) : Type 0 where
   pub words-room : 3 + 2 * states ≤ length (l .words)
-  pub sets-room : 4 * states ≤ length (l .sets)
+  pub sets-room : states ≤ full-records (l .sets)

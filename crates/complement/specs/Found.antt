@@ -17,9 +17,10 @@ use Rattle.patterns.specs.Masks.{masks-of}
 use Rattle.patterns.specs.Pattern.{moves}
 use Rattle.patterns.specs.Shape.{shape-of}
 use Rattle.patterns.specs.declared.Shape.{Shape}
+use Rattle.record_words.specs.Record.{all-words, with-quadruple}
 use Rattle.complement.specs.Build.{Lent}
-use Rattle.complement.specs.Complement.{quadruple-words, complement}
-use Rattle.complement.specs.Records.{capacity, with-quadruple, Looked-up}
+use Rattle.complement.specs.Complement.{complement}
+use Rattle.complement.specs.Records.{capacity, Looked-up}
 use Rattle.complement.specs.declared.explore.Progress.{Progress}
 
 -- a buffer that begins with these words, and is zero beyond them
@@ -27,14 +28,10 @@ pub record Begins (new words : List ℕ) : Type 0 where
   pub at : (i : ℕ) → getD words i 0 ≡ getD new i 0
 
 -- STATES: all of them, one record after the other
-unfoldable pub records : List Quadruple → List ℕ
-records [] = []
-records (x ∷ xs) = quadruple-words x ++ records xs
-
 pub record States-kept (xs : List Quadruple) (sets-words : List ℕ) (count : ℕ) : Type 0 where
   pub counted : count ≡ length xs
   pub fits : length xs ≤ capacity sets-words
-  pub begins : Begins (records xs) sets-words
+  pub begins : Begins (all-words xs) sets-words
 
 -- EDGES: from word 3 on, three words each, as many as there is room for
 unfoldable pub triple : Edge → List ℕ

@@ -10,8 +10,9 @@ ghost use Rattle.sets.specs.Sets.{Narrow};
 ghost use Rattle.automata.specs.System.{an-edge, add-edge, add-all, by-letters};
 ghost use Rattle.ncsb.specs.Moves.{Moves};
 ghost use Rattle.ncsb.specs.Successors.{ncsb, successors, initials};
+ghost use Rattle.record_words.specs.Record.{quadruple-at};
 ghost use Rattle.complement.specs.Build.{lent};
-ghost use Rattle.complement.specs.Records.{capacity, quadruple-at};
+ghost use Rattle.complement.specs.Records.{capacity};
 ghost use Rattle.complement.specs.Found.{with-edge, one-more, Placed, Turns, Step-asks, Expand-asks, array-moves, Begins, start-moves, Started, Explore-asks, Explored-to};
 
 // What has been found: how many states and edges; or that there are more states than fit, with both counts zero.
@@ -49,7 +50,7 @@ fn place(sets: &mut [u32], states: usize, x: Quadruple) -> usize
         return number;
     }
     if states < records::room(sets) {
-        records::store(sets, states, x);
+        record_words::store(sets, states, x);
     }
     states
 }
@@ -150,7 +151,7 @@ fn step(
     ensures { λ r. ⌜ Turns (by-letters (ncsb (array-moves masks shape)) (shape .letters) source (quadruple-at (now (sets .entry)) source))
         (lent (now (words .entry)) (now (sets .entry))) found (lent (now (words .exit)) (now (sets .exit))) r ⌝ }
 {
-    let x = records::load(sets, source);
+    let x = record_words::load(sets, source);
     let letters = shape.letters;
     let mut progress = found;
     let mut letter = 0;
@@ -187,7 +188,7 @@ fn store_initials(shape: Shape, sets: &mut [u32]) -> Progress
     let mut choice = 0;
     while choice < choices {
         let x = Quadruple::initial(shape.starts, shape.marks, shape.inner, choice as u32);
-        records::store(sets, choice, x);
+        record_words::store(sets, choice, x);
         choice += 1;
     }
     Progress {

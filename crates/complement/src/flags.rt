@@ -1,17 +1,16 @@
 // The flags of the states: initial ones come first, and those whose B is empty accept.
-use crate::records;
 ghost use mathlib.Core.Path.{_≡_};
-ghost use Prim.Native.Nat.{_+_, _*_, _≤_};
-ghost use lib.ListN.{length};
+ghost use Prim.Native.Nat.{_<_};
+ghost use Rattle.record_words.specs.Record.{full-records};
 ghost use Rattle.complement.specs.Build.{lent};
 ghost use Rattle.complement.specs.Flags.{flags-of-record, with-flags, Flags-ask};
 
 // The flags of one state, given how many are initial.
 fn state_flags(sets: &[u32], initial: usize, state: usize) -> u16
-    requires { ⌜ 4 * state + 4 ≤ length (now sets) ⌝ }
+    requires { ⌜ state < full-records (now sets) ⌝ }
     ensures { λ r. ⌜ r ≡ flags-of-record (now (sets .entry)) initial state ⌝ }
 {
-    let x = records::load(sets, state);
+    let x = record_words::load(sets, state);
     if state < initial {
         if x.accepting() {
             return 3;

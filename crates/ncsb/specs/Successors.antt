@@ -1,7 +1,7 @@
 -- The construction as it computes (document 01, "The quadruple and its step" and "Numbering"): initial quadruples by rising S,
 -- successors on a letter by rising S', and the system of them. Assumes nothing: these are definitions.
 use mathlib.Core.Bool.{Bool, _&&_, _||_, not, cond}
-use mathlib.Core.List.{List, [], map}
+use mathlib.Core.List.{List, [], _∷_, map}
 use Prim.Native.Nat.{ℕ}
 use lib.Dec.{eqb}
 use lib.Bits.{bitAnd, bitOr}
@@ -13,6 +13,10 @@ use Rattle.ncsb.specs.declared.Quadruple.{Quadruple}
 
 unfoldable pub quadruple : (n c s b : ℕ) → Quadruple
 quadruple n c s b = record { N = n; C = c; S = s; B = b }
+
+-- its four sets as numbers, in the paper's order
+unfoldable pub four-sets : Quadruple → List ℕ
+four-sets x = x .N ∷ x .C ∷ x .S ∷ x .B ∷ []
 
 unfoldable pub same : Quadruple → Quadruple → Bool
 same x y = (eqb (x .N) (y .N) && eqb (x .C) (y .C)) && (eqb (x .S) (y .S) && eqb (x .B) (y .B))

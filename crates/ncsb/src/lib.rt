@@ -4,7 +4,7 @@ ghost use mathlib.Core.List.{[]};
 ghost use Prim.Native.Nat.{_^_};
 ghost use Rattle.sets.specs.Sets.{size, Narrow};
 ghost use Rattle.ncsb.specs.Array.{from-array, nth-initial, asks, blocked-by, nth-successor};
-ghost use Rattle.ncsb.specs.Successors.{accepting, dead-end};
+ghost use Rattle.ncsb.specs.Successors.{same, accepting, dead-end};
 
 // Four sets of pattern states: N tracks Q1, C the runs that may still accept, S the safe ones, B those of C since the last breakpoint.
 #[repr(C)]
@@ -47,6 +47,13 @@ impl Quadruple {
             S: safe,
             B: rest,
         }
+    }
+
+    // Two quadruples are the same. C and S are compared first, since they tell most of a build's quadruples apart.
+    pub fn equals(self, other: Quadruple) -> bool
+        ensures { λ r. ⌜ r ≡ same self other ⌝ }
+    {
+        ((self.C == other.C) & (self.S == other.S)) & ((self.N == other.N) & (self.B == other.B))
     }
 
     // B is empty: a breakpoint.

@@ -16,11 +16,12 @@ use Rattle.automata.specs.Lasso.{positions, position-letter, next-position}
 use Rattle.automata.specs.System.{an-edge, built, number-of, with-state, with-states, add-edge, add-all, by-letters, expand, state-at, explore-from, begin, explore, edge-at, listed, numbered}
 use Rattle.tables.specs.Rows.{pattern-A, pattern-B, no-initial, forked, doubled}
 use Rattle.tables.specs.Table.{pattern-range, n-of, k-of, m-of, flags-of, head-of, record-at, letter-of, target-of, next-of, is-initial, is-accepting, chain-has, edge, meaning, flags-good, records-good, named, heads-good, nexts-good, chains-good, table-refusal}
-use Rattle.ncsb.specs.Successors.{quadruple, same, accepting, targets, initial-free, initial-for, initials, next-N, entering, staying-safe, staying, leaving, tracked, dead-end, blocked, free, next-B, successor-for, successors, ncsb}
+use Rattle.ncsb.specs.Successors.{quadruple, four-sets, same, accepting, targets, initial-free, initial-for, initials, next-N, entering, staying-safe, staying, leaving, tracked, dead-end, blocked, free, next-B, successor-for, successors, ncsb}
 use Rattle.patterns.specs.Check.{check-refusal}
 use Rattle.patterns.specs.Pattern.{targets-of, initial-states, accepting-states, grown, reached-in, inner-of, marks-of, forks, semi-deterministic, moves}
 use Rattle.layout.specs.Chained.{first-record, next-record, flags-word, state-row, record-row, chained-words}
-use Rattle.complement.specs.Complement.{system-of, complement, complement-automaton, complement-words, quadruple-words, sets-words}
+use Rattle.record_words.specs.Record.{words-of}
+use Rattle.complement.specs.Complement.{system-of, complement, complement-automaton, complement-words, sets-words}
 use Rattle.starred.specs.Pieces.{Tried, Piece, pattern-only, complement-only, piece-A, piece-B, piece-no-initial, piece-forked, piece-doubled, pieces, piece, lasso, Tried-right, Complement-right, Piece-right}
 
 -- two lists hold the same numbers
@@ -67,7 +68,7 @@ piece-holds p =
 
 -- the one computation
 pieces-hold : each (length pieces) (λ i. piece-holds (piece i)) ≡ true
-unfolding same-words tried-holds complement-holds complement-tested piece-holds each any count or-else rows has size without set-of union subsets takes? nodes product starts leads grown-nodes grow row marked tabulate on-cycle positions position-letter next-position an-edge built number-of with-state with-states add-edge add-all by-letters expand state-at explore-from begin explore edge-at listed numbered pattern-A pattern-B no-initial forked doubled pattern-range n-of k-of m-of flags-of head-of record-at letter-of target-of next-of is-initial is-accepting chain-has edge meaning flags-good records-good named heads-good nexts-good chains-good table-refusal quadruple same accepting targets initial-free initial-for initials next-N entering staying-safe staying leaving tracked dead-end blocked free next-B successor-for successors ncsb check-refusal targets-of initial-states accepting-states grown reached-in inner-of marks-of forks semi-deterministic moves first-record next-record flags-word state-row record-row chained-words system-of complement complement-automaton complement-words quadruple-words sets-words pattern-only complement-only piece-A piece-B piece-no-initial piece-forked piece-doubled pieces piece lasso
+unfolding same-words tried-holds complement-holds complement-tested piece-holds each any count or-else rows has size without set-of union subsets takes? nodes product starts leads grown-nodes grow row marked tabulate on-cycle positions position-letter next-position an-edge built number-of with-state with-states add-edge add-all by-letters expand state-at explore-from begin explore edge-at listed numbered pattern-A pattern-B no-initial forked doubled pattern-range n-of k-of m-of flags-of head-of record-at letter-of target-of next-of is-initial is-accepting chain-has edge meaning flags-good records-good named heads-good nexts-good chains-good table-refusal quadruple four-sets same accepting targets initial-free initial-for initials next-N entering staying-safe staying leaving tracked dead-end blocked free next-B successor-for successors ncsb check-refusal targets-of initial-states accepting-states grown reached-in inner-of marks-of forks semi-deterministic moves first-record next-record flags-word state-row record-row chained-words system-of complement complement-automaton complement-words words-of sets-words pattern-only complement-only piece-A piece-B piece-no-initial piece-forked piece-doubled pieces piece lasso
 pieces-hold = refl
 
 tried-right : (p : Piece) (l : Tried) → tried-holds p l ≡ true → Tried-right p l

@@ -9,9 +9,8 @@ use lib.Seq.{sets, length-sets, drop-cons, take-suc, take-all, length-take-le}
 use Rattle.basics.proofs.Lists.{sets-append, sets-last}
 use Rattle.automata.specs.System.{an-edge}
 use Rattle.tables.specs.Table.{flags-of, letter-of, target-of}
-use Rattle.ncsb.specs.Successors.{quadruple}
-use Rattle.complement.specs.Complement.{quadruple-words, record-width}
-use Rattle.complement.specs.Records.{quadruple-at}
+use Rattle.ncsb.specs.Successors.{quadruple, four-sets}
+use Rattle.record_words.specs.Record.{record-words, quadruple-at}
 use Rattle.text.specs.Built.{built-state, built-edge}
 use Rattle.text.specs.Listing.{state-line, edge-line}
 use Rattle.text.specs.Lines.{Put, Places, line, decimal, ascii, refused-line, counts-line}
@@ -207,7 +206,7 @@ pub state-put :
     Put o 0 66
     (line (i ∷ getD s (4 * i) 0 ∷ getD s (4 * i + 1) 0 ∷ getD s (4 * i + 2) 0 ∷ getD s (4 * i + 3) 0 ∷ f ∷ [])) o′ end →
     Put o 0 80 (built-state w s i) o′ end
-unfolding built-state state-line quadruple-at quadruple quadruple-words record-width
+unfolding built-state state-line quadruple-at quadruple four-sets record-words
 state-put w s i e p = rw (← e) (wider 80 (omega arith) p)
 
 pub edge-put :

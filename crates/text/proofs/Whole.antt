@@ -5,28 +5,25 @@ use mathlib.Core.List.{List, []}
 use mathlib.Core.Logic.{inl, inr}
 use mathlib.Core.Option.{Option, none, some}
 use Prim.Native.Nat.{ℕ, zero, suc, _+_, _*_, _-_, _≤_, _<_}
-use native.Mathlib.Nat.{add-zero}
 use native.Mathlib.Omega.{arith}
 use lib.Dec.{ltb, eqb}
-use lib.ListN.{length, getD, take, length-append, length-replicate}
+use lib.ListN.{length, take, length-append}
 use Rattle.basics.specs.Buffers.{filled}
-use Rattle.basics.specs.Rows.{rows}
 use Rattle.basics.proofs.Booleans.{either, eq-eqb, ne-eqb, ltb-lt, ltb-ge}
-use Rattle.basics.proofs.Filled.{filled-at}
-use Rattle.basics.proofs.Rows.{rows-at, rows-same, rows-length}
+use Rattle.basics.proofs.Rows.{rows-same}
 use Rattle.automata.specs.Automaton.{Automaton}
 use Rattle.automata.specs.System.{Edge, an-edge, edge-at, state-at, numbered}
 use Rattle.tables.specs.Access.{Sized}
 use Rattle.tables.specs.Table.{n-of, m-of, flags-of, head-of, record-at, letter-of, target-of, next-of, wide-range}
-use Rattle.ncsb.specs.Successors.{quadruple}
 use Rattle.layout.specs.Chained.{first-record, next-record, flags-word}
 use Rattle.layout.specs.Orderly.{Orderly}
 use Rattle.layout.proofs.Firsts.{First, first-is, absent, first-at, Next, next-is, ends, goes-on, rising}
 use Rattle.layout.proofs.Indexed.{Indexed, filled-indexed}
 use Rattle.layout.proofs.Words.{chained-length}
+use Rattle.record_words.specs.Record.{record-words, full-records, quadruple-at}
+use Rattle.record_words.proofs.Laws.{rows-long, row-back}
 use Rattle.complement.specs.Build.{lent, room-of, build-refusal, as-counts, after-build, Build-says}
-use Rattle.complement.specs.Complement.{system-of, complement, complement-automaton, complement-words, sets-words, quadruple-words, record-width}
-use Rattle.complement.specs.Records.{quadruple-at}
+use Rattle.complement.specs.Complement.{system-of, complement, complement-automaton, complement-words, sets-words}
 use Rattle.complement.specs.declared.Counts.{Counts}
 use Rattle.complement.proofs.Second.{complement-orderly, build-accepted, build-states, build-edges, build-passed, build-fits}
 use Rattle.text.specs.Built.{with-chain, first-source, source-behind, source-of, built-state, built-edge, built-text, printed, Sourced, To-print}
@@ -136,22 +133,11 @@ module _ {a : Automaton} {es : List Edge} (o : Orderly a es) {w : List ℕ} (x :
 
 -- AN ACCEPTED BUILD
 -- the sets of a state
-set-word :
-    (t s : List ℕ) (i j : ℕ) → i < length (complement t .states) → j < 4 →
-    getD (filled (sets-words t) s) (4 * i + j) 0 ≡ getD (quadruple-words (state-at (system-of t) (complement t .states) i)) j 0
-unfolding sets-words quadruple-words
-set-word t s i j l m =
-    let f : ℕ → List ℕ = λ i. quadruple-words (state-at (system-of t) (complement t .states) i) in
-    filled-at (rows (length (complement t .states)) f) s (4 * i + j)
-    ∙ rows-at 4 (length (complement t .states)) f (λ i l. refl) i j l m
-
 state-back :
     (t s : List ℕ) (i : ℕ) → i < length (complement t .states) →
     quadruple-at (filled (sets-words t) s) i ≡ state-at (system-of t) (complement t .states) i
-unfolding quadruple-at quadruple record-width quadruple-words
-state-back t s i l =
-    let first = rw add-zero at (set-word t s i 0 l (omega arith)) in
-    rw (first, set-word t s i 1 l (omega arith), set-word t s i 2 l (omega arith), set-word t s i 3 l (omega arith))
+unfolding sets-words
+state-back t s i l = row-back (length (complement t .states)) (λ i. state-at (system-of t) (complement t .states) i) s i l
 
 module _ {t : List ℕ} {r : Counts} {o o-now s s-now : List ℕ} (says : Build-says t r (lent o s) (lent o-now s-now)) (accepted : r .number ≡ 0) where
   words-are : o-now ≡ filled (complement-words t) o
@@ -171,13 +157,11 @@ module _ {t : List ℕ} {r : Counts} {o o-now s s-now : List ℕ} (says : Build-
 
   -- there are sets for each state
   pub sets-there : length s-now ≡ length s → 4 * r .states ≤ length s-now
-  unfolding sets-words quadruple-words filled
+  unfolding sets-words filled record-words
   sets-there same =
       let n = build-states says accepted in
-      let f : ℕ → List ℕ = λ i. quadruple-words (state-at (system-of t) (complement t .states) i) in
-      let long = rows-length 4 (length (complement t .states)) f (λ i l. refl) in
-      let e = simp length-append at (ap length sets-are) in
-      let z = length-replicate {A = ℕ} (length s - length (sets-words t)) 0 in omega arith
+      let long = rows-long (length (complement t .states)) (λ i. state-at (system-of t) (complement t .states) i) in
+      let e = simp length-append at (ap length sets-are) in omega arith
 
   -- the words are all there
   sized : Sized o-now
@@ -296,5 +280,5 @@ to-print says room same =
 
 -- the room of arrays
 pub room-for : (o s : List ℕ) → length o ≡ 16384 → length s ≡ 4096 → room-of (lent o s) ≡ listing-room
-unfolding room-of listing-room record-width
+unfolding room-of listing-room full-records record-words
 room-for o s e f = rw (e, f)

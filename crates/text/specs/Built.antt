@@ -9,8 +9,8 @@ use Rattle.basics.specs.Rows.{rows}
 use Rattle.automata.specs.System.{an-edge}
 use Rattle.tables.specs.Access.{Sized, State-asks}
 use Rattle.tables.specs.Table.{n-of, m-of, flags-of, head-of, letter-of, target-of, next-of}
+use Rattle.record_words.specs.Record.{quadruple-at}
 use Rattle.complement.specs.Build.{build-refusal}
-use Rattle.complement.specs.Records.{quadruple-at}
 use Rattle.complement.specs.declared.Counts.{Counts}
 use Rattle.text.specs.Lines.{counts-line, refused-line}
 use Rattle.text.specs.Listing.{listing-room, state-line, edge-line, answered}

@@ -5,10 +5,11 @@ use Prim.Native.Nat.{ℕ, zero, suc}
 use lib.ListN.{length}
 use Rattle.basics.specs.Rows.{rows}
 use Rattle.automata.specs.System.{Edge, Built, System, state-at, edge-at, numbered}
+use Rattle.ncsb.specs.Successors.{four-sets}
 use Rattle.ncsb.specs.declared.Quadruple.{Quadruple}
 use Rattle.layout.specs.Chained.{flags-word}
 use Rattle.complement.specs.Build.{Room, build-refusal}
-use Rattle.complement.specs.Complement.{system-of, complement, quadruple-words}
+use Rattle.complement.specs.Complement.{system-of, complement}
 use Rattle.text.specs.Lines.{line, refused-line, counts-line}
 use Rattle.text.specs.Reading.{read-numbers}
 
@@ -18,7 +19,7 @@ listing-room = record { words = 16384; records = 1024 }
 
 -- a state: its number, N, C, S, B and flags
 unfoldable pub state-line : (number : ℕ) → Quadruple → (flags : ℕ) → List ℕ
-state-line i x f = line (i ∷ (quadruple-words x ++ (f ∷ [])))
+state-line i x f = line (i ∷ (four-sets x ++ (f ∷ [])))
 
 -- an edge: its source, letter and target
 unfoldable pub edge-line : Edge → List ℕ

@@ -4,13 +4,13 @@ use Prim.Native.Nat.{suc}
 use native.Mathlib.Omega.{arith}
 use Rattle.complement.specs.Found.{known, fresh, left-out}
 use Rattle.complement.proofs.Lookup.{looked-all}
-use Rattle.complement.proofs.Meeting.{capacity-words}
+use Rattle.complement.proofs.Kept.{capacity-full}
 use borrow.Author.Needs.{needs}
 use Rattle.complement.proofs.explore.place.Statement.{statement}
 use Rattle.complement.proofs.explore.place.Tie as tie
 
 find-requires : tie.Need-find-requires
-find-requires c κs = capacity-words (c .before .before .args .sets .now) (c .before .before .args .states) (c .before .before .pre)
+find-requires c κs = capacity-full (c .before .before .args .sets .now) (c .before .before .args .states) (c .before .before .pre)
 
 same-length : tie.Need-same-length
 same-length c = search needs
@@ -25,7 +25,7 @@ store-requires : tie.Need-store-requires
 store-requires c κs =
     let l = c .before .if2 .taken in
     let e = c .before .before .room .ensures in
-    let h = capacity-words (c .before .before .before .before .before .before .before .before .args .sets .now) (suc (c .before .before .before .before .before .before .before .before .args .states)) (omega arith) in omega arith
+    capacity-full (c .before .before .before .before .before .before .before .before .args .sets .now) (suc (c .before .before .before .before .before .before .before .before .args .states)) (omega arith)
 
 same-length-2 : tie.Need-same-length-2
 same-length-2 c = search needs

@@ -3,7 +3,7 @@ use Prim.Native.Nat.{_-_}
 use native.Mathlib.Omega.{arith}
 use Rattle.basics.proofs.Scans.{None-below, none-start, none-turn}
 use Rattle.ncsb.specs.Successors.{same}
-use Rattle.complement.specs.Records.{quadruple-at}
+use Rattle.record_words.specs.Record.{quadruple-at}
 use Rattle.complement.proofs.Lookup.{compared, looked-found, looked-none}
 use Rattle.complement.proofs.records.find.Statement.{statement}
 use Rattle.complement.proofs.records.find.Tie as tie
@@ -14,40 +14,32 @@ Inv-loop sets count x number₀ number = None-below (λ i. same x (quadruple-at 
 abbrev μ-loop : tie.MeasureT-loop
 μ-loop sets count x number₀ number = count - number
 
--- src/records.rt:59:5
 loop-holds : tie.Need-loop-holds Inv-loop μ-loop
 loop-holds c = none-start _ _
 
--- src/records.rt:60:21
 load-requires : tie.Need-load-requires Inv-loop μ-loop
 load-requires c κs = let l = c .loop-test .taken in let p = c .before .before .before .pre in omega arith
 
--- src/records.rt:60:12
-equal-requires : tie.Need-equal-requires Inv-loop μ-loop
-equal-requires c κs = tt
+equals-requires : tie.Need-equals-requires Inv-loop μ-loop
+equals-requires c κs = tt
 
--- src/records.rt:61:13
 returns : tie.Need-returns Inv-loop μ-loop
 returns c =
     looked-found (c .before .before .before .loop-test .taken) (c .before .before .before .before .loop .inv)
-    (compared (c .before .before .before .before .before .before .args .x) (c .before .equal .ensures) (c .before .before .load .ensures) (c .if1 .taken))
+    (compared (c .before .before .before .before .before .before .args .x) (c .before .equals .ensures) (c .before .before .load .ensures) (c .if1 .taken))
 
--- src/records.rt:63:9
 add-number : tie.Need-add-number Inv-loop μ-loop
 add-number c = omega arith
 
--- src/records.rt:59:5
 loop-less : tie.Need-loop-less Inv-loop μ-loop
 loop-less c = omega arith
 
--- src/records.rt:59:5
 loop-again : tie.Need-loop-again Inv-loop μ-loop
 loop-again c =
     none-turn _ _ _ (c .before .before .before .loop-test .taken)
-    (compared (c .before .before .before .before .before .before .args .x) (c .before .equal .ensures) (c .before .before .load .ensures) (c .if1 .left))
+    (compared (c .before .before .before .before .before .before .args .x) (c .before .equals .ensures) (c .before .before .load .ensures) (c .if1 .left))
     (c .before .before .before .before .loop .inv)
 
--- src/records.rt:54:1
 returns-2 : tie.Need-returns-2 Inv-loop μ-loop
 returns-2 c = looked-none (c .loop-test .left) (c .before .loop .inv)
 
@@ -59,7 +51,7 @@ find-spec =
     μ-loop
     loop-holds
     load-requires
-    equal-requires
+    equals-requires
     returns
     add-number
     loop-less

@@ -1,15 +1,17 @@
 -- `room` is the smaller of the full records and the limit. Assumes nothing.
 use Rattle.complement.proofs.Lookup.{room-records, room-limit}
+use borrow.Author.Needs.{needs}
 use Rattle.complement.proofs.records.room.Statement.{statement}
 use Rattle.complement.proofs.records.room.Tie as tie
 
--- src/records.rt:15:9
-returns : tie.Need-returns
-returns c = room-records (c .before .args .sets .now) (c .if1 .taken)
+full-records-requires : tie.Need-full-records-requires
+full-records-requires c κs = search needs
 
--- src/records.rt:10:1
+returns : tie.Need-returns
+returns c = room-records (c .before .before .before .args .sets .now) (c .before .full-records .ensures) (c .if1 .taken)
+
 returns-2 : tie.Need-returns-2
-returns-2 c = room-limit (c .before .args .sets .now) (c .if1 .left)
+returns-2 c = room-limit (c .before .before .before .args .sets .now) (c .before .full-records .ensures) (c .if1 .left)
 
 pub room-spec : {M : Type 1} → statement M
-room-spec = tie.close (tie.spec returns returns-2)
+room-spec = tie.close (tie.spec full-records-requires returns returns-2)
