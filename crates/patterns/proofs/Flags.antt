@@ -1,20 +1,22 @@
--- The loops that gather the initial and the accepting states, over any test of states. Assumes nothing.
-use mathlib.Core.Path.{_≡_, refl, _∙_, ap}
-use mathlib.Core.Bool.{Bool, true, false}
+-- The loop that gathers the initial and the accepting states: one law of a turn, over any test of states, and for each of the two tests
+-- that a state's flag is its bit. Assumes nothing.
+use mathlib.Core.Path.{_≡_, refl, sym, _∙_, ap}
+use mathlib.Core.Bool.{Bool, true, false, cond, _&&_}
 use mathlib.Core.List.{List}
-use Prim.Native.Nat.{ℕ, _+_, _*_, _%_, _^_, _≤_, _<_}
+use mathlib.Core.Logic.{_⊎_, inl, inr}
+use Prim.Native.Nat.{ℕ, _+_, _*_, _/_, _%_, _^_, _≤_, _<_}
 use native.Mathlib.Omega.{arith}
 use native.Mathlib.Numerals.{add-one}
-use native.Mathlib.Nat.{one-mul, add-comm, add-zero}
+use native.Mathlib.Nat.{zero-mul, one-mul, add-comm, add-zero}
 use lib.Dec.{ltb, leb, eqb}
-use lib.Bits.{bitOr, or-shifted-r}
-use Rattle.basics.proofs.Booleans.{and-make, and-false-r, lt-ltb, eq-eqb, ne-eqb, le-leb, gt-leb}
+use lib.Bits.{bitOr, or-shifted-r, or-zero-r}
+use Rattle.basics.proofs.Booleans.{either, lt-ltb, eqb-eq, eqb-ne, leb-le, leb-gt}
 use Rattle.basics.proofs.Packed.{shift-one}
 use Rattle.sets.specs.Sets.{set-of}
 use Rattle.sets.proofs.Members.{set-of-lt}
 use Rattle.tables.specs.Access.{State-asks}
 use Rattle.tables.specs.Table.{pattern-range, table-refusal, n-of, flags-of, is-initial, is-accepting, meaning}
-use Rattle.tables.proofs.Laws.{pattern-few, state-asked}
+use Rattle.tables.proofs.Laws.{valid, pattern-few, state-asked}
 use Rattle.patterns.specs.Pattern.{initial-states, accepting-states}
 
 -- the set so far is that of the states below `state` of which the test holds
@@ -27,33 +29,36 @@ module _ (f : ℕ → Bool) (n : ℕ) where
   unfolding set-of
   gathered-start = record { inside = omega arith; so-far = refl }
 
-  -- one state more, of which the test holds, or does not
-  pub gathered-in :
-      (set state : ℕ) → state < n → n ≤ 32 → f state ≡ true → Gathered f n set state →
-      Gathered f n (bitOr set (1 * 2 ^ state % 2 ^ 32)) (state + 1)
+  -- one state more: 1 where the test holds, and 0 where it does not, goes to the state's place
+  pub gathered-turn :
+      (set state bit : ℕ) → state < n → n ≤ 32 → bit ≡ cond (f state) 1 0 → Gathered f n set state →
+      Gathered f n (bitOr set (bit * 2 ^ state % 2 ^ 32)) (state + 1)
   unfolding set-of
-  gathered-in set state l few h g =
-      let bit = shift-one 32 state (omega arith) in
-      let apart : bitOr (set-of state f) (2 ^ state) ≡ 2 ^ state + set-of state f =
-      rw (one-mul (2 ^ state)) at (or-shifted-r 1 state (set-of state f) (set-of-lt state f)) in
-      let turned = add-comm (2 ^ state) (set-of state f) in
-      let so-far = g .so-far in
-      let one = add-one state in record { inside = omega arith; so-far = cc }
-
-  pub gathered-out :
-      (set state : ℕ) → state < n → f state ≡ false → Gathered f n set state → Gathered f n set (state + 1)
-  unfolding set-of
-  gathered-out set state l h g =
-      let same = add-zero (set-of state f) in
-      let so-far = g .so-far in
-      let one = add-one state in record { inside = omega arith; so-far = cc }
+  gathered-turn set state bit l few e g = record { inside = omega arith; so-far = go (either (f state)) }
+    where
+      go :
+          (f state ≡ true) ⊎ (f state ≡ false) →
+          bitOr set (bit * 2 ^ state % 2 ^ 32) ≡ set-of (state + 1) f
+      go (inl h) =
+          let one : bit ≡ 1 = cc in
+          let placed = shift-one 32 state (omega arith) in
+          let apart : bitOr (set-of state f) (2 ^ state) ≡ 2 ^ state + set-of state f =
+          rw (one-mul (2 ^ state)) at (or-shifted-r 1 state (set-of state f) (set-of-lt state f)) in
+          let turned = add-comm (2 ^ state) (set-of state f) in
+          let so-far = g .so-far in let more = add-one state in cc
+      go (inr h) =
+          let none : bit ≡ 0 = cc in
+          let placed : 0 * 2 ^ state % 2 ^ 32 ≡ 0 = rw (zero-mul (2 ^ state)) refl in
+          let kept = or-zero-r set in
+          let same = add-zero (set-of state f) in
+          let so-far = g .so-far in let more = add-one state in cc
 
   pub gathered-end : (set state : ℕ) → n ≤ state → Gathered f n set state → set ≡ set-of n f
   gathered-end set state past g =
       let inside = g .inside in
       let e : state ≡ n = omega arith in g .so-far ∙ ap (λ (k : ℕ). set-of k f) e
 
--- one state more is below n, which is at most 32
+-- the states of a pattern
 module _ (t : List ℕ) (pattern : table-refusal pattern-range t ≡ 0) (states state : ℕ) (counted : states ≡ n-of t) where
   pub gathered-small : state < states → state < 32
   gathered-small l = let n = pattern-few t pattern in omega arith
@@ -61,43 +66,42 @@ module _ (t : List ℕ) (pattern : table-refusal pattern-range t ≡ 0) (states 
   pub gathered-reads : state < states → State-asks t state
   gathered-reads l = state-asked pattern-range t pattern (omega arith)
 
-  module _ (set flags : ℕ) (read : flags ≡ flags-of t state) (l : state < states) where
+  module _ (flags : ℕ) (read : flags ≡ flags-of t state) (l : state < states) where
     below : ltb state (n-of t) ≡ true
     below = lt-ltb {m = state} {n = n-of t} (omega arith)
 
-    -- flags 1 and 3 are those of initial states
-    pub initial-in :
-        flags % 2 ≡ 1 → Gathered (meaning t .initial) (n-of t) set state →
-        Gathered (meaning t .initial) (n-of t) (bitOr set (1 * 2 ^ state % 2 ^ 32)) (state + 1)
+    -- the flag of an initial state is the low bit of 1 and 3
+    pub initial-turn :
+        (set : ℕ) → Gathered (meaning t .initial) (n-of t) set state →
+        Gathered (meaning t .initial) (n-of t) (bitOr set (flags % 2 * 2 ^ state % 2 ^ 32)) (state + 1)
     unfolding meaning is-initial
-    initial-in odd g =
-        let h : eqb (flags-of t state % 2) 1 ≡ true = eq-eqb (rw read at odd) in
-        gathered-in (meaning t .initial) (n-of t) set state (omega arith) (pattern-few t pattern) (and-make below h) g
+    initial-turn set =
+        gathered-turn (meaning t .initial) (n-of t) set state (flags % 2) (omega arith) (pattern-few t pattern)
+        (go (either (eqb (flags-of t state % 2) 1)))
+      where
+        go :
+            (eqb (flags-of t state % 2) 1 ≡ true) ⊎ (eqb (flags-of t state % 2) 1 ≡ false) →
+            flags % 2 ≡ cond (ltb state (n-of t) && eqb (flags-of t state % 2) 1) 1 0
+        go (inl h) = rw (below, h) (let e = eqb-eq (flags-of t state % 2) 1 h in omega arith)
+        go (inr h) = rw (below, h) (let e = eqb-ne (flags-of t state % 2) 1 h in omega arith)
 
-    pub initial-out :
-        (flags % 2 ≡ 1 → ⊥) → Gathered (meaning t .initial) (n-of t) set state →
-        Gathered (meaning t .initial) (n-of t) set (state + 1)
-    unfolding meaning is-initial
-    initial-out even g =
-        let h : eqb (flags-of t state % 2) 1 ≡ false = ne-eqb (flags-of t state % 2) 1 (λ e. even (rw read e)) in
-        gathered-out (meaning t .initial) (n-of t) set state (omega arith) (and-false-r (ltb state (n-of t)) h) g
-
-    -- flags 2 and 3 are those of accepting states
-    pub accepting-in :
-        2 ≤ flags → Gathered (meaning t .accepting) (n-of t) set state →
-        Gathered (meaning t .accepting) (n-of t) (bitOr set (1 * 2 ^ state % 2 ^ 32)) (state + 1)
+    -- the flag of an accepting state is the high bit of 2 and 3
+    pub accepting-turn :
+        (set : ℕ) → Gathered (meaning t .accepting) (n-of t) set state →
+        Gathered (meaning t .accepting) (n-of t) (bitOr set (flags / 2 * 2 ^ state % 2 ^ 32)) (state + 1)
     unfolding meaning is-accepting
-    accepting-in most g =
-        let h : leb 2 (flags-of t state) ≡ true = le-leb {m = 2} {n = flags-of t state} (omega arith) in
-        gathered-in (meaning t .accepting) (n-of t) set state (omega arith) (pattern-few t pattern) (and-make below h) g
+    accepting-turn set =
+        gathered-turn (meaning t .accepting) (n-of t) set state (flags / 2) (omega arith) (pattern-few t pattern)
+        (go (either (leb 2 (flags-of t state))))
+      where
+        most : flags-of t state ≤ 3
+        most = valid pattern-range t pattern .flags state (omega arith)
 
-    pub accepting-out :
-        flags < 2 → Gathered (meaning t .accepting) (n-of t) set state →
-        Gathered (meaning t .accepting) (n-of t) set (state + 1)
-    unfolding meaning is-accepting
-    accepting-out least g =
-        let h : leb 2 (flags-of t state) ≡ false = gt-leb {m = 2} {n = flags-of t state} (omega arith) in
-        gathered-out (meaning t .accepting) (n-of t) set state (omega arith) (and-false-r (ltb state (n-of t)) h) g
+        go :
+            (leb 2 (flags-of t state) ≡ true) ⊎ (leb 2 (flags-of t state) ≡ false) →
+            flags / 2 ≡ cond (ltb state (n-of t) && leb 2 (flags-of t state)) 1 0
+        go (inl h) = rw (below, h) (let e = leb-le 2 (flags-of t state) h in let m = most in omega arith)
+        go (inr h) = rw (below, h) (let e = leb-gt 2 (flags-of t state) h in omega arith)
 
   pub initial-end :
       (set : ℕ) → states ≤ state → Gathered (meaning t .initial) (n-of t) set state → set ≡ initial-states (meaning t)

@@ -36,13 +36,13 @@ module _ (a : Automaton) where
       (r .0, and-l (any (a .letters) (λ c. a .edge (r .0) c q)) (r .2), (x .0, x .2))
 
   -- ONE ROUND
-  pub grown-lt : (s : ℕ) → grown a s < 2 ^ a .states
-  unfolding grown led
-  grown-lt s = set-of-lt (a .states) (λ q. has s q || led s q)
-
   pub has-grown : (s q : ℕ) → has (grown a s) q ≡ (ltb q (a .states) && (has s q || led s q))
   unfolding grown led
   has-grown s q = has-set-of (a .states) (λ q. has s q || led s q) q
+
+  pub grown-lt : (s : ℕ) → grown a s < 2 ^ a .states
+  unfolding grown led
+  grown-lt s = set-of-lt (a .states) (λ q. has s q || led s q)
 
   grown-keeps : (s q : ℕ) → s < 2 ^ a .states → has s q ≡ true → has (grown a s) q ≡ true
   grown-keeps s q l h =
@@ -134,10 +134,6 @@ module _ (a : Automaton) where
       let e : (ltb q (a .states) && a .accepting q) ≡ true = sym (has-set-of (a .states) (a .accepting) q) ∙ h in
       (ltb-lt q (a .states) (and-l (a .accepting q) e), and-r (ltb q (a .states)) e)
 
-  pub inner-lt : inner-of a < 2 ^ a .states
-  unfolding inner-of
-  inner-lt = reached-lt (a .states) (accepting-states a) accepting-lt
-
   -- Q2 grows no more
   pub inner-fixed : grown a (inner-of a) ≡ inner-of a
   unfolding inner-of
@@ -154,6 +150,10 @@ module _ (a : Automaton) where
   inner-closed closed p c q h e =
       ap (λ (s : ℕ). has s q) (sym inner-fixed) ∙ has-grown (inner-of a) q
       ∙ and-make (lt-ltb (closed .edge p c q e .2)) (or-r (has (inner-of a) q) (led-make closed (inner-of a) p c q h e))
+
+  pub inner-lt : inner-of a < 2 ^ a .states
+  unfolding inner-of
+  inner-lt = reached-lt (a .states) (accepting-states a) accepting-lt
 
   reached-from : (r q : ℕ) → has (reached-in a r (accepting-states a)) q ≡ true → From-accepting a q
   unfolding reached-in

@@ -75,38 +75,29 @@ pub fn masks_of(table: &[u16]) -> [[u32; 16]; 32]
 
 // THE SETS
 
-// I: the states whose flags are 1 or 3.
-pub fn initial_states(table: &[u16]) -> u32
-    requires { ⌜ table-refusal pattern-range (now table) ≡ 0 ⌝ }
-    ensures { λ r. ⌜ r ≡ initial-states (meaning (now (table .entry))) ⌝ }
-{
-    let states = states_of(table);
-    let mut set: u32 = 0;
-    let mut state = 0;
-    while state < states {
-        if flags_of(table, state) % 2 == 1 {
-            set = set | (1 << state);
-        }
-        state += 1;
-    }
-    set
+// I, the states whose flags are 1 or 3, and F, those whose flags are 2 or 3.
+struct Flagged {
+    initial: u32,
+    accepting: u32,
 }
 
-// F: the states whose flags are 2 or 3.
-pub fn accepting_states(table: &[u16]) -> u32
+// Both sets, in one walk over the states: each flag is the bit of its state.
+fn flagged_states(table: &[u16]) -> Flagged
     requires { ⌜ table-refusal pattern-range (now table) ≡ 0 ⌝ }
-    ensures { λ r. ⌜ r ≡ accepting-states (meaning (now (table .entry))) ⌝ }
+    ensures initial { λ r. ⌜ r .initial ≡ initial-states (meaning (now (table .entry))) ⌝ }
+    ensures accepting { λ r. ⌜ r .accepting ≡ accepting-states (meaning (now (table .entry))) ⌝ }
 {
     let states = states_of(table);
-    let mut set: u32 = 0;
+    let mut initial: u32 = 0;
+    let mut accepting: u32 = 0;
     let mut state = 0;
     while state < states {
-        if flags_of(table, state) >= 2 {
-            set = set | (1 << state);
-        }
+        let flags = flags_of(table, state) as u32;
+        initial = initial | ((flags % 2) << state);
+        accepting = accepting | ((flags / 2) << state);
         state += 1;
     }
-    set
+    Flagged { initial, accepting }
 }
 
 // One round of the closure: the set joined with its targets on each letter.
@@ -147,13 +138,13 @@ pub fn shape_of(table: &[u16], masks: [[u32; 16]; 32]) -> Shape
 {
     let states = states_of(table);
     let letters = letters_of(table);
-    let accepting = accepting_states(table);
-    let inner = closure(masks, letters, states, accepting);
+    let flagged = flagged_states(table);
+    let inner = closure(masks, letters, states, flagged.accepting);
     Shape {
         states,
         letters,
-        starts: initial_states(table),
-        marks: accepting & inner,
+        starts: flagged.initial,
+        marks: flagged.accepting & inner,
         inner,
     }
 }

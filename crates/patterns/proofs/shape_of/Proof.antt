@@ -9,31 +9,26 @@ states-of-requires c κs = tt
 letters-of-requires : tie.Need-letters-of-requires
 letters-of-requires c κs = tt
 
-accepting-states-requires : tie.Need-accepting-states-requires
-accepting-states-requires c κs = c .before .before .before .pre .pattern
+flagged-states-requires : tie.Need-flagged-states-requires
+flagged-states-requires c κs = c .before .before .before .pre .pattern
 
 closure-requires : tie.Need-closure-requires
 closure-requires c κs = tt
 
-initial-states-requires : tie.Need-initial-states-requires
-initial-states-requires c κs = c .before .before .before .before .before .pre .pattern
-
 returns : tie.Need-returns
 returns c =
-    shape-right _ _ (c .before .before .before .before .before .before .pre) _ _ _ _ _
-    (c .before .before .before .before .states-of .ensures .is)
-    (c .before .before .before .letters-of .ensures .is)
-    (c .initial-states .ensures)
-    (c .before .before .accepting-states .ensures)
-    (c .before .closure .ensures)
+    let closed = c .before in
+    let gathered = closed .before in
+    let counted = gathered .before in
+    let start = counted .before .before .before in
+    shape-right _ _ (start .pre) _ _ _ _ _
+    (counted .before .states-of .ensures .is)
+    (counted .letters-of .ensures .is)
+    (gathered .flagged-states .ensures .0)
+    (gathered .flagged-states .ensures .1)
+    (closed .closure .ensures)
 
 pub shape-of-spec : {M : Type 1} → statement M
 shape-of-spec =
     tie.close
-    (tie.spec
-    states-of-requires
-    letters-of-requires
-    accepting-states-requires
-    closure-requires
-    initial-states-requires
-    returns)
+    (tie.spec states-of-requires letters-of-requires flagged-states-requires closure-requires returns)
