@@ -14,7 +14,7 @@
 #   - is of one of these kinds:
 #       two types differ (what is to be proved, and what the proof proves);
 #       an equation that had to wait for an argument does not hold;
-#       omega: the goal fails at numbers that it names;
+#       omega, by itself or for search: the goal fails at numbers that it names;
 #       rw or simp without a last argument: two ends are left, and they differ;
 #       cc: the two sides are not equal by the equations at hand (not: it met a bound of its own before it knew).
 #
@@ -40,7 +40,7 @@ judge() {
             if (text ~ /^(as printed|computed as far as they go), the two types /) return ""
             if (text ~ /^expected type `.*but this has type `/) return ""
             if (text ~ /≟ `.*does not hold \(this comparison/) return ""
-            if (text ~ /^`omega`: the goal does not follow from what it read\. All of that holds, and the goal fails, at /) return ""
+            if (text ~ /^(`search`: no proof of `.* )?`omega`: the goal does not follow from what it read\. All of that holds, and the goal fails, at /) return ""
             if (text ~ /what it leaves must be a path whose two ends are equal, and `.* is none/) return ""
             if (text ~ /`cc`: the equations do not join `/) return ""
             return "its first error is of a kind that is not about a fact"
