@@ -72,6 +72,7 @@ say 'tests of the C calls and programs'
 build "$out" -O2 -g
 run_tests "$out"
 try_install
+tests/programs/test_listing.sh "$listing"
 if command -v python3 >/dev/null; then
     tests/programs/test_draw.sh
 else
