@@ -44,8 +44,8 @@
  *
  *   - A check: time that grows with the table's length.
  *   - A build: every successor is made once and looked up by going through the states found so far, so time grows with
- *     edges times states. 10,000 states take some hundredths of a second, 57,344 states more than half a second, and
- *     16 letters multiply that. 11 comes as soon as there are too many states, 12 only when all states are known.
+ *     edges times states. For each letter 10,000 states take some hundredths of a second, and 57,344 states more than
+ *     half a second. 11 comes as soon as there are too many states, 12 only when all states are known.
  *   - A decision: time that grows with records times (prefix_len + loop_len), at most; it may find its answer early.
  *     Then all work words are cleared, those beyond the need too, and also where it refuses.
  *

@@ -288,14 +288,14 @@ expect 'a closed output' 2 '' 'tubochre-bench: standard output: Bad file descrip
 
 # ---- A terminal shows that a long build goes on; nothing else does.
 
-rings 7 13 1 >"$folder/rings"
-expect 'no progress off a terminal' 0 'pattern: passes the check (states 21, letters 1, records 21)
-complement: states 57344, edges 57344' '' "$program" "$folder/rings"
+rings 7 13 2 >"$folder/rings"
+expect 'no progress off a terminal' 1 'pattern: passes the check (states 21, letters 2, records 42)
+complement: refused (12): it has more than 65535 edges, the most that a table has' '' "$program" "$folder/rings"
 if command -v script >/dev/null; then
-    # The build may take less than the half second after which it is shown: then there is nothing to see.
+    # It is shown after half a second. Where all took less than one and a half, the machine may be too fast for anything to be seen.
     start=$(date +%s%N)
     script -qec "$program $folder/rings" /dev/null >"$folder/out" </dev/null
-    if [ $(($(date +%s%N) - start)) -gt 900000000 ]; then
+    if [ $(($(date +%s%N) - start)) -gt 1500000000 ]; then
         grep -q '^tubochre-bench: building the complement \.' "$folder/out" ||
             wrong 'progress on a terminal' 'it showed' "$(cat "$folder/out")"
     fi
