@@ -82,7 +82,7 @@ turns-same same turn = record { from = λ b shows. rw (← same b) (turn .from b
 module _
     (m : List (List ℕ)) (shape : Shape) (x : Quadruple) (i c : ℕ) {asked : Asked} {stopped : Bool}
     (asking : asked ≡ asks (from-array m 0 (shape .marks) (shape .inner)) x c)
-    (stopping : stopped ≡ blocked-by (shape .marks) asked) where
+    (stopping : stopped ≡ blocked-by (from-array m 0 (shape .marks) 0) x c asked) where
   stops : stopped ≡ blocked (array-moves m shape) x c
   unfolding array-moves
   stops = stopping ∙ blocked-same m (shape .marks) (shape .inner) x c asking

@@ -114,7 +114,7 @@ fn add_successors(
         (lent (now (words .entry)) (now (sets .entry))) found (lent (now (words .exit)) (now (sets .exit))) r ⌝ }
 {
     let asked = x.on_letter(masks, shape.marks, shape.inner, letter);
-    if x.blocked(shape.marks, asked) {
+    if x.blocked(masks, shape.marks, letter, asked) {
         return found;
     }
     let choices = asked.choices();

@@ -20,7 +20,7 @@ module _ (d : Moves) where
   unfolding nth-initial
   nth-initial-at i l = rw (chosen-at (initial-free d) i l)
 
-  pub blocked-asked : (x : Quadruple) (c : ℕ) → blocked-by (d .marks) (asks d x c) ≡ blocked d x c
+  pub blocked-asked : (x : Quadruple) (c : ℕ) → blocked-by d x c (asks d x c) ≡ blocked d x c
   unfolding blocked-by asks blocked
   blocked-asked x c = refl
 

@@ -12,7 +12,7 @@ use Rattle.sets.specs.Sets.{size, subsets}
 use Rattle.sets.proofs.Size.{size-le}
 use Rattle.sets.proofs.Subsets.{subsets-length}
 use Rattle.ncsb.specs.Array.{from-array, nth-initial, asks, blocked-by, nth-successor}
-use Rattle.ncsb.specs.Successors.{quadruple, initial-for, initial-free, initials, blocked, free, successor-for, successors}
+use Rattle.ncsb.specs.Successors.{quadruple, initial-for, initial-free, initials, dead-end, blocked, free, successor-for, successors}
 use Rattle.ncsb.specs.declared.Asked.{Asked}
 use Rattle.ncsb.specs.declared.Quadruple.{Quadruple}
 use Rattle.ncsb.proofs.Array.{blocked-asked, nth-initial-at, nth-successor-at}
@@ -23,8 +23,9 @@ choices-fit s = pow-mono (size-le 32 s)
 module _ (m : List (List ℕ)) (f q2 : ℕ) (x : Quadruple) (c : ℕ) where
   -- what stops the step
   pub blocked-same :
-      {a : Asked} → a ≡ asks (from-array m 0 f q2) x c → blocked-by f a ≡ blocked (from-array m 0 f q2) x c
-  unfolding from-array
+      {a : Asked} → a ≡ asks (from-array m 0 f q2) x c →
+      blocked-by (from-array m 0 f 0) x c a ≡ blocked (from-array m 0 f q2) x c
+  unfolding from-array blocked-by dead-end
   blocked-same e = rw e (blocked-asked (from-array m 0 f q2) x c)
 
   pub none-blocked : blocked (from-array m 0 f q2) x c ≡ true → successors (from-array m 0 f q2) x c ≡ []

@@ -10,7 +10,7 @@ use Rattle.sets.specs.Sets.{has}
 use Rattle.ncsb.specs.Moves.{Moves, Split}
 use Rattle.ncsb.specs.Step.{Leads, Ncsb-run}
 use Rattle.ncsb.specs.declared.Quadruple.{Quadruple}
-use Rattle.ncsb.proofs.Fine.{run-fine}
+use Rattle.ncsb.proofs.Fine.{run-fine, run-unmarked}
 use Rattle.ncsb.proofs.Breakpoint.{never-stays}
 
 module _ {a : Automaton} {d : Moves} (s : Split a d) (w : ℕ → ℕ) (f : ℕ → Quadruple) (r : Ncsb-run a d w f) where
@@ -31,13 +31,21 @@ module _ {a : Automaton} {d : Moves} (s : Split a d) (w : ℕ → ℕ) (f : ℕ 
       elim (either (has (d .inner) (run (suc i)))) [
         | inl e ↦
             or-r (has (f (suc i) .N) (run (suc i)))
-            (r .goes-on i .reachable-CS (run (suc i)) .1 (e, (run i, before, edge)))
+            (r .goes-on i .reachable-CS (run (suc i)) .1
+            (elim (or-true (has (f i .N) (run i)) (has (f i .C) (run i) || has (f i .S) (run i)) before) [
+              | inl n ↦ inl (e, (run i, n, edge))
+              | inr cs ↦
+                  elim (or-true (has (f i .C) (run i)) (has (f i .S) (run i)) cs) [
+                    | inl k ↦ inr (inl (run i, k, edge))
+                    | inr k ↦ inr (inr (run i, k, edge))
+                  ]
+            ]))
         | inr e ↦
             elim (or-true (has (f i .N) (run i)) (has (f i .C) (run i) || has (f i .S) (run i)) before) [
               | inl n ↦
                   or-l (has (f (suc i) .C) (run (suc i)) || has (f (suc i) .S) (run (suc i)))
                   (r .goes-on i .reachable-N (run (suc i)) .1 (e, (run i, n, edge)))
-              | inr cs ↦ absurd (clash (s .closed (run i) (w i) (run (suc i)) (run-fine r i .inner (run i) cs) edge) e)
+              | inr cs ↦ absurd (clash (s .closed (run i) (w i) (run (suc i)) (run-fine r s i .inner (run i) cs) edge) e)
             ]
       ]
 
@@ -47,7 +55,7 @@ module _ {a : Automaton} {d : Moves} (s : Split a d) (w : ℕ → ℕ) (f : ℕ 
       (has (f i .C) (run i) || has (f i .S) (run i)) ≡ true
   in-CS run p i h =
       elim (or-true (has (f i .N) (run i)) (has (f i .C) (run i) || has (f i .S) (run i)) (followed run p i)) [
-        | inl n ↦ absurd (clash h (run-fine r i .outer (run i) n))
+        | inl n ↦ absurd (clash h (run-fine r s i .outer (run i) n))
         | inr cs ↦ cs
       ]
 
@@ -60,7 +68,7 @@ module _ {a : Automaton} {d : Moves} (s : Split a d) (w : ℕ → ℕ) (f : ℕ 
       let safe =
       upward (λ k. has (f k .S) (run k) ≡ true) i h
       (λ k _ x. r .goes-on k .safe-stays (run (suc k)) (run k, x, p .path .goes-on k)) j l in
-      clash (and-make safe mark) (run-fine r j .unmarked (run j))
+      clash (and-make safe mark) (run-unmarked r j (run j))
 
   -- so it is in C from its first mark on
   in-C : (run : ℕ → ℕ) → Run a w run → (i : ℕ) → has (d .inner) (run i) ≡ true → has (f i .C) (run i) ≡ true

@@ -17,7 +17,7 @@ use Rattle.sets.proofs.Members.{set-of-lt, has-lt, empty, set-of-back, set-of-m
 use Rattle.ncsb.specs.Moves.{Moves, Spread, Split}
 use Rattle.ncsb.specs.Step.{Small, Leads, Start, Step, Ncsb-run}
 use Rattle.ncsb.specs.declared.Quadruple.{Quadruple}
-use Rattle.ncsb.proofs.Fine.{step-fine}
+use Rattle.ncsb.proofs.Fine.{step-tracked}
 use Rattle.ncsb.proofs.Traces.{reached, next, trace, reached-back, reached-on, reached-inside, next-edge, next-found, trace-add, trace-inside}
 
 -- no mark stands on the path of the state within the bound
@@ -189,13 +189,6 @@ module _ {a : Automaton} {d : Moves} (spread : Spread a d) (split : Split a d) (
       ]
 
   -- together they hold the reached states
-  all-back : (i q : ℕ) → (has (N-at i) q || (has (C-at i) q || has (S-at i) q)) ≡ true → reached a w i q ≡ true
-  all-back i q h =
-      elim (or-true (has (N-at i) q) (has (C-at i) q || has (S-at i) q) h) [
-        | inl x ↦ N-back i q x .0
-        | inr x ↦ CS-back i q x .0
-      ]
-
   all-make : (i q : ℕ) → reached a w i q ≡ true → (has (N-at i) q || (has (C-at i) q || has (S-at i) q)) ≡ true
   all-make i q h =
       elim (either (has (d .inner) q)) [
@@ -324,13 +317,7 @@ module _ {a : Automaton} {d : Moves} (spread : Spread a d) (split : Split a d) (
               (t, (p, N-make i p y (not-both (has (d .inner) p) (λ r. clash (split .closed p (w i) q r e) t)), e))),
           (λ h. let (p, x, e) = h .1 in N-make (suc i) q (reached-on closed w i p q (N-back i p x .0) e) (h .0)),
         );
-        reachable-CS = λ q. (
-          (λ h.
-              let (x, t) = CS-back (suc i) q h in
-              let (p, y, e) = reached-back closed w i q x in (t, (p, all-make i p y, e))),
-          (λ h.
-              let (p, x, e) = h .1 in CS-make (suc i) q (reached-on closed w i p q (all-back i p x) e) (h .0)),
-        );
+        reachable-CS = λ q. (led-back q, led-on q);
         disjoint = rational-disjoint (suc i);
         unmarked = rational-unmarked (suc i);
         safe-stays = λ q h. safe-stays i (h .0) q (h .1) (h .2);
@@ -339,11 +326,42 @@ module _ {a : Automaton} {d : Moves} (spread : Spread a d) (split : Split a d) (
         breakpoint-empty = B-empty i;
         breakpoint-kept = B-kept i;
       }
+    where
+      led-back :
+          (q : ℕ) → (has (C-at (suc i)) q || has (S-at (suc i)) q) ≡ true →
+          ((has (d .inner) q ≡ true) × Leads a (N-at i) (w i) q) ⊎ (Leads a (C-at i) (w i) q ⊎ Leads a (S-at i) (w i) q)
+      led-back q h =
+          let (x, t) = CS-back (suc i) q h in
+          let (p, y, e) = reached-back closed w i q x in
+          elim (or-true (has (N-at i) p) (has (C-at i) p || has (S-at i) p) (all-make i p y)) [
+            | inl n ↦ inl (t, (p, n, e))
+            | inr cs ↦
+                elim (or-true (has (C-at i) p) (has (S-at i) p) cs) [
+                  | inl k ↦ inr (inl (p, k, e))
+                  | inr k ↦ inr (inr (p, k, e))
+                ]
+          ]
+
+      led-CS :
+          (p q : ℕ) → (has (C-at i) p || has (S-at i) p) ≡ true → a .edge p (w i) q ≡ true →
+          (has (C-at (suc i)) q || has (S-at (suc i)) q) ≡ true
+      led-CS p q cs e =
+          let (x, t) = CS-back i p cs in
+          CS-make (suc i) q (reached-on closed w i p q x e) (split .closed p (w i) q t e)
+
+      led-on :
+          (q : ℕ) →
+          ((has (d .inner) q ≡ true) × Leads a (N-at i) (w i) q) ⊎ (Leads a (C-at i) (w i) q ⊎ Leads a (S-at i) (w i) q) →
+          (has (C-at (suc i)) q || has (S-at (suc i)) q) ≡ true
+      led-on q (inl n) =
+          CS-make (suc i) q (reached-on closed w i (n .1 .0) q (N-back i (n .1 .0) (n .1 .1) .0) (n .1 .2)) (n .0)
+      led-on q (inr (inl l)) = led-CS (l .0) q (or-l (has (S-at i) (l .0)) (l .1)) (l .2)
+      led-on q (inr (inr l)) = led-CS (l .0) q (or-r (has (C-at i) (l .0)) (l .1)) (l .2)
 
   B-in-C : (i q : ℕ) → has (B-at i) q ≡ true → has (C-at i) q ≡ true
   unfolding rational rational-B
   B-in-C zero q h = h
-  B-in-C (suc i) q h = step-fine (rational-step i) .tracked q h
+  B-in-C (suc i) q h = step-tracked (rational-step i) q h
 
   -- while B is not empty, what it holds lies on the path of what it held
   B-traced :

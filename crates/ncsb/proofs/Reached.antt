@@ -11,7 +11,7 @@ use Rattle.ncsb.specs.Moves.{Moves, Spread, Split}
 use Rattle.ncsb.specs.Step.{Fine, Ncsb-run}
 use Rattle.ncsb.specs.Successors.{quadruple, same, accepting, initials, successors, ncsb}
 use Rattle.ncsb.specs.declared.Quadruple.{Quadruple}
-use Rattle.ncsb.proofs.Fine.{start-fine, step-fine, run-fine}
+use Rattle.ncsb.proofs.Fine.{start-fine, step-fine, run-small}
 use Rattle.ncsb.proofs.Initials.{initials-distinct, member-start, start-member}
 use Rattle.ncsb.proofs.Parting.{same-parts}
 use Rattle.ncsb.proofs.Successors.{successors-distinct, member-step, step-member}
@@ -48,19 +48,19 @@ module _ {a : Automaton} {d : Moves} (sp : Spread a d) (sl : Split a d) where
   pub reached-fine : {x : Quadruple} → Reached (ncsb d) x → Fine d x
   unfolding ncsb
   reached-fine (at-start m) = start-fine (member-start sp m)
-  reached-fine (onward c r l m) = step-fine (member-step sp sl (reached-fine r) c m)
+  reached-fine (onward c r l m) = step-fine sl (reached-fine r) (member-step sp (reached-fine r .small) c m)
 
   system-fine : {w : ℕ → ℕ} {run : ℕ → Quadruple} → System-run (ncsb d) w run → (i : ℕ) → Fine d (run i)
   unfolding ncsb
   system-fine {w} r zero = start-fine (member-start sp (r .begins))
-  system-fine {w} r (suc i) = step-fine (member-step sp sl (system-fine r i) (w i) (r .goes-on i))
+  system-fine {w} r (suc i) = step-fine sl (system-fine r i) (member-step sp (system-fine r i .small) (w i) (r .goes-on i))
 
   pub system-run→ncsb-run : {w : ℕ → ℕ} {run : ℕ → Quadruple} → System-run (ncsb d) w run → Ncsb-run a d w run
   unfolding ncsb accepting
   system-run→ncsb-run {w} {run} r =
       record {
         begins = member-start sp (r .begins);
-        goes-on = λ i. member-step sp sl (system-fine r i) (w i) (r .goes-on i);
+        goes-on = λ i. member-step sp (system-fine r i .small) (w i) (r .goes-on i);
         accepting = λ i. let k = r .accepting i in (k .0, k .1, eqb-eq (run (k .0) .B) 0 (k .2));
       }
 
@@ -69,6 +69,6 @@ module _ {a : Automaton} {d : Moves} (sp : Spread a d) (sl : Split a d) where
   ncsb-run→system-run {w} {run} r =
       record {
         begins = start-member sp (r .begins);
-        goes-on = λ i. step-member sp sl (run-fine r i) (w i) (r .goes-on i);
+        goes-on = λ i. step-member sp (run-small r i) (w i) (r .goes-on i);
         accepting = λ i. let k = r .accepting i in (k .0, k .1, eq-eqb (k .2));
       }

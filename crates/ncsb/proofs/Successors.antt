@@ -1,5 +1,5 @@
--- The successors that the construction computes are exactly the quadruples that follow by the bulleted conditions of section 3.2,
--- each once, by rising S'. Assumes nothing.
+-- The successors that the construction computes, of any four sets of states, are exactly the quadruples that follow by the bulleted
+-- conditions of section 3.2, each once, by rising S'. Assumes nothing.
 use mathlib.Core.Path.{_≡_, sym, _∙_, ap}
 use mathlib.Core.Bool.{true, false, _&&_, _||_, not}
 use mathlib.Core.List.{List, [], map}
@@ -19,8 +19,8 @@ use Rattle.automata.proofs.Members.{member-at, member-index}
 use Rattle.sets.specs.Sets.{has, size, without, subsets}
 use Rattle.sets.proofs.Members.{has-and, has-or, has-without, has-lt, has-some, has-nonzero, ext, apart-make, without-lt}
 use Rattle.sets.proofs.Subsets.{subsets-length, subsets-rises}
-use Rattle.ncsb.specs.Moves.{Moves, Spread, Split}
-use Rattle.ncsb.specs.Step.{Small, Leads, Step, Fine}
+use Rattle.ncsb.specs.Moves.{Moves, Spread}
+use Rattle.ncsb.specs.Step.{Small, Leads, Step}
 use Rattle.ncsb.specs.Successors.{quadruple, targets, next-N, entering, staying-safe, staying, leaving, tracked, blocked, free, next-B, successor-for, successors, ncsb}
 use Rattle.ncsb.specs.declared.Quadruple.{Quadruple}
 use Rattle.ncsb.proofs.Free.{free-from, free-unmarked, free-not-safe, free-not-staying, free-make, has-tracked, Unblocked, blocked-no, no-blocked}
@@ -53,7 +53,7 @@ module _ (d : Moves) (x : Quadruple) (c f : ℕ) where
 
 -- each choice where nothing blocks is a step
 module _
-    {a : Automaton} {d : Moves} (sp : Spread a d) (sl : Split a d) {x : Quadruple} (fine : Fine d x) (c : ℕ)
+    {a : Automaton} {d : Moves} (sp : Spread a d) {x : Quadruple} (within : Small (d .states) x) (c : ℕ)
     (u : Unblocked d x c) {f : ℕ} (choice : Choice (d .states) (free d x c) f) where
   choice-tracked : (q : ℕ) → has (successor-for d x c f .S) q ≡ true → has (tracked d x c) q ≡ true
   choice-tracked q h =
@@ -131,7 +131,7 @@ module _
               targets-lead sp (x .B) c q (and-l (has (successor-for d x c f .C) q) m),
             )),
         (λ g.
-            h ∙ and-make (lead-targets sp (x .B) c (g .1 .0) q (fine .small .small-B) (g .1 .1) (g .1 .2)) (g .0)),
+            h ∙ and-make (lead-targets sp (x .B) c (g .1 .0) q (within .small-B) (g .1 .1) (g .1 .2)) (g .0)),
       )
 
   pub choice-step : Step a d x c (successor-for d x c f)
@@ -148,13 +148,13 @@ module _
                   )),
               (λ h.
                   has-new-N d x c f q
-                  ∙ and-make (lead-targets sp (x .N) c (h .1 .0) q (fine .small .small-N) (h .1 .1) (h .1 .2))
+                  ∙ and-make (lead-targets sp (x .N) c (h .1 .0) q (within .small-N) (h .1 .1) (h .1 .2))
                   (not-false (h .0))),
             );
         reachable-CS =
             λ q. (
-              (λ h. tracked-lead sp sl fine c q (sym (choice-all q) ∙ h)),
-              (λ h. choice-all q ∙ lead-tracked sp sl fine c q h),
+              (λ h. tracked-lead sp within c q (sym (choice-all q) ∙ h)),
+              (λ h. choice-all q ∙ lead-tracked sp within c q h),
             );
         disjoint =
             λ q.
@@ -164,13 +164,13 @@ module _
             not-both (has (successor-for d x c f .S) q && has (d .marks) q)
             (λ h.
             clash (and-r (has (successor-for d x c f .S) q) h) (choice-unmarked q (and-l (has (d .marks) q) h)));
-        safe-stays = λ q l. has-new-S d x c f q ∙ or-l (has f q) (lead-safe sp sl fine c q l);
-        only-leaving = λ p q h m e. choice-in-C q (lead-staying sp sl fine c q p h m e);
+        safe-stays = λ q l. has-new-S d x c f q ∙ or-l (has f q) (lead-safe sp within c q l);
+        only-leaving = λ p q h m e. choice-in-C q (lead-staying sp within c q p h m e);
         no-dead-end =
             λ p h m.
             let on : has (without (x .C) (d .marks)) p ≡ true =
             has-without (x .C) (d .marks) p ∙ and-make h (not-false m) in
-            let below = has-lt (d .states) (x .C) p (fine .small .small-C) h in
+            let below = has-lt (d .states) (x .C) p (within .small-C) h in
             let r = has-some (d .states) (d .move p c) (sp .move-small p c) (u .no-dead-end p below on) in
             (r .0, sym (sp .move p c (r .0)) ∙ r .2);
         breakpoint-empty = new-B-empty d x c f;
@@ -182,14 +182,14 @@ unfoldable pub chosen : Moves → Quadruple → (letter : ℕ) → Quadruple →
 chosen d x c y = bitAnd (y .S) (free d x c)
 
 module _
-    {a : Automaton} {d : Moves} (sp : Spread a d) (sl : Split a d) {x : Quadruple} (fine : Fine d x) (c : ℕ)
+    {a : Automaton} {d : Moves} (sp : Spread a d) {x : Quadruple} (within : Small (d .states) x) (c : ℕ)
     {y : Quadruple} (s : Step a d x c y) where
   step-safe : (q : ℕ) → has (staying-safe d x c) q ≡ true → has (y .S) q ≡ true
-  step-safe q h = s .safe-stays q (safe-lead sp sl fine c q h)
+  step-safe q h = s .safe-stays q (safe-lead sp within c q h)
 
   step-staying : (q : ℕ) → has (staying d x c) q ≡ true → has (y .C) q ≡ true
   step-staying q h =
-      let l = staying-lead sp sl fine c q h in s .only-leaving (l .0) q (l .1) (l .2) (l .3)
+      let l = staying-lead sp within c q h in s .only-leaving (l .0) q (l .1) (l .2) (l .3)
 
   -- a safe state is no target of C without F
   step-apart : (q : ℕ) → has (y .S) q ≡ true → has (staying d x c) q ≡ false
@@ -217,8 +217,8 @@ module _
   unfolding Tracked-by
   step-all q =
       same-truth (has (y .C) q || has (y .S) q) (has (tracked d x c) q)
-      (λ h. lead-tracked sp sl fine c q (s .reachable-CS q .0 h))
-      (λ h. s .reachable-CS q .1 (tracked-lead sp sl fine c q h))
+      (λ h. lead-tracked sp within c q (s .reachable-CS q .0 h))
+      (λ h. s .reachable-CS q .1 (tracked-lead sp within c q h))
 
   has-chosen : (q : ℕ) → has (chosen d x c y) q ≡ (has (y .S) q && has (free d x c) q)
   unfolding chosen
@@ -278,7 +278,7 @@ module _
       ))
       (λ h.
       let r = s .reachable-N q .0 h in
-      and-make (lead-targets sp (x .N) c (r .1 .0) q (fine .small .small-N) (r .1 .1) (r .1 .2)) (not-false (r .0)))
+      and-make (lead-targets sp (x .N) c (r .1 .0) q (within .small-N) (r .1 .1) (r .1 .2)) (not-false (r .0)))
 
   chosen-kept-B : (x .B ≡ 0 → ⊥) → (q : ℕ) → (has (targets d (x .B) c) q && has (y .C) q) ≡ has (y .B) q
   unfolding Leads
@@ -291,13 +291,13 @@ module _
       ))
       (λ h.
       let r = s .breakpoint-kept n q .0 h in
-      and-make (lead-targets sp (x .B) c (r .1 .0) q (fine .small .small-B) (r .1 .1) (r .1 .2)) (r .0))
+      and-make (lead-targets sp (x .B) c (r .1 .0) q (within .small-B) (r .1 .1) (r .1 .2)) (r .0))
 
   pub chosen-successor : successor-for d x c (chosen d x c y) ≡ y
   chosen-successor = same-parts chosen-N chosen-C chosen-S (elim (either (eqb (x .B) 0)) [ inl e ↦ empty-B (eqb-eq (x .B) 0 e) | inr e ↦ kept-B (eqb-ne (x .B) 0 e) ])
     where
       small : Small (d .states) (successor-for d x c (chosen d x c y))
-      small = choice-small sp sl fine c step-unblocked chosen-choice
+      small = choice-small sp within c step-unblocked chosen-choice
 
       chosen-N : successor-for d x c (chosen d x c y) .N ≡ y .N
       chosen-N = ext (d .states) (successor-for d x c (chosen d x c y) .N) (y .N) (small .small-N) (s .small .small-N) (λ q l. chosen-has-N q)
@@ -405,25 +405,25 @@ module _ (d : Moves) (x : Quadruple) (c : ℕ) where
 
 -- SECTION 3.2: the list holds exactly the quadruples that follow x on the letter
 module _
-    {a : Automaton} {d : Moves} (sp : Spread a d) (sl : Split a d) {x : Quadruple} (fine : Fine d x) (c : ℕ)
+    {a : Automaton} {d : Moves} (sp : Spread a d) {x : Quadruple} (within : Small (d .states) x) (c : ℕ)
     {y : Quadruple} where
   pub member-step : Member y (successors d x c) → Step a d x c y
   member-step m =
       let r = member-index x m in
       let b = index-unblocked d x c (r .0) (r .1) in
       let e = sym (successors-at d x c (r .0) (r .1) x) ∙ r .2 in
-      rw e at (choice-step sp sl fine c (blocked-no d x c b) (index-is-choice d x c (r .0) (r .1)))
+      rw e at (choice-step sp within c (blocked-no d x c b) (index-is-choice d x c (r .0) (r .1)))
 
   pub step-member : Step a d x c y → Member y (successors d x c)
   step-member s =
-      let b = no-blocked d x c (step-unblocked sp sl fine c s) in
-      let r = choice-index (d .states) (free d x c) (chosen-choice sp sl fine c s) in
+      let b = no-blocked d x c (step-unblocked sp within c s) in
+      let r = choice-index (d .states) (free d x c) (chosen-choice sp within c s) in
       let k = successors-length d x c b in
       let k′ = subsets-length (d .states) (free d x c) in
       let at = r .1 in
       let l : r .0 < length (successors d x c) = omega arith in
       let e : getD (successors d x c) (r .0) (quadruple 0 0 0 0) ≡ y =
-      successors-at d x c (r .0) l (quadruple 0 0 0 0) ∙ ap (successor-for d x c) (r .2) ∙ chosen-successor sp sl fine c s in
+      successors-at d x c (r .0) l (quadruple 0 0 0 0) ∙ ap (successor-for d x c) (r .2) ∙ chosen-successor sp within c s in
       rw e at (index-member d x c (r .0) l)
 
   pub successors-right : (Member y (successors d x c)) ↔ (Step a d x c y)
@@ -431,12 +431,12 @@ module _
 
 -- a step is blocked exactly where no quadruple follows
 pub blocked-right :
-    {a : Automaton} {d : Moves} (sp : Spread a d) (sl : Split a d) {x : Quadruple} (fine : Fine d x) (c : ℕ) →
+    {a : Automaton} {d : Moves} (sp : Spread a d) {x : Quadruple} (within : Small (d .states) x) (c : ℕ) →
     (blocked d x c ≡ true) ↔ ((y : Quadruple) → Step a d x c y → ⊥)
-blocked-right {a} {d} sp sl {x} fine c = (none, no-step)
+blocked-right {a} {d} sp {x} within c = (none, no-step)
   where
     none : blocked d x c ≡ true → (y : Quadruple) → Step a d x c y → ⊥
-    none b y s = clash b (no-blocked d x c (step-unblocked sp sl fine c s))
+    none b y s = clash b (no-blocked d x c (step-unblocked sp within c s))
 
     no-step : ((y : Quadruple) → Step a d x c y → ⊥) → blocked d x c ≡ true
     no-step h =
@@ -445,5 +445,5 @@ blocked-right {a} {d} sp sl {x} fine c = (none, no-step)
           | inr b ↦
               let l = successors-length d x c b in
               let p = pow-pos (size (d .states) (free d x c)) in
-              absurd (h (getD (successors d x c) 0 (quadruple 0 0 0 0)) (member-step sp sl fine c (index-member d x c 0 (omega arith))))
+              absurd (h (getD (successors d x c) 0 (quadruple 0 0 0 0)) (member-step sp within c (index-member d x c 0 (omega arith))))
         ]

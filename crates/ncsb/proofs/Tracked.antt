@@ -1,7 +1,7 @@
 -- The sets that a letter asks for, by edges: where they lead from, and that all of them are sets of states. Assumes nothing.
 use mathlib.Core.Path.{_≡_, sym, _∙_}
 use mathlib.Core.Bool.{true, false, _&&_, _||_, not}
-use mathlib.Core.Logic.{inl, inr}
+use mathlib.Core.Logic.{_⊎_, inl, inr}
 use Prim.Native.Nat.{ℕ, _<_, _^_}
 use native.Mathlib.Nat.{lt-of-le-of-lt}
 use lib.Bits.{bitAnd, bitOr, and-le-l, or-lt}
@@ -9,22 +9,22 @@ use Rattle.basics.proofs.Booleans.{either, and-l, and-r, and-make, or-l, or-r, 
 use Rattle.automata.specs.Automaton.{Automaton}
 use Rattle.sets.specs.Sets.{has, without}
 use Rattle.sets.proofs.Members.{has-and, has-without, without-lt}
-use Rattle.ncsb.specs.Moves.{Moves, Spread, Split}
-use Rattle.ncsb.specs.Step.{Leads, Fine}
+use Rattle.ncsb.specs.Moves.{Moves, Spread}
+use Rattle.ncsb.specs.Step.{Small, Leads}
 use Rattle.ncsb.specs.Successors.{targets, entering, staying-safe, staying, leaving, tracked}
 use Rattle.ncsb.specs.declared.Quadruple.{Quadruple}
 use Rattle.ncsb.proofs.Free.{has-tracked}
 use Rattle.ncsb.proofs.Targets.{targets-small, targets-lead, lead-targets}
 
 -- THE SETS BY EDGES
-module _ {a : Automaton} {d : Moves} (sp : Spread a d) (sl : Split a d) {x : Quadruple} (fine : Fine d x) (c q : ℕ) where
+module _ {a : Automaton} {d : Moves} (sp : Spread a d) {x : Quadruple} (small : Small (d .states) x) (c q : ℕ) where
   pub safe-lead : has (staying-safe d x c) q ≡ true → Leads a (x .S) c q
   unfolding staying-safe
   safe-lead h = targets-lead sp (x .S) c q h
 
   pub lead-safe : Leads a (x .S) c q → has (staying-safe d x c) q ≡ true
   unfolding staying-safe Leads
-  lead-safe l = lead-targets sp (x .S) c (l .0) q (fine .small .small-S) (l .1) (l .2)
+  lead-safe l = lead-targets sp (x .S) c (l .0) q (small .small-S) (l .1) (l .2)
 
   pub staying-lead :
       has (staying d x c) q ≡ true →
@@ -45,7 +45,7 @@ module _ {a : Automaton} {d : Moves} (sp : Spread a d) (sl : Split a d) {x : Qua
   unfolding staying
   lead-staying p h m e =
       lead-targets sp (without (x .C) (d .marks)) c p q
-      (without-lt (d .states) (x .C) (d .marks) (fine .small .small-C))
+      (without-lt (d .states) (x .C) (d .marks) (small .small-C))
       (has-without (x .C) (d .marks) p ∙ and-make h (not-false m)) e
 
   leaving-lead : has (leaving d x c) q ≡ true → Leads a (x .C) c q
@@ -59,78 +59,55 @@ module _ {a : Automaton} {d : Moves} (sp : Spread a d) (sl : Split a d) {x : Qua
   unfolding leaving
   lead-leaving p h m e =
       lead-targets sp (bitAnd (x .C) (d .marks)) c p q
-      (lt-of-le-of-lt (and-le-l (x .C) (d .marks)) (fine .small .small-C))
+      (lt-of-le-of-lt (and-le-l (x .C) (d .marks)) (small .small-C))
       (has-and (x .C) (d .marks) p ∙ and-make h m) e
 
   has-entering : has (entering d x c) q ≡ (has (targets d (x .N) c) q && has (d .inner) q)
   unfolding entering
   has-entering = has-and (targets d (x .N) c) (d .inner) q
 
-  -- what is tracked lies in Q2, and an edge leads to it from N, C or S
+  -- what is tracked: an edge leads to it from N into Q2, or from C, or from S
   unfoldable pub Tracked-by : Type 0
   Tracked-by =
-      (has (d .inner) q ≡ true)
-      × ((p : ℕ) × ((has (x .N) p || (has (x .C) p || has (x .S) p)) ≡ true) × (a .edge p c q ≡ true))
+      ((has (d .inner) q ≡ true) × Leads a (x .N) c q) ⊎ (Leads a (x .C) c q ⊎ Leads a (x .S) c q)
 
-  from-C : Leads a (x .C) c q → Tracked-by
-  unfolding Leads Tracked-by
-  from-C l = (
-    sl .closed (l .0) c q (fine .inner (l .0) (or-l (has (x .S) (l .0)) (l .1))) (l .2),
-    (l .0, or-r (has (x .N) (l .0)) (or-l (has (x .S) (l .0)) (l .1)), l .2),
-  )
-
-  from-S : Leads a (x .S) c q → Tracked-by
-  unfolding Leads Tracked-by
-  from-S l = (
-    sl .closed (l .0) c q (fine .inner (l .0) (or-r (has (x .C) (l .0)) (l .1))) (l .2),
-    (l .0, or-r (has (x .N) (l .0)) (or-r (has (x .C) (l .0)) (l .1)), l .2),
-  )
-
-  from-N : has (entering d x c) q ≡ true → Tracked-by
-  unfolding Leads Tracked-by
-  from-N h =
+  entering-lead : has (entering d x c) q ≡ true → (has (d .inner) q ≡ true) × Leads a (x .N) c q
+  entering-lead h =
       let m = sym has-entering ∙ h in
-      let l = targets-lead sp (x .N) c q (and-l (has (d .inner) q) m) in (
-        and-r (has (targets d (x .N) c) q) m,
-        (l .0, or-l (has (x .C) (l .0) || has (x .S) (l .0)) (l .1), l .2),
-      )
+      (and-r (has (targets d (x .N) c) q) m, targets-lead sp (x .N) c q (and-l (has (d .inner) q) m))
 
   pub tracked-lead : has (tracked d x c) q ≡ true → Tracked-by
-  unfolding Leads
+  unfolding Leads Tracked-by
   tracked-lead h =
       elim (or-true (has (entering d x c) q || has (leaving d x c) q) (has (staying d x c) q || has (staying-safe d x c) q) (sym (has-tracked d x c q) ∙ h)) [
         | inl f ↦
             elim (or-true (has (entering d x c) q) (has (leaving d x c) q) f) [
-              | inl e ↦ from-N e
-              | inr e ↦ from-C (leaving-lead e)
+              | inl e ↦ inl (entering-lead e)
+              | inr e ↦ inr (inl (leaving-lead e))
             ]
         | inr s ↦
             elim (or-true (has (staying d x c) q) (has (staying-safe d x c) q) s) [
-              | inl e ↦ from-C (let l = staying-lead e in (l .0, l .1, l .3))
-              | inr e ↦ from-S (safe-lead e)
+              | inl e ↦ inr (inl (let l = staying-lead e in (l .0, l .1, l .3)))
+              | inr e ↦ inr (inr (safe-lead e))
             ]
       ]
 
   pub lead-tracked : Tracked-by → has (tracked d x c) q ≡ true
   unfolding Tracked-by Leads
   lead-tracked t =
-      let p = t .1 .0 in
-      let e = t .1 .2 in
-      let h = has-tracked d x c q in
-      elim (or-true (has (x .N) p) (has (x .C) p || has (x .S) p) (t .1 .1)) [
+      has-tracked d x c q
+      ∙ elim t [
         | inl n ↦
-            let i : has (entering d x c) q ≡ true =
-            has-entering ∙ and-make (lead-targets sp (x .N) c p q (fine .small .small-N) n e) (t .0) in cc
-        | inr cs ↦
-            elim (or-true (has (x .C) p) (has (x .S) p) cs) [
-              | inl k ↦
-                  elim (either (has (d .marks) p)) [
-                    | inl m ↦ h ∙ or-l (has (staying d x c) q || has (staying-safe d x c) q) (or-r (has (entering d x c) q) (lead-leaving p k m e))
-                    | inr m ↦ h ∙ or-r (has (entering d x c) q || has (leaving d x c) q) (or-l (has (staying-safe d x c) q) (lead-staying p k m e))
-                  ]
-              | inr k ↦
-                  h ∙ or-r (has (entering d x c) q || has (leaving d x c) q) (or-r (has (staying d x c) q) (lead-safe (p, k, e)))
+            let on : has (entering d x c) q ≡ true =
+            has-entering ∙ and-make (lead-targets sp (x .N) c (n .1 .0) q (small .small-N) (n .1 .1) (n .1 .2)) (n .0) in
+            or-l (has (staying d x c) q || has (staying-safe d x c) q) (or-l (has (leaving d x c) q) on)
+        | inr (inl l) ↦
+            elim (either (has (d .marks) (l .0))) [
+              | inl m ↦ or-l (has (staying d x c) q || has (staying-safe d x c) q) (or-r (has (entering d x c) q) (lead-leaving (l .0) (l .1) m (l .2)))
+              | inr m ↦ or-r (has (entering d x c) q || has (leaving d x c) q) (or-l (has (staying-safe d x c) q) (lead-staying (l .0) (l .1) m (l .2)))
             ]
+        | inr (inr l) ↦
+            or-r (has (entering d x c) q || has (leaving d x c) q) (or-r (has (staying d x c) q) (lead-safe l))
       ]
 
 -- all of them are sets of states

@@ -1,7 +1,7 @@
 -- Lemma 3 of document 004: two accepting runs of quadruples over one word are the same at every place. Assumes nothing.
 use mathlib.Core.Path.{_≡_, sym, _∙_, subst}
 use mathlib.Core.Bool.{true, _||_}
-use mathlib.Core.Logic.{inl, inr}
+use mathlib.Core.Logic.{_⊎_, inl, inr}
 use Prim.Native.Nat.{ℕ, zero, suc}
 use lib.Dec.{eqb}
 use Rattle.basics.proofs.Booleans.{either, and-make, or-l, or-r, or-true, clash, same-truth, not-both, eqb-eq, eqb-ne}
@@ -11,7 +11,7 @@ use Rattle.sets.proofs.Members.{ext}
 use Rattle.ncsb.specs.Moves.{Moves}
 use Rattle.ncsb.specs.Step.{Leads, Ncsb-run}
 use Rattle.ncsb.specs.declared.Quadruple.{Quadruple}
-use Rattle.ncsb.proofs.Fine.{run-fine}
+use Rattle.ncsb.proofs.Fine.{run-small, run-unmarked}
 use Rattle.ncsb.proofs.Breakpoint.{never-stays}
 
 -- what is in a set of one run is in that of the other
@@ -26,20 +26,24 @@ module _ {a : Automaton} {d : Moves} {w : ℕ → ℕ} {f g : ℕ → Quadruple}
 
   -- C and S together track Q2 and are determined
   same-CS : (i q : ℕ) → (has (f i .C) q || has (f i .S) q) ≡ true → (has (g i .C) q || has (g i .S) q) ≡ true
+  unfolding Leads
   same-CS zero q h = s .begins .initial-CS q .1 (r .begins .initial-CS q .0 h)
   same-CS (suc i) q h =
-      let (inside, (p, t, e)) = r .goes-on i .reachable-CS q .0 h in
-      s .goes-on i .reachable-CS q .1 (
-        inside,
-        (
-          p,
-          elim (or-true (has (f i .N) p) (has (f i .C) p || has (f i .S) p) t) [
-            | inl n ↦ or-l (has (g i .C) p || has (g i .S) p) (same-N i p n)
-            | inr cs ↦ or-r (has (g i .N) p) (same-CS i p cs)
-          ],
-          e,
-        ),
-      )
+      s .goes-on i .reachable-CS q .1
+      (elim (r .goes-on i .reachable-CS q .0 h) [
+        | inl n ↦ inl (n .0, (n .1 .0, same-N i (n .1 .0) (n .1 .1), n .1 .2))
+        | inr (inl l) ↦ same-on (l .0) (same-CS i (l .0) (or-l (has (f i .S) (l .0)) (l .1))) (l .2)
+        | inr (inr l) ↦ same-on (l .0) (same-CS i (l .0) (or-r (has (f i .C) (l .0)) (l .1))) (l .2)
+      ])
+    where
+      same-on :
+          (p : ℕ) → (has (g i .C) p || has (g i .S) p) ≡ true → a .edge p (w i) q ≡ true →
+          ((has (d .inner) q ≡ true) × Leads a (g i .N) (w i) q) ⊎ (Leads a (g i .C) (w i) q ⊎ Leads a (g i .S) (w i) q)
+      same-on p cs e =
+          elim (or-true (has (g i .C) p) (has (g i .S) p) cs) [
+            | inl k ↦ inr (inl (p, k, e))
+            | inr k ↦ inr (inr (p, k, e))
+          ]
 
   -- no state is in C of one run and safe in the other: there its path meets no mark, so here it would stay in C for ever
   no-split : (i q : ℕ) → has (f i .C) q ≡ true → has (g i .S) q ≡ true → ⊥
@@ -47,7 +51,7 @@ module _ {a : Automaton} {d : Moves} {w : ℕ → ℕ} {f g : ℕ → Quadruple}
   no-split i q c x =
       never-stays r (λ j p. (has (f j .C) p ≡ true) × (has (g j .S) p ≡ true)) (λ j p h. h .0)
       (λ j p h.
-      let free = not-both (has (d .marks) p) (λ m. clash (and-make (h .1) m) (run-fine s j .unmarked p)) in
+      let free = not-both (has (d .marks) p) (λ m. clash (and-make (h .1) m) (run-unmarked s j p)) in
       let (t, e) = r .goes-on j .no-dead-end p (h .0) free in
       (t, e, (r .goes-on j .only-leaving p t (h .0) free e, s .goes-on j .safe-stays t (p, h .1, e))))
       i q (c, x)
@@ -79,17 +83,17 @@ module _ {a : Automaton} {d : Moves} {w : ℕ → ℕ} {f g : ℕ → Quadruple}
   -- so the sets are equal
   equal-N : (i : ℕ) → f i .N ≡ g i .N
   equal-N i =
-      ext (d .states) (f i .N) (g i .N) (run-fine r i .small .small-N) (run-fine s i .small .small-N)
+      ext (d .states) (f i .N) (g i .N) (run-small r i .small-N) (run-small s i .small-N)
       (λ q l. same-truth (has (f i .N) q) (has (g i .N) q) (same-N r s i q) (same-N s r i q))
 
   equal-C : (i : ℕ) → f i .C ≡ g i .C
   equal-C i =
-      ext (d .states) (f i .C) (g i .C) (run-fine r i .small .small-C) (run-fine s i .small .small-C)
+      ext (d .states) (f i .C) (g i .C) (run-small r i .small-C) (run-small s i .small-C)
       (λ q l. same-truth (has (f i .C) q) (has (g i .C) q) (same-C r s i q) (same-C s r i q))
 
   equal-S : (i : ℕ) → f i .S ≡ g i .S
   equal-S i =
-      ext (d .states) (f i .S) (g i .S) (run-fine r i .small .small-S) (run-fine s i .small .small-S)
+      ext (d .states) (f i .S) (g i .S) (run-small r i .small-S) (run-small s i .small-S)
       (λ q l. same-truth (has (f i .S) q) (has (g i .S) q) (same-S r s i q) (same-S s r i q))
 
   -- and B follows from C

@@ -41,13 +41,13 @@ asks d x c =
       staying = staying d x c;
       safe = staying-safe d x c;
       free = free d x c;
-      ends = dead-end d x c;
       followed = targets d (x .B) c;
     }
 
 -- no quadruple follows: a dead end, a safe run that would meet F, or one that would be both safe and not
-unfoldable pub blocked-by : (marks : ℕ) → Asked → Bool
-blocked-by f a = a .ends || (not (eqb (bitAnd (a .safe) f) 0) || not (eqb (bitAnd (a .safe) (a .staying)) 0))
+unfoldable pub blocked-by : Moves → Quadruple → (letter : ℕ) → Asked → Bool
+blocked-by d x c a =
+    dead-end d x c || (not (eqb (bitAnd (a .safe) (d .marks)) 0) || not (eqb (bitAnd (a .safe) (a .staying)) 0))
 
 -- the successor for a choice of the free targets that become safe; where the step is blocked, what it would be without the block
 unfoldable pub nth-successor : Quadruple → Asked → (choice : ℕ) → Quadruple

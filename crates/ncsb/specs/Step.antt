@@ -2,7 +2,7 @@
 -- helpers that compute successors. Assumes nothing: these are definitions.
 use mathlib.Core.Path.{_≡_}
 use mathlib.Core.Bool.{true, false, _&&_, _||_}
-use mathlib.Core.Logic.{_↔_}
+use mathlib.Core.Logic.{_↔_, _⊎_}
 use Prim.Native.Nat.{ℕ, suc, _≤_, _<_, _^_}
 use Rattle.automata.specs.Automaton.{Automaton}
 use Rattle.sets.specs.Sets.{has}
@@ -37,8 +37,7 @@ pub record Step (a : Automaton) (d : Moves) (x : Quadruple) (c : ℕ) (y : Quadr
   pub reachable-CS :
       (q : ℕ) →
       ((has (y .C) q || has (y .S) q) ≡ true)
-      ↔ ((has (d .inner) q ≡ true)
-      × ((p : ℕ) × ((has (x .N) p || (has (x .C) p || has (x .S) p)) ≡ true) × (a .edge p c q ≡ true)))
+      ↔ (((has (d .inner) q ≡ true) × Leads a (x .N) c q) ⊎ (Leads a (x .C) c q ⊎ Leads a (x .S) c q))
   -- a run in Q2 is either safe or not
   pub disjoint : (q : ℕ) → (has (y .C) q && has (y .S) q) ≡ false
   -- a safe run visits no accepting state

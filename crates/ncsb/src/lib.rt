@@ -27,8 +27,6 @@ pub struct Asked {
     pub safe: u32,
     // the targets that may go to either
     pub free: u32,
-    // some state of C without F has no target
-    pub ends: bool,
     // d2 of B
     pub followed: u32,
 }
@@ -82,7 +80,6 @@ impl Quadruple {
             staying,
             safe,
             free: sets::without(moving, bound),
-            ends: self.dead_end(moves, marks, letter),
             followed: sets::targets(moves, letter, self.B),
         }
     }
@@ -106,17 +103,18 @@ impl Quadruple {
         false
     }
 
-    // No quadruple follows: a run is not both safe and in C or F, and none in C without F ends. What the letter asks says it all.
-    pub fn blocked(self, marks: u32, asked: Asked) -> bool
-        ensures { λ r. ⌜ r ≡ blocked-by marks asked ⌝ }
+    // No quadruple follows: a run is not both safe and in C or F, and none in C without F ends.
+    pub fn blocked(self, moves: &[[u32; 16]; 32], marks: u32, letter: usize, asked: Asked) -> bool
+        requires { ⌜ Narrow (now moves) ⌝ }
+        ensures { λ r. ⌜ r ≡ blocked-by (from-array (now (moves .entry)) 0 marks 0) self letter asked ⌝ }
     {
-        if asked.ends {
+        if asked.safe & asked.staying != 0 {
             return true;
         }
         if asked.safe & marks != 0 {
             return true;
         }
-        asked.safe & asked.staying != 0
+        self.dead_end(moves, marks, letter)
     }
 
     // The successor for a choice of the free targets that become safe.

@@ -27,7 +27,7 @@ begun t = tabulate (2 ^ size 32 (initial-free (read-off t))) (nth-initial (read-
 unfoldable pub stepped : List ℕ → Quadruple → (letter : ℕ) → List Quadruple
 stepped t x c =
     let a = asks (read-off t) x c in
-    elim (blocked-by (read-off t .marks) a) [ true ↦ [] | false ↦ tabulate (2 ^ size 32 (a .free)) (nth-successor x a) ]
+    elim (blocked-by (read-off t) x c a) [ true ↦ [] | false ↦ tabulate (2 ^ size 32 (a .free)) (nth-successor x a) ]
 
 -- a pattern's quadruple, a letter, and what follows
 pub record Followed : Type 0 where

@@ -34,7 +34,7 @@ second-demand t r before after says accepted =
     let (sp, sl) = checked-split t passed in
     record {
       starts = λ x. initials-right sp;
-      steps = λ x reached c y. successors-right sp sl (reached-fine sp sl reached) c;
+      steps = λ x reached c y. successors-right sp (reached-fine sp sl reached .small) c;
       accepting = λ x. (eqb-eq (x .B) 0, eq-eqb);
       exactly = pattern-exactly t passed;
       states = build-states says accepted;

@@ -21,7 +21,7 @@ on-letter-requires : tie.Need-on-letter-requires Inv-loop μ-loop
 on-letter-requires c κs = c .before .before .pre .0
 
 blocked-requires : tie.Need-blocked-requires Inv-loop μ-loop
-blocked-requires c κs = tt
+blocked-requires c κs = c .before .before .before .pre .0
 
 returns : tie.Need-returns Inv-loop μ-loop
 returns c =

@@ -1,43 +1,62 @@
 -- `Quadruple::blocked` meets its contract. Assumes nothing.
-use mathlib.Core.Path.{_≡_, sym}
-use mathlib.Core.Bool.{Bool, true, false, not}
+use mathlib.Core.Path.{_≡_, sym, _∙_}
+use mathlib.Core.Bool.{true, _||_, not}
 use Prim.Native.Nat.{ℕ}
 use lib.Bits.{bitAnd}
 use lib.Dec.{eqb}
-use Rattle.basics.proofs.Booleans.{eq-eqb, ne-eqb, not-true, not-false, or-l, or-r}
-use Rattle.ncsb.specs.Array.{blocked-by}
+use denote.Ref.{now}
+use Rattle.basics.proofs.Booleans.{eq-eqb, ne-eqb, not-true, not-false, or-l, or-r, or-none}
+use Rattle.ncsb.specs.Array.{from-array, blocked-by}
+use Rattle.ncsb.specs.Moves.{Moves}
+use Rattle.ncsb.specs.Successors.{dead-end}
 use Rattle.ncsb.specs.declared.Asked.{Asked}
+use Rattle.ncsb.specs.declared.Quadruple.{Quadruple}
 use Rattle.ncsb.proofs.Quadruple.blocked.Statement.{statement}
 use Rattle.ncsb.proofs.Quadruple.blocked.Tie as tie
 
-module _ (f : ℕ) (a : Asked) where
-  clashing : Bool
-  clashing = not (eqb (bitAnd (a .safe) (a .staying)) 0)
-
-  by-dead-end : a .ends ≡ true → true ≡ blocked-by f a
+module _ (d : Moves) (x : Quadruple) (c : ℕ) (a : Asked) where
+  by-clash : (bitAnd (a .safe) (a .staying) ≡ 0 → ⊥) → true ≡ blocked-by d x c a
   unfolding blocked-by
-  by-dead-end e = sym (or-l _ e)
+  by-clash n =
+      sym (or-r (dead-end d x c) (or-r (not (eqb (bitAnd (a .safe) (d .marks)) 0)) (not-false (ne-eqb (bitAnd (a .safe) (a .staying)) 0 n))))
 
-  by-mark : (bitAnd (a .safe) f ≡ 0 → ⊥) → true ≡ blocked-by f a
-  unfolding blocked-by clashing
-  by-mark n = sym (or-r (a .ends) (or-l clashing (not-false (ne-eqb _ 0 n))))
+  by-mark : (bitAnd (a .safe) (d .marks) ≡ 0 → ⊥) → true ≡ blocked-by d x c a
+  unfolding blocked-by
+  by-mark n =
+      sym (or-r (dead-end d x c) (or-l (not (eqb (bitAnd (a .safe) (a .staying)) 0)) (not-false (ne-eqb (bitAnd (a .safe) (d .marks)) 0 n))))
 
-  by-clash : a .ends ≡ false → bitAnd (a .safe) f ≡ 0 → clashing ≡ blocked-by f a
-  unfolding blocked-by clashing
-  by-clash e z = let m = not-true (eq-eqb z) in cc
+  by-dead-end :
+      bitAnd (a .safe) (a .staying) ≡ 0 → bitAnd (a .safe) (d .marks) ≡ 0 → dead-end d x c ≡ blocked-by d x c a
+  unfolding blocked-by
+  by-dead-end apart unmarked =
+      let e = not-true (eq-eqb apart) in
+      let f = not-true (eq-eqb unmarked) in
+      let last = or-none (dead-end d x c) in cc
 
 returns : tie.Need-returns
-returns c = let args = c .before .args in by-dead-end (args .marks) (args .asked) (c .if1 .taken)
+unfolding from-array
+returns c =
+    let args = c .before .before .args in
+    by-clash (from-array (now (args .moves)) 0 (args .marks) 0) (args .self) (args .letter) (args .asked) (c .if1 .taken)
 
 returns-2 : tie.Need-returns-2
+unfolding from-array
 returns-2 c =
-    let args = c .before .before .before .args in by-mark (args .marks) (args .asked) (c .if2 .taken)
+    let args = c .before .before .before .before .args in
+    by-mark (from-array (now (args .moves)) 0 (args .marks) 0) (args .self) (args .letter) (args .asked) (c .if2 .taken)
+
+dead-end-requires : tie.Need-dead-end-requires
+dead-end-requires c κs = c .before .before .before .before .pre
 
 returns-3 : tie.Need-returns-3
-unfolding clashing
+unfolding from-array
 returns-3 c =
-    let args = c .before .before .before .before .args in
-    by-clash (args .marks) (args .asked) (c .before .before .before .if1 .left) (c .before .if2 .left)
+    let unmarked = c .before in
+    let apart = unmarked .before .before in
+    let args = apart .before .before .args in
+    c .dead-end .ensures
+    ∙ by-dead-end (from-array (now (args .moves)) 0 (args .marks) 0) (args .self) (args .letter) (args .asked)
+    (apart .if1 .left) (unmarked .if2 .left)
 
 pub blocked-spec : {M : Type 1} → statement M
-blocked-spec = tie.close (tie.spec returns returns-2 returns-3)
+blocked-spec = tie.close (tie.spec returns returns-2 dead-end-requires returns-3)

@@ -70,11 +70,13 @@ index-2-if2 c = c .before .before .if1 .left
 
 returns-2 : tie.Need-returns-2 Inv-loop μ-loop
 returns-2 c =
-    let at = c .before .before .before .loop in
-    let w = c .before .before .before .before .before .without in
-    let start = c .before .before .before .before .before .before in
+    let turn = c .before .before in
+    let at = turn .before .loop in
+    let parted = turn .before .before .before in
+    let w = parted .without in
+    let start = parted .before in
     let hit =
-    member-hit 32 (at .left) (idle (now (start .args .moves)) (start .args .letter)) (at .inv .0) (c .before .before .loop-test .taken)
+    member-hit 32 (at .left) (idle (now (start .args .moves)) (start .args .letter)) (at .inv .0) (turn .loop-test .taken)
     (eq-eqb (c .if2 .taken)) in
     sym hit ∙ at .inv .1
     ∙ rw (w .ensures) (sym (dead (now (start .args .moves)) (start .args .marks) (start .args .letter) (start .args .self)))
@@ -84,15 +86,16 @@ sub-left c = let n = c .before .before .loop-test .taken in omega arith
 
 loop-less : tie.Need-loop-less Inv-loop μ-loop
 loop-less c =
-    clear-less 32 (c .before .before .before .loop .left) (c .before .before .before .loop .inv .0)
-    (c .before .before .loop-test .taken)
+    let turn = c .before .before in
+    clear-less 32 (turn .before .loop .left) (turn .before .loop .inv .0) (turn .loop-test .taken)
 
 loop-again : tie.Need-loop-again Inv-loop μ-loop
 loop-again c =
-    let at = c .before .before .before .loop in
-    let start = c .before .before .before .before .before .before in (
+    let turn = c .before .before in
+    let at = turn .before .loop in
+    let start = turn .before .before .before .before in (
       clear-lt 32 (at .left) (at .inv .0),
-      member-turn 32 (at .left) (idle (now (start .args .moves)) (start .args .letter)) (at .inv .0) (c .before .before .loop-test .taken)
+      member-turn 32 (at .left) (idle (now (start .args .moves)) (start .args .letter)) (at .inv .0) (turn .loop-test .taken)
           (ne-eqb _ 0 (c .if2 .left))
           ∙ at .inv .1,
     )
@@ -100,8 +103,9 @@ loop-again c =
 returns-3 : tie.Need-returns-3 Inv-loop μ-loop
 returns-3 c =
     let at = c .before .loop in
-    let w = c .before .before .before .without in
-    let start = c .before .before .before .before in
+    let parted = c .before .before .before in
+    let w = parted .without in
+    let start = parted .before in
     sym (member-none 32 (at .left) (idle (now (start .args .moves)) (start .args .letter)) (at .inv .0) (c .loop-test .left))
     ∙ at .inv .1
     ∙ rw (w .ensures) (sym (dead (now (start .args .moves)) (start .args .marks) (start .args .letter) (start .args .self)))

@@ -38,18 +38,20 @@ without-requires c κs = search needs
 returns : tie.Need-returns
 unfolding quadruple chosen
 returns c =
-    let args = c .before .before .before .before .before .args in
-    anew (args .self) (args .asked) (args .choice) (c .before .before .before .before .nth-subset .result)
-    (c .before .before .without .result) (c .before .before .before .before .nth-subset .ensures)
-    (c .before .before .without .ensures) (c .if1 .taken)
+    let parted = c .before .before in
+    let picked = parted .before .before in
+    let args = picked .before .args in
+    anew (args .self) (args .asked) (args .choice) (picked .nth-subset .result) (parted .without .result)
+    (picked .nth-subset .ensures) (parted .without .ensures) (c .if1 .taken)
 
 returns-2 : tie.Need-returns-2
 unfolding quadruple chosen
 returns-2 c =
-    let args = c .before .before .before .before .before .before .args in
-    followed (args .self) (args .asked) (args .choice) (c .before .before .before .before .before .nth-subset .result)
-    (c .before .before .before .without .result) (c .before .before .before .before .before .nth-subset .ensures)
-    (c .before .before .before .without .ensures) (c .before .if1 .left)
+    let parted = c .before .before .before in
+    let picked = parted .before .before in
+    let args = picked .before .args in
+    followed (args .self) (args .asked) (args .choice) (picked .nth-subset .result) (parted .without .result)
+    (picked .nth-subset .ensures) (parted .without .ensures) (c .before .if1 .left)
 
 pub successor-spec : {M : Type 1} → statement M
 successor-spec = tie.close (tie.spec nth-subset-requires without-requires returns returns-2)
