@@ -2,7 +2,8 @@
 use mathlib.Core.Path.{_≡_, refl, _∙_}
 use native.Mathlib.Omega.{arith}
 use lib.ListN.{length}
-use Rattle.text.specs.Reading.{Ready}
+use Rattle.decimal.specs.Reading.{Ready}
+use Rattle.decimal.proofs.Scanning.{ready-start}
 use Rattle.listing.proofs.read_all.Statement.{statement}
 use Rattle.listing.proofs.read_all.Tie as tie
 
@@ -12,26 +13,39 @@ Inv-loop table₀ so-far₀ turns₀ table so-far turns = (length table ≡ leng
 abbrev μ-loop : tie.MeasureT-loop
 μ-loop table₀ so-far₀ turns₀ table so-far turns = turns
 
+-- the places of one turn: the read, where its answer is tested, and the loop's test
+module _ (c : tie.After-struct-told Inv-loop μ-loop) where
+  abbrev read : tie.After-read-some Inv-loop μ-loop
+  read = c .before .before .before .before
+
+  abbrev turn : tie.In-loop Inv-loop μ-loop
+  turn = read .before .before
+
+start-requires : tie.Need-start-requires Inv-loop μ-loop
+start-requires c κs = tt
+
 loop-holds : tie.Need-loop-holds Inv-loop μ-loop
-loop-holds c = (refl, c .before .pre)
+loop-holds c = (refl, ready-start _ (c .start .ensures))
 
 read-some-requires : tie.Need-read-some-requires Inv-loop μ-loop
 read-some-requires c κs = c .before .before .loop .inv .1
 
 same-length : tie.Need-same-length Inv-loop μ-loop
-same-length c = c .before .before .before .before .before .read-some .kept .1 .0 ∙ c .before .before .before .before .before .before .before .before .loop .inv .0
+same-length c = read (c .before) .read-some .kept .1 .0 ∙ turn (c .before) .before .loop .inv .0
 
 returns : tie.Need-returns Inv-loop μ-loop
-returns c = c .before .before .before .before .before .read-some .ensures
+returns c = read (c .before) .read-some .ensures
 
 sub-turns : tie.Need-sub-turns Inv-loop μ-loop
-sub-turns c = c .before .before .before .before .before .before .before .before .loop-test .taken
+sub-turns c = turn (c .before .before) .loop-test .taken
 
 loop-less : tie.Need-loop-less Inv-loop μ-loop
-loop-less c = omega (arith, c .before .before .before .before .before .before .before .before .loop-test .taken)
+loop-less c = omega (arith, turn (c .before .before) .loop-test .taken)
 
 loop-again : tie.Need-loop-again Inv-loop μ-loop
-loop-again c = (c .before .before .before .before .before .before .read-some .kept .1 .0 ∙ c .before .before .before .before .before .before .before .before .before .loop .inv .0, c .before .before .before .before .before .before .read-some .ensures)
+loop-again c =
+    let told : tie.After-struct-told Inv-loop μ-loop = c .before .before in
+    (read told .read-some .kept .1 .0 ∙ turn told .before .loop .inv .0, read told .read-some .ensures)
 
 same-length-2 : tie.Need-same-length-2 Inv-loop μ-loop
 same-length-2 c = c .before .loop .inv .0
@@ -45,6 +59,7 @@ read-all-spec =
     (tie.spec
     Inv-loop
     μ-loop
+    start-requires
     loop-holds
     read-some-requires
     same-length

@@ -1,0 +1,4 @@
+mod Printing
+mod Sources
+pub mod Trials
+pub mod Whole

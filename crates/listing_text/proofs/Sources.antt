@@ -1,0 +1,162 @@
+-- Laws of the sources of records in a table whose chains run through consecutive records. Assumes nothing.
+use mathlib.Core.Path.{_≡_, refl, sym, _∙_, ap}
+use mathlib.Core.Bool.{Bool, true, false, cond}
+use mathlib.Core.List.{List}
+use mathlib.Core.Logic.{inl, inr}
+use Prim.Native.Nat.{ℕ, zero, suc, _+_, _*_, _-_, _≤_, _<_}
+use native.Mathlib.Numerals.{add-one}
+use native.Mathlib.Omega.{arith}
+use lib.Dec.{ltb, eqb}
+use lib.ListN.{length}
+use Rattle.basics.proofs.Booleans.{either, eq-eqb, ne-eqb, ltb-lt, ltb-ge}
+use Rattle.automata.specs.Automaton.{Automaton}
+use Rattle.automata.specs.System.{Edge, edge-at}
+use Rattle.tables.specs.Access.{State-asks}
+use Rattle.tables.specs.Table.{n-of, m-of, head-of, record-at, letter-of, target-of, next-of}
+use Rattle.layout.specs.Chained.{first-record, next-record}
+use Rattle.layout.specs.Orderly.{Orderly}
+use Rattle.layout.proofs.Firsts.{First, first-is, absent, first-at, Next, next-is, ends, goes-on, rising}
+use Rattle.layout.proofs.Indexed.{Indexed}
+use Rattle.listing_text.specs.Built.{with-chain, first-source, source-behind, source-of, States-ask}
+
+-- by the head of the first of them
+chain-here : (w : List ℕ) (k i : ℕ) → (head-of w i ≡ 0 → ⊥) → with-chain w (suc k) i ≡ i
+unfolding with-chain
+chain-here w k i h =
+    ap (λ (b : Bool). elim b [ true ↦ with-chain w k (suc i) | false ↦ i ]) (ne-eqb (head-of w i) 0 h)
+
+chain-later : (w : List ℕ) (k i : ℕ) → head-of w i ≡ 0 → with-chain w (suc k) i ≡ with-chain w k (suc i)
+unfolding with-chain
+chain-later w k i h = ap (λ (b : Bool). elim b [ true ↦ with-chain w k (suc i) | false ↦ i ]) (eq-eqb h)
+
+-- what reading a state's head asks
+pub source-reads : {w : List ℕ} {n i : ℕ} → States-ask w n → i < n → State-asks w i
+source-reads a l = let e = a .counted in record { inside = omega arith; sized = a .sized }
+
+-- THE LOOP OF `first_source`: what is looked for lies from `state` on
+module _ {w : List ℕ} {n : ℕ} (a : States-ask w n) (from : ℕ) where
+  pub source-start : with-chain w (n - from) from ≡ first-source w from
+  unfolding first-source
+  source-start = rw (a .counted)
+
+  pub source-found :
+      {i x : ℕ} → i < n → x ≡ head-of w i → (x ≡ 0 → ⊥) → with-chain w (n - i) i ≡ first-source w from → i ≡ first-source w from
+  source-found {i} l e h p =
+      let k : n - i ≡ suc (n - suc i) = omega arith in sym (chain-here w (n - suc i) i (λ q. h (e ∙ q))) ∙ (rw k at p)
+
+  pub source-turn :
+      {i x : ℕ} → i < n → x ≡ head-of w i → x ≡ 0 → with-chain w (n - i) i ≡ first-source w from →
+      with-chain w (n - (i + 1)) (i + 1) ≡ first-source w from
+  source-turn {i} l e h p =
+      let k : n - i ≡ suc (n - suc i) = omega arith in
+      rw add-one (sym (chain-later w (n - suc i) i (sym e ∙ h)) ∙ (rw k at p))
+
+  pub source-end : {i : ℕ} → n ≤ i → with-chain w (n - i) i ≡ first-source w from → i ≡ first-source w from
+  unfolding with-chain
+  source-end {i} l p = let z : n - i ≡ 0 = omega arith in rw z at p
+
+-- EACH WAY OF `source_behind`
+pub behind-same : (w : List ℕ) (i r : ℕ) {x : ℕ} → x ≡ next-of w r → (x ≡ 0 → ⊥) → i ≡ source-behind w i r
+unfolding source-behind
+behind-same w i r e h = let t = ne-eqb (next-of w r) 0 (λ q. h (e ∙ q)) in cc
+
+pub behind-next : (w : List ℕ) (i r : ℕ) {x : ℕ} → x ≡ next-of w r → x ≡ 0 → first-source w (i + 1) ≡ source-behind w i r
+unfolding source-behind
+behind-next w i r e h = let t : eqb (next-of w r) 0 ≡ true = eq-eqb (sym e ∙ h) in rw (add-one, t)
+
+-- THE SOURCES OF ORDERLY EDGES. Where no state before j has a chain and j has one, j is found.
+chain-found :
+    (w : List ℕ) (k i j : ℕ) → i ≤ j → j < i + k → ((q : ℕ) → i ≤ q → q < j → head-of w q ≡ 0) → (head-of w j ≡ 0 → ⊥) →
+    with-chain w k i ≡ j
+chain-found w zero i j l m before here = absurd (omega arith)
+chain-found w (suc k) i j l m before here =
+    elim (either (ltb i j)) [
+      | inl p ↦
+          let s = ltb-lt i j p in
+          chain-later w k i (before i (omega arith) s)
+          ∙ chain-found w k (suc i) j s (omega arith) (λ q a b. before q (omega arith) b) here
+      | inr p ↦
+          let g = ltb-ge i j p in
+          let e : i ≡ j = omega arith in
+          chain-here w k i (rw e here) ∙ e
+    ]
+
+module _ {a : Automaton} {es : List Edge} (o : Orderly a es) {w : List ℕ} (x : Indexed a es w) where
+  pub states-are : n-of w ≡ a .states
+  unfolding n-of
+  states-are = x .states
+
+  pub records-are : m-of w ≡ length es
+  unfolding m-of
+  records-are = x .records
+
+  head-is : (i : ℕ) → i < a .states → head-of w i ≡ first-record 1 i es
+  unfolding head-of
+  head-is i l = x .head i l
+
+  -- the words of a record
+  record-is : (r : ℕ) → record-at w (suc r) ≡ 3 + 2 * a .states + 3 * r
+  unfolding record-at
+  record-is r = let e = states-are in let s : suc r - 1 ≡ r = omega arith in rw (e, s)
+
+  pub letter-is : (r : ℕ) → r < length es → letter-of w (suc r) ≡ edge-at es r .letter
+  unfolding letter-of
+  letter-is r l = rw (record-is r) (x .letter r l)
+
+  pub target-is : (r : ℕ) → r < length es → target-of w (suc r) ≡ edge-at es r .target
+  unfolding target-of
+  target-is r l = let e : (3 + 2 * a .states + 3 * r) + 1 ≡ 4 + 2 * a .states + 3 * r = omega arith in rw (record-is r, e) (x .target r l)
+
+  next-is-record : (r : ℕ) → r < length es → next-of w (suc r) ≡ next-record es r
+  unfolding next-of
+  next-is-record r l =
+      let e : (3 + 2 * a .states + 3 * r) + 2 ≡ 5 + 2 * a .states + 3 * r = omega arith in rw (record-is r, e) (x .next r l)
+
+  -- a state without edges has no chain, and one with edges has
+  no-chain : (q : ℕ) → q < a .states → ((e : ℕ) → e < length es → edge-at es e .source ≡ q → ⊥) → head-of w q ≡ 0
+  no-chain q l h = go (first-is 1 q es)
+    where
+      go : First 1 q es (first-record 1 q es) → head-of w q ≡ 0
+      go (absent z before) = head-is q l ∙ z
+      go (first-at e z m s before) = absurd (h e m s)
+
+  a-chain : (r : ℕ) → r < length es → head-of w (edge-at es r .source) ≡ 0 → ⊥
+  a-chain r l h = go (first-is 1 (edge-at es r .source) es)
+    where
+      go : First 1 (edge-at es r .source) es (first-record 1 (edge-at es r .source) es) → ⊥
+      go (absent z before) = before r l refl
+      go (first-at e z m s before) = let p = head-is (edge-at es r .source) (o .source r l) in omega arith
+
+  -- the first state from i on with a chain is the source of record r + 1, if the sources before it are smaller than i
+  record-source :
+      (i r : ℕ) → r < length es → i ≤ edge-at es r .source → ((e : ℕ) → e < r → edge-at es e .source < i) →
+      first-source w i ≡ edge-at es r .source
+  unfolding first-source
+  record-source i r l m small =
+      let n = states-are in
+      let s = o .source r l in
+      chain-found w (n-of w - i) i (edge-at es r .source) m (omega arith)
+      (λ q p u.
+      no-chain q (omega arith)
+      (λ e k f.
+      elim (either (ltb e r)) [
+        | inl c ↦ let y = small e (ltb-lt e r c) in omega arith
+        | inr c ↦ let y = rising o r e (ltb-ge e r c) k in omega arith
+      ]))
+      (a-chain r l)
+
+  pub source-right : (r : ℕ) → r < length es → source-of w r ≡ edge-at es r .source
+  unfolding source-of source-behind
+  source-right zero l = record-source 0 0 l (omega arith) (λ e k. absurd (omega arith))
+  source-right (suc r) l = go (source-right r (omega arith)) (next-is es r)
+    where
+      go : source-of w r ≡ edge-at es r .source → Next es r (next-record es r) → cond (eqb (next-of w (suc r)) 0) (first-source w (suc (source-of w r))) (source-of w r) ≡ edge-at es (suc r) .source
+      go before (ends z other) =
+          let e : eqb (next-of w (suc r)) 0 ≡ true = eq-eqb (next-is-record r (omega arith) ∙ z) in
+          let up = o .rise r l in
+          let ne = other l in
+          let m : suc (edge-at es r .source) ≤ edge-at es (suc r) .source = omega arith in
+          rw (e, before) (record-source (suc (edge-at es r .source)) (suc r) l m (λ d k. let y = rising o d r (omega arith) (omega arith) in omega arith))
+      go before (goes-on z m same) =
+          let e : eqb (next-of w (suc r)) 0 ≡ false = ne-eqb (next-of w (suc r)) 0 (λ q. let p = next-is-record r (omega arith) in omega arith) in
+          rw (e, before) (sym same)

@@ -1,0 +1,4 @@
+pub mod Built
+pub mod Listing
+pub mod Output
+pub mod Trials
