@@ -1,28 +1,35 @@
 -- The starred trial pieces: one computation over all rows, and what it says of each. Assumes nothing.
-use mathlib.Core.Path.{_≡_, refl, sym}
-use mathlib.Core.Bool.{Bool, true, false, _&&_, Bool·beq}
+use mathlib.Core.Path.{_≡_, refl}
+use mathlib.Core.Bool.{Bool, true, false, _&&_, not}
 use mathlib.Core.List.{List, [], _∷_}
-use Prim.Native.Nat.{ℕ, _<_}
-use lib.Dec.{eqb}
+use Prim.Native.Nat.{ℕ, _≤_, _<_}
+use lib.Dec.{leb, eqb}
 use lib.ListN.{length}
 use Rattle.basics.specs.Bounded.{each, any, count}
 use Rattle.basics.specs.Buffers.{or-else}
 use Rattle.basics.specs.Rows.{rows}
-use Rattle.basics.proofs.Booleans.{and-l, and-r, eq-eqb, eqb-eq}
+use Rattle.basics.proofs.Booleans.{and-l, and-r, eqb-eq, leb-le, true-not}
 use Rattle.basics.proofs.Bounded.{each-all}
 use Rattle.sets.specs.Sets.{has, size, without, set-of, union, subsets}
+use Rattle.automata.specs.Automaton.{Closed}
 use Rattle.automata.specs.Decision.{takes?, nodes, product, starts, leads, grown as grown-nodes, grow, row, marked, tabulate, on-cycle}
 use Rattle.automata.specs.Lasso.{positions, position-letter, next-position}
 use Rattle.automata.specs.System.{an-edge, built, number-of, with-state, with-states, add-edge, add-all, by-letters, expand, state-at, explore-from, begin, explore, edge-at, listed, numbered}
+use Rattle.automata.proofs.Decision.{takes-right, takes-not}
 use Rattle.tables.specs.Rows.{pattern-A, pattern-B, no-initial, forked, doubled}
-use Rattle.tables.specs.Table.{pattern-range, n-of, k-of, m-of, flags-of, head-of, record-at, letter-of, target-of, next-of, is-initial, is-accepting, chain-has, edge, meaning, flags-good, records-good, named, heads-good, nexts-good, chains-good, table-refusal}
+use Rattle.tables.specs.Table.{pattern-range, wide-range, n-of, k-of, m-of, flags-of, head-of, record-at, letter-of, target-of, next-of, is-initial, is-accepting, chain-has, edge, meaning, flags-good, records-good, named, heads-good, nexts-good, chains-good, table-refusal}
+use Rattle.tables.proofs.Laws.{valid, meaning-closed}
 use Rattle.ncsb.specs.Successors.{quadruple, four-sets, same, accepting, targets, initial-free, initial-for, initials, next-N, entering, staying-safe, staying, leaving, tracked, dead-end, blocked, free, next-B, successor-for, successors, ncsb}
 use Rattle.patterns.specs.Check.{check-refusal}
 use Rattle.patterns.specs.Pattern.{targets-of, initial-states, accepting-states, grown, reached-in, inner-of, marks-of, forks, semi-deterministic, moves}
 use Rattle.layout.specs.Chained.{first-record, next-record, flags-word, state-row, record-row, chained-words}
 use Rattle.record_words.specs.Record.{words-of}
+use Rattle.complement.specs.Build.{room-refusal, words-needed, build-refusal}
 use Rattle.complement.specs.Complement.{system-of, complement, complement-automaton, complement-words, sets-words}
-use Rattle.starred.specs.Pieces.{Tried, Piece, pattern-only, complement-only, piece-A, piece-B, piece-no-initial, piece-forked, piece-doubled, pieces, piece, lasso, Tried-right, Complement-right, Piece-right}
+use Rattle.text.specs.Lines.{digits, decimal, line, ascii, refused-line, counts-line}
+use Rattle.text.specs.Listing.{listing-room, state-line, edge-line, accepted-text, answered, listing}
+use Rattle.text.specs.Reading.{is-blank, is-digit, between, under-way, fault, ended, longer, with-byte, scan, numbers-of, read-numbers}
+use Rattle.starred.specs.Pieces.{Piece, lists, gives, refused, pattern-only, complement-only, pieces, piece, Gives, Only-first, Right}
 
 -- two lists hold the same numbers
 same-words : List ℕ → List ℕ → Bool
@@ -39,83 +46,87 @@ words-same (x ∷ xs) [] h = cc
 words-same (x ∷ xs) (y ∷ ys) h =
     let e = eqb-eq x y (and-l (same-words xs ys) h) in let es = words-same xs ys (and-r (eqb x y) h) in cc
 
-beq-eq : (a b : Bool) → Bool·beq a b ≡ true → a ≡ b
-beq-eq true true h = refl
-beq-eq true false h = sym h
-beq-eq false true h = h
-beq-eq false false h = refl
+-- THE TEST of a complement, of a lasso on two tables, of a piece
+complement-test : (t : List ℕ) → (states edges : ℕ) → (sets table : List ℕ) → Bool
+complement-test t n m s c =
+    eqb (check-refusal t) 0
+    && (eqb (length (complement t .states)) n
+    && (eqb (length (complement t .edges)) m && (same-words (sets-words t) s && same-words (complement-words t) c)))
 
--- THE TEST of a lasso, of a complement, of a piece
-tried-holds : Piece → Tried → Bool
-tried-holds p l =
-    Bool·beq (takes? (meaning (p .pattern)) (l .prefix) (l .loop)) (l .pattern)
-    && Bool·beq (takes? (meaning (p .words)) (l .prefix) (l .loop)) (l .complement)
+-- valid tables and a loop that is not empty; the first takes the lasso, and the second does not
+lasso-test : (a b u v : List ℕ) → Bool
+lasso-test a b u v =
+    eqb (table-refusal wide-range a) 0
+    && (eqb (table-refusal wide-range b) 0
+    && (leb 1 (length v) && (takes? (meaning a) u v && not (takes? (meaning b) u v))))
 
-complement-holds : Piece → Bool
-complement-holds p =
-    (eqb (length (complement (p .pattern) .states)) (p .states) && eqb (length (complement (p .pattern) .edges)) (p .edges))
-    && (same-words (sets-words (p .pattern)) (p .sets) && same-words (complement-words (p .pattern)) (p .words))
-
--- a refused pattern has no complement to look at
-complement-tested : (passes : Bool) → Piece → Bool
-complement-tested true p = complement-holds p
-complement-tested false p = true
-
-piece-holds : Piece → Bool
-piece-holds p =
-    eqb (check-refusal (p .pattern)) (p .refusal)
-    && (complement-tested (eqb (p .refusal) 0) p && each (length (p .lassos)) (λ j. tried-holds p (lasso p j)))
+piece-test : Piece → Bool
+piece-test (lists t text c) = same-words (listing (line t)) (ascii text) && same-words (complement-words t) c
+piece-test (gives t n m s c) = complement-test t n m s c
+piece-test (refused t r) = eqb (check-refusal t) r
+piece-test (pattern-only t u v) = lasso-test t (complement-words t) u v
+piece-test (complement-only t u v) = lasso-test (complement-words t) t u v
 
 -- the one computation
-pieces-hold : each (length pieces) (λ i. piece-holds (piece i)) ≡ true
-unfolding same-words tried-holds complement-holds complement-tested piece-holds each any count or-else rows has size without set-of union subsets takes? nodes product starts leads grown-nodes grow row marked tabulate on-cycle positions position-letter next-position an-edge built number-of with-state with-states add-edge add-all by-letters expand state-at explore-from begin explore edge-at listed numbered pattern-A pattern-B no-initial forked doubled pattern-range n-of k-of m-of flags-of head-of record-at letter-of target-of next-of is-initial is-accepting chain-has edge meaning flags-good records-good named heads-good nexts-good chains-good table-refusal quadruple four-sets same accepting targets initial-free initial-for initials next-N entering staying-safe staying leaving tracked dead-end blocked free next-B successor-for successors ncsb check-refusal targets-of initial-states accepting-states grown reached-in inner-of marks-of forks semi-deterministic moves first-record next-record flags-word state-row record-row chained-words system-of complement complement-automaton complement-words words-of sets-words pattern-only complement-only piece-A piece-B piece-no-initial piece-forked piece-doubled pieces piece lasso
-pieces-hold = refl
+pieces-pass : each (length pieces) (λ i. piece-test (piece i)) ≡ true
+unfolding same-words complement-test lasso-test piece-test each any count or-else rows has size without set-of union subsets takes? nodes product starts leads grown-nodes grow row marked tabulate on-cycle positions position-letter next-position an-edge built number-of with-state with-states add-edge add-all by-letters expand state-at explore-from begin explore edge-at listed numbered pattern-A pattern-B no-initial forked doubled pattern-range wide-range n-of k-of m-of flags-of head-of record-at letter-of target-of next-of is-initial is-accepting chain-has edge meaning flags-good records-good named heads-good nexts-good chains-good table-refusal quadruple four-sets same accepting targets initial-free initial-for initials next-N entering staying-safe staying leaving tracked dead-end blocked free next-B successor-for successors ncsb check-refusal targets-of initial-states accepting-states grown reached-in inner-of marks-of forks semi-deterministic moves first-record next-record flags-word state-row record-row chained-words room-refusal words-needed build-refusal system-of complement complement-automaton complement-words words-of sets-words digits decimal line ascii refused-line counts-line listing-room state-line edge-line accepted-text answered listing is-blank is-digit between under-way fault ended longer with-byte scan numbers-of read-numbers pieces piece
+pieces-pass = refl
 
-tried-right : (p : Piece) (l : Tried) → tried-holds p l ≡ true → Tried-right p l
-unfolding tried-holds
-tried-right p l h =
-    let a = takes? (meaning (p .pattern)) (l .prefix) (l .loop) in
-    let b = takes? (meaning (p .words)) (l .prefix) (l .loop) in
+complement-right : (t : List ℕ) (n m : ℕ) (s c : List ℕ) → complement-test t n m s c ≡ true → Gives t n m s c
+unfolding complement-test
+complement-right t n m s c h =
+    let a = eqb (check-refusal t) 0 in
+    let b = eqb (length (complement t .states)) n in
+    let d = eqb (length (complement t .edges)) m in
+    let e = same-words (sets-words t) s in
+    let f = same-words (complement-words t) c in
+    let h-b = and-r a {c = b && (d && (e && f))} h in
+    let h-d = and-r b {c = d && (e && f)} h-b in
+    let h-e = and-r d {c = e && f} h-d in
     record {
-      pattern = beq-eq a (l .pattern) (and-l (Bool·beq b (l .complement)) h);
-      complement = beq-eq b (l .complement) (and-r (Bool·beq a (l .pattern)) h);
+      passes = eqb-eq (check-refusal t) 0 (and-l {b = a} (b && (d && (e && f))) h);
+      states-counted = eqb-eq (length (complement t .states)) n (and-l {b = b} (d && (e && f)) h-b);
+      edges-counted = eqb-eq (length (complement t .edges)) m (and-l {b = d} (e && f) h-d);
+      sets-are = words-same (sets-words t) s (and-l {b = e} f h-e);
+      table-is = words-same (complement-words t) c (and-r e {c = f} h-e);
     }
 
-complement-right : (p : Piece) → complement-holds p ≡ true → Complement-right p
-unfolding complement-holds
-complement-right p h =
-    let n = eqb (length (complement (p .pattern) .states)) (p .states) in
-    let m = eqb (length (complement (p .pattern) .edges)) (p .edges) in
-    let s = same-words (sets-words (p .pattern)) (p .sets) in
-    let w = same-words (complement-words (p .pattern)) (p .words) in
-    let counts = and-l {b = n && m} (s && w) h in
-    let lists = and-r (n && m) {c = s && w} h in
+closed : (t : List ℕ) → eqb (table-refusal wide-range t) 0 ≡ true → Closed (meaning t)
+closed t h = meaning-closed (valid wide-range t (eqb-eq (table-refusal wide-range t) 0 h))
+
+-- the computed answer is that of an accepting run
+lasso-right : (a b u v : List ℕ) → lasso-test a b u v ≡ true → Only-first a b u v
+unfolding lasso-test
+lasso-right a b u v h =
+    let p = eqb (table-refusal wide-range a) 0 in
+    let q = eqb (table-refusal wide-range b) 0 in
+    let l = leb 1 (length v) in
+    let x = takes? (meaning a) u v in
+    let y = not (takes? (meaning b) u v) in
+    let h-q = and-r p {c = q && (l && (x && y))} h in
+    let h-l = and-r q {c = l && (x && y)} h-q in
+    let h-x = and-r l {c = x && y} h-l in
+    let endless = leb-le 1 (length v) (and-l {b = l} (x && y) h-l) in
     record {
-      states = eqb-eq (length (complement (p .pattern) .states)) (p .states) (and-l {b = n} m counts);
-      edges = eqb-eq (length (complement (p .pattern) .edges)) (p .edges) (and-r n {c = m} counts);
-      sets = words-same (sets-words (p .pattern)) (p .sets) (and-l {b = s} w lists);
-      words = words-same (complement-words (p .pattern)) (p .words) (and-r s {c = w} lists);
+      taken = takes-right (meaning a) u v (closed a (and-l {b = p} (q && (l && (x && y))) h)) endless .0 (and-l {b = x} y h-x);
+      not-taken =
+          takes-not (meaning b) u v (closed b (and-l {b = q} (l && (x && y)) h-q)) endless
+          (true-not (takes? (meaning b) u v) (and-r x {c = y} h-x));
     }
 
-tested-right : (passes : Bool) (p : Piece) → complement-tested passes p ≡ true → passes ≡ true → Complement-right p
-unfolding complement-tested
-tested-right true p h e = complement-right p h
-tested-right false p h e = complement-right p (cc)
-
-piece-right : (p : Piece) → piece-holds p ≡ true → Piece-right p
-unfolding piece-holds
-piece-right p h =
-    let r = eqb (check-refusal (p .pattern)) (p .refusal) in
-    let c = complement-tested (eqb (p .refusal) 0) p in
-    let t = each (length (p .lassos)) (λ j. tried-holds p (lasso p j)) in
-    let rest = and-r r {c = c && t} h in
-    record {
-      refusal = eqb-eq (check-refusal (p .pattern)) (p .refusal) (and-l {b = r} (c && t) h);
-      complement = λ z. tested-right (eqb (p .refusal) 0) p (and-l {b = c} t rest) (eq-eqb z);
-      lassos =
-          λ j l. tried-right p (lasso p j) (each-all (length (p .lassos)) (λ j. tried-holds p (lasso p j)) (and-r c {c = t} rest) j l);
-    }
+piece-right : (p : Piece) → piece-test p ≡ true → Right p
+unfolding piece-test Right
+piece-right (lists t text c) h =
+    let listed = same-words (listing (line t)) (ascii text) in
+    let table = same-words (complement-words t) c in (
+      words-same (listing (line t)) (ascii text) (and-l {b = listed} table h),
+      words-same (complement-words t) c (and-r listed {c = table} h),
+    )
+piece-right (gives t n m s c) h = complement-right t n m s c h
+piece-right (refused t r) h = eqb-eq (check-refusal t) r h
+piece-right (pattern-only t u v) h = lasso-right t (complement-words t) u v h
+piece-right (complement-only t u v) h = lasso-right (complement-words t) t u v h
 
 -- every starred piece is as document 01 has it
-pub pieces-right : (i : ℕ) → i < length pieces → Piece-right (piece i)
-pieces-right i l = piece-right (piece i) (each-all (length pieces) (λ i. piece-holds (piece i)) pieces-hold i l)
+pub pieces-right : (i : ℕ) → i < length pieces → Right (piece i)
+pieces-right i l = piece-right (piece i) (each-all (length pieces) (λ i. piece-test (piece i)) pieces-pass i l)
