@@ -1,14 +1,16 @@
--- The second and the third demand are met, whatever the calls answer. Assumes nothing.
+-- The second and the third demand are met, and refused builds are as they are stated, whatever the calls answer. Assumes nothing.
 use mathlib.Core.Path.{_≡_}
 use mathlib.Core.List.{List}
 use mathlib.Core.Logic.{_⊎_, inl, inr}
 use Prim.Native.Nat.{ℕ}
+use native.Mathlib.Omega.{arith}
 use lib.ListN.{length}
 use Rattle.basics.proofs.Booleans.{eqb-eq, eq-eqb}
 use Rattle.automata.specs.Automaton.{Run, Takes, Single-run}
 use Rattle.automata.specs.Lasso.{letter-at, Lasso}
 use Rattle.automata.specs.System.{numbered}
-use Rattle.tables.specs.Table.{k-of, meaning}
+use Rattle.tables.specs.Table.{k-of, meaning, wide-range}
+use Rattle.tables.proofs.Laws.{valid, words-fit}
 use Rattle.ncsb.specs.Successors.{ncsb, accepting}
 use Rattle.ncsb.proofs.Initials.{initials-right}
 use Rattle.ncsb.proofs.Reached.{reached-fine}
@@ -16,33 +18,59 @@ use Rattle.ncsb.proofs.Successors.{successors-right}
 use Rattle.patterns.specs.Check.{check-refusal}
 use Rattle.patterns.specs.Pattern.{moves}
 use Rattle.patterns.proofs.Passed.{checked-split, checked-wide}
+use Rattle.complement.specs.Build.{room-of}
 use Rattle.complement.specs.Complement.{system-of, complement, complement-automaton, complement-words}
 use Rattle.complement.proofs.Second.{Fits, pattern-exactly, few-states, words-mean, words-valid, build-passed, build-fits, build-states, build-edges, build-used, build-sets}
 use Rattle.complement.proofs.Third.{Parted, parted-words}
 use Rattle.lassos.specs.Decision.{Lasso-says}
 use Rattle.lassos.specs.declared.Decision.{Decision}
 use Rattle.lassos.specs.declared.Decision.the-variants.{Taken, NotTaken, Refused}
-use Rattle.tubochre.specs.Demand.{Second-demand, Not-refused, Compared, Third-demand}
+use Rattle.tubochre.specs.Demand.{Reached-exactly, Second-demand, Refused-builds, Not-refused, Compared, Third-demand}
 use Rattle.tubochre.proofs.Answers.{says-taken, says-not, says-refused}
+use Rattle.tubochre.proofs.Refusals.{Met, build-number, which-refusal, refused-checked, checked-refused, refused-states, states-refused, refused-words, words-refused, refused-none, none-refused, refused-most}
 
--- THE SECOND DEMAND: an accepted build leaves exactly the reachable NCSB complement, every state, edge and mark and no other
-pub second-demand : Second-demand
-unfolding Second-demand system-of ncsb accepting
-second-demand t r before after says accepted =
-    let passed = build-passed says accepted in
-    let used = build-used says accepted in
+-- THE COMPLEMENT of a pattern that passes is exactly what is reached
+reached-exactly : (t : List ℕ) → check-refusal t ≡ 0 → Reached-exactly t
+unfolding system-of ncsb accepting
+reached-exactly t passed =
     let (sp, sl) = checked-split t passed in
     record {
       starts = λ x. initials-right sp;
       steps = λ x reached c y. successors-right sp (reached-fine sp sl reached .small) c;
       accepting = λ x. (eqb-eq (x .B) 0, eq-eqb);
       exactly = pattern-exactly t passed;
+    }
+
+-- THE SECOND DEMAND: an accepted build leaves exactly the reachable NCSB complement, every state, edge and mark and no other
+pub second-demand : Second-demand
+unfolding Second-demand wide-range
+second-demand t r before after says accepted =
+    let passed = build-passed says accepted in
+    let used = build-used says accepted in
+    let table = words-valid t passed (build-fits says accepted) in
+    record {
+      reached = reached-exactly t passed;
       states = build-states says accepted;
       edges = build-edges says accepted;
       table = used;
-      valid = rw used (words-valid t passed (build-fits says accepted));
+      valid = rw used table;
       means = rw used (words-mean t passed);
+      fit = rw used (λ i l. words-fit (valid wide-range (complement-words t) table) (omega arith) (omega arith) i);
       records = build-sets says accepted;
+    }
+
+-- REFUSED BUILDS: 2 to 10 as the check, 11 and 12 by the whole complement and the room, each in its case and in no other
+pub refused-builds : Refused-builds
+unfolding Refused-builds
+refused-builds t r before after says =
+    let met : Met t (room-of before) (r .number) = rw (build-number says) (which-refusal t (room-of before)) in
+    record {
+      check = λ k from to. (refused-checked met k from to, checked-refused met k from);
+      states = (refused-states met, states-refused met);
+      words = (refused-words met, words-refused met);
+      none = (refused-none met, none-refused met);
+      no-other = refused-most met;
+      reached = reached-exactly t;
     }
 
 -- the pattern and the words of its complement

@@ -4,8 +4,8 @@ use mathlib.Core.Path.{_≡_}
 use mathlib.Core.Bool.{true}
 use mathlib.Core.List.{List}
 use mathlib.Core.Logic.{_⊎_, _↔_}
-use Prim.Native.Nat.{ℕ, _≤_}
-use lib.ListN.{length}
+use Prim.Native.Nat.{ℕ, _^_, _≤_, _<_}
+use lib.ListN.{length, getD}
 use Rattle.automata.specs.Automaton.{Run, Takes, Single-run, Same}
 use Rattle.automata.specs.Lasso.{letter-at, Lasso}
 use Rattle.automata.specs.System.{Member, Reached, Exactly}
@@ -17,7 +17,7 @@ use Rattle.patterns.specs.Check.{check-refusal, as-checked}
 use Rattle.patterns.specs.Pattern.{moves}
 use Rattle.patterns.specs.declared.Checked.{Checked}
 use Rattle.patterns.specs.declared.Checked.the-variants.{Passed}
-use Rattle.complement.specs.Build.{Lent, Build-says, used, used-sets}
+use Rattle.complement.specs.Build.{Lent, Room, room-of, words-needed, Build-says, used, used-sets}
 use Rattle.complement.specs.Complement.{system-of, complement, complement-automaton, complement-words, sets-words}
 use Rattle.complement.specs.declared.Counts.{Counts}
 use Rattle.lassos.specs.Decision.{Lasso-says}
@@ -25,8 +25,8 @@ use Rattle.lassos.specs.Refusals.{lasso-refusal}
 use Rattle.lassos.specs.declared.Decision.{Decision}
 use Rattle.lassos.specs.declared.Decision.the-variants.{Taken, NotTaken, Refused}
 
--- THE SECOND DEMAND, of an accepted build and the buffers that it left
-pub record Built-exactly (t : List ℕ) (r : Counts) (left : Lent) : Type 0 where
+-- THE COMPLEMENT of a pattern that passes the check: exactly what is reached of the paper's quadruples
+pub record Reached-exactly (t : List ℕ) : Type 0 where
   -- the system explored is the paper's: its initial quadruples, what follows a reached one on a letter, and which accept
   pub starts : (x : Quadruple) → Member x (system-of t .starts) ↔ Start (meaning t) (moves (meaning t)) x
   pub steps :
@@ -35,6 +35,11 @@ pub record Built-exactly (t : List ℕ) (r : Counts) (left : Lent) : Type 0 wher
   pub accepting : (x : Quadruple) → (system-of t .accepting x ≡ true) ↔ (x .B ≡ 0)
   -- every reachable state and every edge and no other, once, numbered in order of discovery
   pub exactly : Exactly (system-of t) (complement t)
+
+-- THE SECOND DEMAND, of an accepted build and the buffers that it left
+pub record Built-exactly (t : List ℕ) (r : Counts) (left : Lent) : Type 0 where
+  -- what is built is the complement
+  pub reached : Reached-exactly t
   -- the counts answered are its sizes
   pub states : r .states ≡ length (complement t .states)
   pub edges : r .edges ≡ length (complement t .edges)
@@ -42,12 +47,42 @@ pub record Built-exactly (t : List ℕ) (r : Counts) (left : Lent) : Type 0 wher
   pub table : used r (left .words) ≡ complement-words t
   pub valid : table-refusal wide-range (used r (left .words)) ≡ 0
   pub means : Same (meaning (used r (left .words))) (complement-automaton t)
+  -- each of them is a number of 16 bits
+  pub fit : (i : ℕ) → i < length (used r (left .words)) → getD (used r (left .words)) i 0 < 2 ^ 16
   -- the used records are its states
   pub records : used-sets r (left .sets) ≡ sets-words t
 
 unfoldable pub Second-demand : Type 0
 Second-demand =
     (t : List ℕ) (r : Counts) (before after : Lent) → Build-says t r before after → r .number ≡ 0 → Built-exactly t r after
+
+-- REFUSED BUILDS, by the whole complement of a pattern and the room that is lent. 11: more states than the lent records, or than a wide
+-- table can have
+unfoldable pub Too-many-states : List ℕ → Room → Type 0
+Too-many-states t room =
+    (room .records < length (complement t .states)) ⊎ (wide-range .states < length (complement t .states))
+
+-- 12: more edges than a wide table can have, or more words needed than are lent
+unfoldable pub Too-many-words : List ℕ → Room → Type 0
+Too-many-words t room =
+    (wide-range .records < length (complement t .edges))
+    ⊎ (room .words < words-needed (length (complement t .states)) (length (complement t .edges)))
+
+-- a build's number: each refusal comes in its case and in no other
+pub record Refused-exactly (t : List ℕ) (room : Room) (number : ℕ) : Type 0 where
+  -- 2 to 10 are those of the check
+  pub check : (k : ℕ) → 1 ≤ k → k ≤ 10 → (number ≡ k) ↔ (check-refusal t ≡ k)
+  pub states : (number ≡ 11) ↔ ((check-refusal t ≡ 0) × Too-many-states t room)
+  pub words : (number ≡ 12) ↔ ((check-refusal t ≡ 0) × (Too-many-states t room → ⊥) × Too-many-words t room)
+  pub none : (number ≡ 0) ↔ ((check-refusal t ≡ 0) × (Too-many-states t room → ⊥) × (Too-many-words t room → ⊥))
+  pub no-other : number ≤ 12
+  -- what is counted is the whole reachable complement
+  pub reached : check-refusal t ≡ 0 → Reached-exactly t
+
+unfoldable pub Refused-builds : Type 0
+Refused-builds =
+    (t : List ℕ) (r : Counts) (before after : Lent) → Build-says t r before after →
+    Refused-exactly t (room-of before) (r .number)
 
 -- THE SECOND DEMAND, of a lasso decision d on a table t, a prefix u and a loop v, with so many work words: a lasso is taken exactly if
 -- an infinite run over it passes accepting states without end

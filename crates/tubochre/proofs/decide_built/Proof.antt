@@ -6,6 +6,15 @@ use borrow.Author.Needs.{needs}
 use Rattle.tubochre.proofs.decide_built.Statement.{statement}
 use Rattle.tubochre.proofs.decide_built.Tie as tie
 
+-- THE PLACES: where the call begins, and where its build was accepted
+module _ (c : tie.Else1) where
+  abbrev start : tie.Start
+  start = c .before .before .before .before .before
+
+module _ (c : tie.After-decide-lasso) where
+  abbrev accepted : tie.Else1
+  accepted = c .before .before .before .before .before
+
 returns : tie.Need-returns
 returns c =
     let number = c .if1 .taken in
@@ -37,8 +46,9 @@ add-end-2 c = search needs
 slice-aggregate-decide-lasso : tie.Need-slice-aggregate-decide-lasso
 unfolding words-needed
 slice-aggregate-decide-lasso c =
-    let start = c .before .before .before .before .before .before .before .before in
-    sym (length-take-le _ (start .args .words .now) (start .pre .inside (c .before .before .before .if1 .left)))
+    let passed = c .before .before .before in
+    let asked = start passed in
+    sym (length-take-le _ (asked .args .words .now) (asked .pre .inside (passed .if1 .left)))
 
 decide-lasso-requires : tie.Need-decide-lasso-requires
 decide-lasso-requires c κs = search needs
@@ -49,8 +59,9 @@ same-length c = search needs
 returns-2 : tie.Need-returns-2
 unfolding used words-needed
 returns-2 c =
-    let says = c .before .before .decide-lasso .ensures in
-    let number = c .before .before .before .before .before .before .before .if1 .left in
+    let decided = c .before .before in
+    let says = decided .decide-lasso .ensures in
+    let number = accepted decided .if1 .left in
     record {
       built = λ z. says .answer;
       unbuilt = λ n. absurd (n number);

@@ -5,6 +5,22 @@ use Rattle.tubochre.proofs.Trying.{trial-says}
 use Rattle.tubochre.proofs.try_lasso.Statement.{statement}
 use Rattle.tubochre.proofs.try_lasso.Tie as tie
 
+-- THE PLACES behind the calls before each call
+module _ (c : tie.After-build-complement) where
+  abbrev checked : tie.After-check-pattern
+  checked = c .before .before .before
+
+module _ (c : tie.After-decide-lasso) where
+  abbrev handed-back : tie.After-sets
+  handed-back = c .before .before .before
+
+  abbrev built : tie.After-build-complement
+  built = handed-back .before .before .before
+
+module _ (c : tie.After-decide-built) where
+  abbrev decided : tie.After-decide-lasso
+  decided = c .before .before .before .before .before
+
 check-pattern-requires : tie.Need-check-pattern-requires
 check-pattern-requires c κs = search needs
 
@@ -15,7 +31,8 @@ decide-lasso-requires : tie.Need-decide-lasso-requires
 decide-lasso-requires c κs = search needs
 
 decide-built-requires : tie.Need-decide-built-requires
-decide-built-requires c κs = used-inside (c .before .before .before .before .before .before .before .before .before .before .build-complement .ensures)
+decide-built-requires c κs =
+    let asked = c .before .before .before .before in used-inside (built asked .build-complement .ensures)
 
 same-length : tie.Need-same-length
 same-length c = search needs
@@ -28,9 +45,11 @@ same-length-3 c = search needs
 
 returns : tie.Need-returns
 returns c =
-    trial-says (c .before .before .before .before .before .before .before .before .before .before .before .before .before .before .before .before .check-pattern .ensures)
-    (c .before .before .before .before .before .before .before .before .before .before .before .before .before .build-complement .ensures)
-    (c .before .before .before .before .before .before .before .decide-lasso .ensures) (c .before .before .decide-built .ensures)
+    let last = c .before .before in
+    let asked = decided last in
+    let began = built asked in
+    trial-says (checked began .check-pattern .ensures) (began .build-complement .ensures) (asked .decide-lasso .ensures)
+    (last .decide-built .ensures)
 
 pub try-lasso-spec : {M : Type 1} → statement M
 try-lasso-spec =
