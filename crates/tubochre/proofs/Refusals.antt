@@ -75,6 +75,15 @@ module _ (t : List ℕ) (room : Room) where
   abbrev m : ℕ
   m = length (complement t .edges)
 
+  -- what fits is not too much
+  states-few : (ltb (room .records) n || ltb (wide-range .states) n) ≡ false → Too-many-states t room → ⊥
+  unfolding Too-many-states
+  states-few = none-above (room .records) n (wide-range .states) n
+
+  words-few : (ltb (wide-range .records) m || ltb (room .words) (words-needed n m)) ≡ false → Too-many-words t room → ⊥
+  unfolding Too-many-words
+  words-few = none-above (wide-range .records) m (room .words) (words-needed n m)
+
   check-met : (check-refusal t ≡ 0 → ⊥) → Met t room (build-refusal t room)
   unfolding build-refusal or-else
   check-met ne =
@@ -92,12 +101,11 @@ module _ (t : List ℕ) (room : Room) where
       elim (either (ltb (room .records) n || ltb (wide-range .states) n)) [
         | inl many ↦ by-states passed (one-above (room .records) n (wide-range .states) n many) (rw many refl)
         | inr few ↦
-            let fit = none-above (room .records) n (wide-range .states) n few in
             elim (either (ltb (wide-range .records) m || ltb (room .words) (words-needed n m))) [
               | inl many ↦
-                  by-words passed fit (one-above (wide-range .records) m (room .words) (words-needed n m) many) (rw (few, many) refl)
+                  by-words passed (states-few few) (one-above (wide-range .records) m (room .words) (words-needed n m) many) (rw (few, many) refl)
               | inr fewer ↦
-                  by-none passed fit (none-above (wide-range .records) m (room .words) (words-needed n m) fewer) (rw (few, fewer) refl)
+                  by-none passed (states-few few) (words-few fewer) (rw (few, fewer) refl)
             ]
       ]
 

@@ -72,8 +72,10 @@ Too-many-words t room =
 pub record Refused-exactly (t : List ℕ) (room : Room) (number : ℕ) : Type 0 where
   -- 2 to 10 are those of the check
   pub check : (k : ℕ) → 1 ≤ k → k ≤ 10 → (number ≡ k) ↔ (check-refusal t ≡ k)
+  -- 11: the pattern passes, and its complement has too many states; 12: the states fit, and edges or words are too many
   pub states : (number ≡ 11) ↔ ((check-refusal t ≡ 0) × Too-many-states t room)
   pub words : (number ≡ 12) ↔ ((check-refusal t ≡ 0) × (Too-many-states t room → ⊥) × Too-many-words t room)
+  -- nothing is refused where all fits, and no other number is answered
   pub none : (number ≡ 0) ↔ ((check-refusal t ≡ 0) × (Too-many-states t room → ⊥) × (Too-many-words t room → ⊥))
   pub no-other : number ≤ 12
   -- what is counted is the whole reachable complement
