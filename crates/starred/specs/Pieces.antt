@@ -10,8 +10,8 @@ use Rattle.tables.specs.Rows.{pattern-A, pattern-B, no-initial, forked, doubled
 use Rattle.tables.specs.Table.{meaning}
 use Rattle.patterns.specs.Check.{check-refusal}
 use Rattle.complement.specs.Complement.{complement, complement-words, sets-words}
-use Rattle.text.specs.Lines.{line, ascii}
-use Rattle.text.specs.Listing.{listing}
+use Rattle.decimal.specs.Lines.{line, ascii}
+use Rattle.listing_text.specs.Listing.{listing}
 
 -- A PIECE
 pub data Piece : Type 0 where
