@@ -16,14 +16,15 @@ LISTING = target/bin/listing
 OUT = target/host
 CFLAGS = -O2 -g
 WARNINGS = -Wall -Wextra -Wpedantic -Werror
-BUILD = $(CC) -std=c11 $(WARNINGS) $(CFLAGS) -Iinclude -Iprograms -Ibench -Itests/calls -Itests/support -Itests/reference
+FOLDERS = include programs bench tests/calls tests/support tests/reference
+BUILD = $(CC) -std=c11 $(WARNINGS) $(CFLAGS) $(addprefix -I,$(FOLDERS))
 
 HEADERS = $(wildcard include/*.h programs/*.h bench/*.h tests/*/*.h)
 PARTS = $(addprefix programs/,common.c words.c places.c lassos.c complement.c print.c progress.c)
-SUPPORT = $(addprefix tests/support/,arguments.c draw.c fence.c rings.c room.c stack.c)
+SUPPORT = $(addprefix tests/support/,arguments.c draw.c expect.c fence.c rings.c room.c stack.c)
 REFERENCE = $(addprefix tests/reference/,reference.c reference_lasso.c reference_listing.c)
 CALLS = $(addprefix $(OUT)/,test_calls test_rooms test_limits test_null)
-TESTS = $(CALLS) $(addprefix $(OUT)/,test_header test_header_cxx test_records compare compare_listing)
+TESTS = $(CALLS) $(addprefix $(OUT)/,test_header test_header_cxx test_records test_places compare compare_listing)
 
 .PHONY: run test test-c tests lib host bench install clean
 
@@ -62,6 +63,7 @@ $(OUT)/tubochre-bench: programs/tubochre_bench.c $(PARTS) $(ARCHIVE)
 $(OUT)/test_header: tests/calls/test_header.c
 $(CALLS): $(OUT)/%: tests/calls/%.c tests/calls/test.c $(SUPPORT) $(ARCHIVE) $(RECORDS)
 $(OUT)/test_records: tests/calls/test_records.c tests/calls/test.c $(SUPPORT) $(ARCHIVE) $(RECORDS)
+$(OUT)/test_places: tests/programs/test_places.c programs/places.c $(SUPPORT) $(ARCHIVE)
 $(OUT)/compare $(OUT)/compare_listing: $(OUT)/%: tests/reference/%.c $(REFERENCE) $(SUPPORT) $(ARCHIVE)
 $(OUT)/measure: bench/measure.c bench/fast.c $(SUPPORT) $(ARCHIVE)
 
@@ -74,12 +76,13 @@ $(OUT)/test_header_cxx: tests/calls/test_header.c $(HEADERS)
 	$(CXX) -std=c++11 $(WARNINGS) $(CFLAGS) -Iinclude -x c++ $< -o $@
 
 install: $(ARCHIVE) $(RECORDS) $(LISTING) $(OUT)/tubochre-bench
-	install -d $(DESTDIR)$(PREFIX)/bin $(DESTDIR)$(PREFIX)/lib/pkgconfig $(DESTDIR)$(PREFIX)/include
+	install -d $(addprefix $(DESTDIR)$(PREFIX)/,bin include lib/pkgconfig share/doc/tubochre)
 	install -m 755 $(OUT)/tubochre-bench $(DESTDIR)$(PREFIX)/bin/tubochre-bench
 	install -m 755 $(LISTING) $(DESTDIR)$(PREFIX)/bin/tubochre-listing
 	install -m 644 $(ARCHIVE) $(DESTDIR)$(PREFIX)/lib/libtubochre.a
 	install -m 644 $(RECORDS) $(DESTDIR)$(PREFIX)/lib/libtubochre_records.a
 	install -m 644 include/tubochre.h $(DESTDIR)$(PREFIX)/include/tubochre.h
+	install -m 644 docs/RULES.md $(DESTDIR)$(PREFIX)/share/doc/tubochre/RULES.md
 	sed -e 's|@PREFIX@|$(PREFIX)|' -e 's|@VERSION@|$(VERSION)|' include/tubochre.pc.in > $(DESTDIR)$(PREFIX)/lib/pkgconfig/tubochre.pc
 
 clean:

@@ -624,15 +624,15 @@ static int part_of(const char *name)
 int main(int argc, char **argv)
 {
     int wanted[PARTS] = {0}, words, i;
-    uint64_t letters = 0;
+    uint64_t letters = UINT64_MAX; /* not given */
     const struct argument known[] = {{"--quick", NULL, &quick}, {"--count", &letters, NULL}};
     words = read_arguments(argc, argv, known, 2, usage);
     for (i = 1; i <= words; i++)
         wanted[part_of(argv[i])] = 1;
-    if (letters > TUBOCHRE_LASSO_PART_MOST)
-        wrong_use("--count", usage);
-    if (letters > 0)
+    if (letters >= 1 && letters <= TUBOCHRE_LASSO_PART_MOST)
         return count_one(letters);
+    if (letters != UINT64_MAX)
+        wrong_use("--count", usage);
     printf("Medians of whole calls, by turns in one process, after a warm-up. Reference: compiler %s.\n", __VERSION__);
     puts("Timed with both: clearing unused words after a build, and the lent work words after a decision.");
     for (i = 0; i < PARTS; i++)

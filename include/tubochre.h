@@ -12,7 +12,7 @@
  * that repeat an edge mean it once. One form has two ranges: a pattern has 1 to 32 states and 0 to 4,096 records, a
  * wide table (such as a complement) 1 to 65,535 states and 0 to 65,535 records. Every valid pattern is a valid wide
  * table. A lasso is a prefix and a loop of letters; it stands for the word that reads the prefix once and then the
- * loop for ever. docs/RULES.md has all rules.
+ * loop for ever. RULES.md (docs, and share/doc/tubochre where installed) has all rules.
  *
  * What the caller sees to:
  *

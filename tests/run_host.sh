@@ -32,6 +32,7 @@ run_tests() {
     "$1/test_limits"
     "$1/test_null"
     "$1/test_records"
+    "$1/test_places"
     tests/programs/test_bench.sh "$1/tubochre-bench"
 }
 

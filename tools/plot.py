@@ -19,7 +19,7 @@ def read(lines):
         if heading:
             yield heading.group(1), None
         elif row:
-            yield row.group(1).strip(), float(row.group(4))
+            yield row.group(1).strip(), max(float(row.group(4)), 0.01)  # two places are printed: less shows as 0.00
 
 
 def text(x, y, words, more=""):
@@ -28,6 +28,7 @@ def text(x, y, words, more=""):
 
 
 def main():
+    sys.stdin.reconfigure(errors="replace")
     rows = list(read(sys.stdin))
     ratios = [math.log2(ratio) for _, ratio in rows if ratio]
     if not ratios:

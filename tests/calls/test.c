@@ -4,47 +4,8 @@
 #include "fence.h"
 #include "room.h"
 
-#include <stdarg.h>
-#include <stdio.h>
 #include <stdlib.h>
 #include <string.h>
-
-/* ---- Expectations. */
-
-static struct {
-    unsigned long held, failed, failed_before;
-} count;
-
-void expect(int holds, const char *what, ...)
-{
-    va_list words;
-    if (holds) {
-        count.held++;
-        return;
-    }
-    count.failed++;
-    fputs("FAILED: ", stdout);
-    va_start(words, what);
-    vprintf(what, words);
-    va_end(words);
-    putchar('\n');
-}
-
-void section(const char *name)
-{
-    if (count.failed == count.failed_before)
-        printf("ok: %s\n", name);
-    else
-        printf("FAILED: %s\n", name);
-    count.failed_before = count.failed;
-    fflush(stdout);
-}
-
-int summary(const char *program)
-{
-    printf("%s: %lu expectations held, %lu failed\n", program, count.held, count.failed);
-    return count.failed == 0 ? 0 : 1;
-}
 
 /* ---- Lent memory. */
 

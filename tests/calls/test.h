@@ -1,24 +1,12 @@
-/* What the tests of the C calls share: expectations, and the three calls made on fenced memory. */
+/* What the tests of the C calls share: the three calls made on fenced memory. */
 #ifndef TEST_H
 #define TEST_H
 
+#include "expect.h"
 #include "tubochre.h"
 
 #include <stddef.h>
 #include <stdint.h>
-
-/* Notes whether something holds; where it does not, says so. `what` is a printf format. */
-void expect(int holds, const char *what, ...)
-#if defined(__GNUC__)
-    __attribute__((format(printf, 2, 3)))
-#endif
-    ;
-
-/* Prints an ok line for the expectations since the last one, if all of them held. */
-void section(const char *name);
-
-/* Prints the summary; the exit status. */
-int summary(const char *program);
 
 /* Each call is made twice, with its buffers right behind an unreadable page and right before one, and with other
  * garbage in the buffers that it writes. The answers and all that was written must agree. Buffers that are only read
