@@ -11,7 +11,7 @@ use lib.Seq.{take-all, take-length}
 use Rattle.basics.specs.Buffers.{filled}
 use Rattle.basics.proofs.Booleans.{lt-ltb}
 use Rattle.automata.specs.System.{Edge, edge-at, state-at, numbered}
-use Rattle.tables.specs.Table.{wide-range}
+use Rattle.tables.specs.Table.{word-bits, wide-range}
 use Rattle.ncsb.specs.Successors.{initials, ncsb}
 use Rattle.patterns.specs.declared.Shape.{Shape}
 use Rattle.layout.specs.Chained.{flags-word, chained-words}
@@ -123,7 +123,7 @@ module _
     edges-are : triples-of w (p .edges) ≡ complement t .edges
     edges-are = rw all-edges (triples-are w (complement t .edges) word-letter word-target word-source)
 
-    pub lay-out-asks : Lay-out-asks w (p .states) (shape .letters) (p .edges)
+    pub lay-out-asks : Lay-out-asks word-bits w (p .states) (shape .letters) (p .edges)
     unfolding words-needed complement-automaton numbered
     lay-out-asks =
         let all = all-edges in
@@ -197,7 +197,7 @@ module _
   enough : (p .edges ≤ 65535) × (words-needed (p .states) (p .edges) ≤ length (l .words))
   enough = short-enough (length (l .words)) (p .states) (p .edges) tested short
 
-  pub built-asks : Lay-out-asks (l .words) (p .states) (shape .letters) (p .edges)
+  pub built-asks : Lay-out-asks word-bits (l .words) (p .states) (shape .letters) (p .edges)
   built-asks = lay-out-asks read h enough
 
   pub built-counts : (p .states ≤ 65535) × (p .edges ≤ 65535)

@@ -10,7 +10,7 @@ use Rattle.automata.specs.Automaton.{Takes}
 use Rattle.automata.specs.Decision.{takes?}
 use Rattle.automata.specs.Lasso.{letter-at}
 use Rattle.automata.proofs.Decision.{takes-right, takes-not}
-use Rattle.tables.specs.Table.{meaning, wide-range}
+use Rattle.tables.specs.Table.{Limits, meaning}
 use Rattle.tables.proofs.Laws.{valid, meaning-closed}
 use Rattle.lassos.specs.Decision.{as-decision, decision, Lasso-says}
 use Rattle.lassos.specs.Refusals.{lasso-refusal}
@@ -36,26 +36,26 @@ number-refused n zero true e = absurd (let z : _≡_ {A = ℕ} 0 1 = cc in omega
 number-refused n zero false e = absurd (let z : _≡_ {A = ℕ} 0 1 = cc in omega arith)
 number-refused n (suc r) b e = let s : suc r ≡ n = cc in (s, omega arith)
 
-module _ {t u v w w-now : List ℕ} where
+module _ {range : Limits} {t u v w w-now : List ℕ} where
   -- taken: the table and the lasso are not refused, and the automaton has an accepting run over the lasso
-  pub says-taken : Lasso-says t u v Taken w w-now → (lasso-refusal t u v (length w) ≡ 0) × Takes (meaning t) (letter-at u v)
+  pub says-taken : Lasso-says range t u v Taken w w-now → (lasso-refusal range t u v (length w) ≡ 0) × Takes (meaning t) (letter-at u v)
   unfolding decision
   says-taken h =
-      let n = number-taken (lasso-refusal t u v (length w)) (takes? (meaning t) u v) (h .answer) in
-      let a = accepted t u v (length w) (n .0) in
-      (n .0, takes-right (meaning t) u v (meaning-closed (valid wide-range t (a .valid))) (a .endless) .0 (n .1))
+      let n = number-taken (lasso-refusal range t u v (length w)) (takes? (meaning t) u v) (h .answer) in
+      let a = accepted range t u v (length w) (n .0) in
+      (n .0, takes-right (meaning t) u v (meaning-closed (valid range t (a .valid))) (a .endless) .0 (n .1))
 
   -- not taken: they are not refused, and it has none
   pub says-not-taken :
-      Lasso-says t u v NotTaken w w-now → (lasso-refusal t u v (length w) ≡ 0) × (Takes (meaning t) (letter-at u v) → ⊥)
+      Lasso-says range t u v NotTaken w w-now → (lasso-refusal range t u v (length w) ≡ 0) × (Takes (meaning t) (letter-at u v) → ⊥)
   unfolding decision
   says-not-taken h =
-      let n = number-not-taken (lasso-refusal t u v (length w)) (takes? (meaning t) u v) (h .answer) in
-      let a = accepted t u v (length w) (n .0) in
-      (n .0, takes-not (meaning t) u v (meaning-closed (valid wide-range t (a .valid))) (a .endless) (n .1))
+      let n = number-not-taken (lasso-refusal range t u v (length w)) (takes? (meaning t) u v) (h .answer) in
+      let a = accepted range t u v (length w) (n .0) in
+      (n .0, takes-not (meaning t) u v (meaning-closed (valid range t (a .valid))) (a .endless) (n .1))
 
   -- refused: by this number, which is not zero
-  pub says-refused : {r : ℕ} → Lasso-says t u v (Refused r) w w-now → (lasso-refusal t u v (length w) ≡ r) × (1 ≤ r)
+  pub says-refused : {r : ℕ} → Lasso-says range t u v (Refused r) w w-now → (lasso-refusal range t u v (length w) ≡ r) × (1 ≤ r)
   unfolding decision
   says-refused {r} h =
-      number-refused r (lasso-refusal t u v (length w)) (takes? (meaning t) u v) (h .answer)
+      number-refused r (lasso-refusal range t u v (length w)) (takes? (meaning t) u v) (h .answer)

@@ -10,20 +10,20 @@ use lib.Dec.{eqb}
 use lib.ListN.{length}
 use Rattle.basics.proofs.Booleans.{and-l, and-r, and-false, and-false-l, eqb-eq, eq-eqb, eqb-ne, ne-eqb}
 use Rattle.tables.specs.Access.{Record-asks}
-use Rattle.tables.specs.Table.{m-of, letter-of, target-of, next-of, wide-range}
+use Rattle.tables.specs.Table.{m-of, letter-of, target-of, next-of}
 use Rattle.tables.proofs.Chains.{left, left-less}
 use Rattle.tables.proofs.Laws.{Valid, valid, record-asked}
 use Rattle.lassos.specs.Product.{Chain-to, here, later}
 use Rattle.lassos.specs.Search.{colour}
-use Rattle.lassos.specs.Steps.{Chain-asks, Edge-asks, white-edge, Next-white, no-white, white-at}
+use Rattle.lassos.specs.Steps.{Width, Chain-asks, Edge-asks, white-edge, Next-white, no-white, white-at}
 use Rattle.lassos.proofs.Product.{chain-zero, chain-parts, chain-edge}
 
-module _ {t : List ℕ} {states nodes base r : ℕ} (a : Chain-asks t states nodes base r) where
-  pub sound : Valid wide-range t
-  sound = valid wide-range t (a .valid)
+module _ {wd : Width} {t : List ℕ} {states nodes base r : ℕ} (a : Chain-asks wd t states nodes base r) where
+  pub sound : Valid (wd .range) t
+  sound = valid (wd .range) t (a .valid)
 
   pub reads-record : 1 ≤ r → Record-asks t states r
-  reads-record o = record-asked wide-range t (a .valid) (a .counted) o (a .number-to)
+  reads-record o = record-asked (wd .range) t (a .valid) (a .counted) o (a .number-to)
 
   -- a record's target is a node
   pub target-inside : 1 ≤ r → base + target-of t r < nodes
@@ -35,7 +35,7 @@ module _ {t : List ℕ} {states nodes base r : ℕ} (a : Chain-asks t states nod
       let w = chain-edge sound h (a .number-to) in
       let k = w .1 in let e = w .2 in let f = a .fits in omega arith
 
-  pub next-asks : 1 ≤ r → (next : ℕ) → next ≡ next-of t r → Chain-asks t states nodes base next
+  pub next-asks : 1 ≤ r → (next : ℕ) → next ≡ next-of t r → Chain-asks wd t states nodes base next
   next-asks o next e =
       record {
         valid = a .valid;
@@ -49,18 +49,18 @@ module _ {t : List ℕ} {states nodes base r : ℕ} (a : Chain-asks t states nod
   next-less ne next e = left-less sound ne (a .number-to) e
 
 -- THE OUTER SEARCH along a chain: what was passed by leads to visited nodes
-pub record Walked (t w : List ℕ) (states letter base first r : ℕ) : Type 0 where
-  pub asks : Chain-asks t states (length w) base r
+pub record Walked (wd : Width) (t w : List ℕ) (states letter base first r : ℕ) : Type 0 where
+  pub asks : Chain-asks wd t states (length w) base r
   pub within : (y : ℕ) → Chain-to t letter base y r → Chain-to t letter base y first
   pub passed : (y : ℕ) → Chain-to t letter base y first → (1 ≤ colour w y) ⊎ Chain-to t letter base y r
 
 pub walked-start :
-    (t w : List ℕ) (states letter base first : ℕ) → Chain-asks t states (length w) base first →
-    Walked t w states letter base first first
+    {wd : Width} (t w : List ℕ) (states letter base first : ℕ) → Chain-asks wd t states (length w) base first →
+    Walked wd t w states letter base first first
 walked-start t w states letter base first a = record { asks = a; within = λ y h. h; passed = λ y h. inr h }
 
-module _ {t w : List ℕ} {states letter base first r : ℕ} (h : Walked t w states letter base first r) where
-  pub walked-edge : (r ≡ 0 → ⊥) → Edge-asks t states (length w) base r
+module _ {wd : Width} {t w : List ℕ} {states letter base first r : ℕ} (h : Walked wd t w states letter base first r) where
+  pub walked-edge : (r ≡ 0 → ⊥) → Edge-asks wd t states (length w) base r
   walked-edge ne = record { chain = h .asks; from-one = omega arith }
 
   pub walked-record : (r ≡ 0 → ⊥) → Record-asks t states r
@@ -69,7 +69,7 @@ module _ {t w : List ℕ} {states letter base first r : ℕ} (h : Walked t w sta
   -- a record on another letter, or to a visited node
   pub walked-turn :
       {b : Bool} → (r ≡ 0 → ⊥) → b ≡ white-edge t w letter base r → b ≡ false → (next : ℕ) → next ≡ next-of t r →
-      Walked t w states letter base first next
+      Walked wd t w states letter base first next
   unfolding white-edge
   walked-turn ne is f next n =
       let e = sym is ∙ f in
@@ -124,7 +124,7 @@ module _ {t w : List ℕ} {states letter base first r : ℕ} (h : Walked t w sta
       (λ y k. elim (h .passed y k) [ inl v ↦ v | inr v ↦ absurd (chain-zero (rw e at v)) ])
 
 -- ONE RECORD, as it is read
-module _ {t : List ℕ} {states nodes base r : ℕ} (a : Edge-asks t states nodes base r) where
+module _ {wd : Width} {t : List ℕ} {states nodes base r : ℕ} (a : Edge-asks wd t states nodes base r) where
   pub reads-edge : Record-asks t states r
   reads-edge = reads-record (a .chain) (a .from-one)
 

@@ -10,24 +10,24 @@ use lib.ListN.{length, take, drop}
 use lib.Seq.{length-front}
 use Rattle.basics.specs.Buffers.{zeros}
 use Rattle.basics.proofs.Booleans.{not-both}
-use Rattle.basics.proofs.Clears.{zeros-length, zeros-same, front-cleared}
+use Rattle.basics.proofs.Clears.{zeros-length, front-cleared}
 use Rattle.basics.proofs.Packed.{packed-zero}
 use Rattle.automata.specs.Decision.{takes?}
 use Rattle.automata.specs.Lasso.{positions}
 use Rattle.automata.proofs.Cycles.{takes-cycle, cycle-takes}
 use Rattle.automata.proofs.Decision.{takes-right}
-use Rattle.tables.specs.Table.{n-of, meaning, wide-range}
+use Rattle.tables.specs.Table.{Limits, wide-range, n-of, k-of, meaning, table-refusal}
 use Rattle.tables.proofs.Laws.{Valid, valid, meaning-closed}
-use Rattle.lassos.specs.Decision.{as-decision, decision, Lasso-says, Takes-asks}
+use Rattle.lassos.specs.Decision.{as-decision, decision, Takes-asks}
 use Rattle.lassos.specs.Graph.{Graph}
-use Rattle.lassos.specs.Product.{product}
-use Rattle.lassos.specs.Refusals.{lasso-refusal}
+use Rattle.lassos.specs.Product.{product-graph}
+use Rattle.lassos.specs.Refusals.{longest-part, parts-refusal, lasso-refusal}
 use Rattle.lassos.specs.Search.{colour, Search}
-use Rattle.lassos.specs.Steps.{Given, Explore-asks, Searched, found, nothing}
+use Rattle.lassos.specs.Steps.{Width, width-16, Width-fits, Given, Search-asks, Searched, found, nothing}
 use Rattle.lassos.specs.declared.Decision.the-variants.{Taken, NotTaken, Refused}
 use Rattle.lassos.proofs.Colours.{coloured-le}
 use Rattle.lassos.proofs.Given.{size-is}
-use Rattle.lassos.proofs.Parts.{Accepted, accepted}
+use Rattle.lassos.proofs.Parts.{Accepted, accepted, table-first, parts-then}
 use Rattle.lassos.proofs.Product.{found-cycle, cycle-found}
 
 -- THE BEGINNING: all nodes are white, and the stack is empty
@@ -51,15 +51,20 @@ fresh g w long white =
       fruitless = λ x l o. absurd (unmet x l (omega arith));
     }
 
+-- the widest product of a wide table has fewer than 2^29 nodes
+pub width-16-fits : Width-fits width-16
+unfolding wide-range
+width-16-fits = record { work = omega arith; machine = omega arith; records = omega arith }
+
 -- A TABLE AND A LASSO that are not refused
-module _ {t u v w : List ℕ} (a : Takes-asks t u v w) where
-  not-refused : Accepted t u v (length w)
-  not-refused = accepted t u v (length w) (a .accepted)
+module _ {wd : Width} (fits : Width-fits wd) {t u v w : List ℕ} (a : Takes-asks (wd .range) t u v w) where
+  not-refused : Accepted (wd .range) t u v (length w)
+  not-refused = accepted (wd .range) t u v (length w) (a .accepted)
 
-  sound : Valid wide-range t
-  sound = valid wide-range t (not-refused .valid)
+  sound : Valid (wd .range) t
+  sound = valid (wd .range) t (not-refused .valid)
 
-  enough : 4 * product t u v .size ≤ length w
+  enough : 4 * product-graph t u v .size ≤ length w
   unfolding positions
   enough =
       let s = size-is t u v in
@@ -68,27 +73,31 @@ module _ {t u v w : List ℕ} (a : Takes-asks t u v w) where
       let r = not-refused .room in omega arith
 
   module _ {states : ℕ} (is-states : states ≡ n-of t) where
-    pub size-fits : (length u + length v) * states < 2 ^ 64
-    unfolding wide-range
-    size-fits =
-        let p : length u + length v ≤ 8192 =
+    -- no product has more nodes than the widest
+    size-to : (length u + length v) * states ≤ 2 * longest-part * wd .range .states
+    size-to =
+        let p : length u + length v ≤ 2 * longest-part =
         (let i = not-refused .prefix-short in let j = not-refused .loop-short in omega arith) in
-        let q : states ≤ 65535 = (let k = sound .states-to in omega arith) in
-        let m = mul-le-mul p q in omega arith
+        let q : states ≤ wd .range .states = (let k = sound .states-to in omega arith) in mul-le-mul p q
 
-    takes-sized : (length u + length v) * states ≡ product t u v .size
+    pub size-fits : (length u + length v) * states < 2 ^ 64
+    size-fits = let m = size-to in let k = fits .machine in omega arith
+
+    takes-sized : (length u + length v) * states ≡ product-graph t u v .size
     unfolding positions
     takes-sized = rw is-states (sym (size-is t u v))
 
-    takes-given : Given t u v states ((length u + length v) * states)
+    takes-given : Given wd t u v states ((length u + length v) * states)
     takes-given =
+        let m = size-to in
         record {
           valid = not-refused .valid;
           counted = is-states;
           sized = takes-sized;
           endless = not-refused .endless;
-          prefix-short = not-refused .prefix-short;
-          loop-short = not-refused .loop-short;
+          small = let k = fits .work in omega arith;
+          machine = let k = fits .machine in omega arith;
+          records = let k = fits .records in let l = sound .records-to in omega arith;
         }
 
     -- the words of the colours are among the work words
@@ -102,7 +111,7 @@ module _ {t u v w : List ℕ} (a : Takes-asks t u v w) where
 
     pub takes-explore :
         {colours : List ℕ} → colours ≡ zeros (take ((length u + length v) * states / 16 + 1) w) →
-        Explore-asks t u v (colours ++ drop ((length u + length v) * states / 16 + 1) w) states ((length u + length v) * states) 0
+        Search-asks wd t u v (colours ++ drop ((length u + length v) * states / 16 + 1) w) states ((length u + length v) * states) 0
     unfolding colour
     takes-explore {colours} clear =
         let s = takes-sized in
@@ -112,13 +121,13 @@ module _ {t u v w : List ℕ} (a : Takes-asks t u v w) where
         record {
           given = takes-given;
           search =
-              fresh (product t u v) w1 (let k = enough in omega arith)
+              fresh (product-graph t u v) w1 (let k = enough in omega arith)
               (λ x l.
               packed-zero 4 (omega arith) 16 w1 x (front-cleared k w colours colours-inside clear (x / 16) (omega arith)));
         }
 
   -- what the search finds is what the automaton takes
-  pub takes-end : {r : Bool} → Searched (product t u v) r → r ≡ takes? (meaning t) u v
+  pub takes-end : {r : Bool} → Searched (product-graph t u v) r → r ≡ takes? (meaning t) u v
   takes-end (found f) =
       let o = not-refused .endless in
       let closed = meaning-closed sound in
@@ -144,29 +153,29 @@ as-not-taken : (r : ℕ) (b : Bool) → r ≡ 0 → b ≡ false → NotTaken ≡
 unfolding as-decision
 as-not-taken r b z e = rw (z, e)
 
-module _ (t u v w : List ℕ) {r : ℕ} (is-refusal : r ≡ lasso-refusal t u v (length w)) where
-  pub decide-refused : {w1 : List ℕ} → (r ≡ 0 → ⊥) → w1 ≡ zeros w → Lasso-says t u v (Refused r) w w1
+-- A TABLE THAT PASSED the check: the lasso's refusals, or whether it is taken
+module _ (range : Limits) (t u v : List ℕ) (work : ℕ) (passed : table-refusal range t ≡ 0) {n k x : ℕ} (is-n : n ≡ n-of t) (is-k : k ≡ k-of t)
+    (is-refusal : x ≡ parts-refusal n k u v work) where
+  pub checked-none : x ≡ 0 → lasso-refusal range t u v work ≡ 0
+  checked-none z = sym (parts-then range t u v work passed is-n is-k is-refusal) ∙ z
+
+  pub checked-refused : (x ≡ 0 → ⊥) → Refused x ≡ decision range t u v work
   unfolding decision
-  decide-refused ne is-clear =
-      record {
-        answer = rw (sym is-refusal) (as-refused r (takes? (meaning t) u v) ne);
-        work = is-clear;
-      }
+  checked-refused ne =
+      rw (← parts-then range t u v work passed is-n is-k is-refusal) (as-refused x (takes? (meaning t) u v) ne)
 
-  module _ (z : r ≡ 0) {b : Bool} (is-taken : b ≡ takes? (meaning t) u v) (w1 : List ℕ) {w2 : List ℕ}
-      (same : length w1 ≡ length w) (is-clear : w2 ≡ zeros w1) where
-    pub decide-taken : b ≡ true → Lasso-says t u v Taken w w2
+  module _ (z : x ≡ 0) {b : Bool} (is-taken : b ≡ takes? (meaning t) u v) where
+    pub checked-taken : b ≡ true → Taken ≡ decision range t u v work
     unfolding decision
-    decide-taken e =
-        record {
-          answer = rw (sym is-refusal) (as-taken r (takes? (meaning t) u v) z (sym is-taken ∙ e));
-          work = is-clear ∙ zeros-same w w1 same;
-        }
+    checked-taken e = as-taken (lasso-refusal range t u v work) (takes? (meaning t) u v) (checked-none z) (sym is-taken ∙ e)
 
-    pub decide-not-taken : b ≡ false → Lasso-says t u v NotTaken w w2
+    pub checked-not-taken : b ≡ false → NotTaken ≡ decision range t u v work
     unfolding decision
-    decide-not-taken e =
-        record {
-          answer = rw (sym is-refusal) (as-not-taken r (takes? (meaning t) u v) z (sym is-taken ∙ e));
-          work = is-clear ∙ zeros-same w w1 same;
-        }
+    checked-not-taken e = as-not-taken (lasso-refusal range t u v work) (takes? (meaning t) u v) (checked-none z) (sym is-taken ∙ e)
+
+-- ANY TABLE: its own refusals first
+pub table-refused :
+    (range : Limits) (t u v : List ℕ) (work : ℕ) {x : ℕ} → x ≡ table-refusal range t → (x ≡ 0 → ⊥) → Refused x ≡ decision range t u v work
+unfolding decision
+table-refused range t u v work {x} e ne =
+    rw (← table-first range t u v work e ne) (as-refused x (takes? (meaning t) u v) ne)

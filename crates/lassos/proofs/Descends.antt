@@ -3,15 +3,15 @@ use mathlib.Core.Path.{_≡_, refl, sym, _∙_}
 use mathlib.Core.Bool.{true, false}
 use mathlib.Core.List.{List}
 use mathlib.Core.Logic.{_⊎_, inl, inr}
-use Prim.Native.Nat.{ℕ, suc, _+_, _*_, _-_, _≤_, _<_}
+use Prim.Native.Nat.{ℕ, suc, _+_, _*_, _-_, _^_, _≤_, _<_}
 use native.Mathlib.Omega.{arith}
 use lib.ListN.{length, getD, set}
 use Rattle.tables.specs.Access.{State-asks, Record-asks}
 use Rattle.tables.specs.Table.{n-of, m-of, head-of, target-of, next-of}
-use Rattle.lassos.specs.Graph.{Leads, onward, Reached}
-use Rattle.lassos.specs.Product.{Chain-to, node-letter, node-base, product}
+use Rattle.lassos.specs.Graph.{Arc, onward, Node-reached}
+use Rattle.lassos.specs.Product.{Chain-to, node-letter, node-base, product-graph}
 use Rattle.lassos.specs.Search.{colour, stacked, cursor, risen, entered, advanced, Search}
-use Rattle.lassos.specs.Steps.{Raise-asks, Node-asks, Chain-asks, Next-white, White-at, no-white, white-at, Enter-asks, Top-asks, Descended, deeper, all-visited}
+use Rattle.lassos.specs.Steps.{Width, Raise-asks, Node-asks, Chain-asks, Next-white, White-at, no-white, white-at, Enter-asks, Top-asks, Descended, deeper, all-visited}
 use Rattle.lassos.proofs.Chains.{reads-record, chain-inside}
 use Rattle.lassos.proofs.Colours.{grows-grows, coloured-one}
 use Rattle.lassos.proofs.Given.{given-valid, given-bounded, given-reads, given-small, given-node, given-chain, given-head, given-first}
@@ -19,7 +19,7 @@ use Rattle.lassos.proofs.Outer.{enter-grows, enter-whites, enter-keeps,
 use Rattle.lassos.proofs.Stores.{Enters, enters, Advances, advances}
 
 -- ENTERING, as it is written
-module _ {w : List ℕ} {n x r d : ℕ} (a : Enter-asks w n x r d) where
+module _ {bits : ℕ} {w : List ℕ} {n x r d : ℕ} (a : Enter-asks bits w n x r d) where
   pub enter-raise : Raise-asks w x 1
   enter-raise =
       let z = a .white in
@@ -35,11 +35,11 @@ is-white (no-white e f) ne = absurd (ne e)
 is-white (white-at h) ne = h
 
 -- THE TOP of the stack
-module _ {t u v w : List ℕ} {states size x depth : ℕ} (a : Top-asks t u v w states size x depth) where
+module _ {wd : Width} {t u v w : List ℕ} {states size x depth : ℕ} (a : Top-asks wd t u v w states size x depth) where
   top-index : depth - 1 < depth
   top-index = let o = a .from-one in omega arith
 
-  pub top-inside : x < product t u v .size
+  pub top-inside : x < product-graph t u v .size
   top-inside = rw (a .top) (a .search .inside (depth - 1) top-index)
 
   pub top-grey : colour w x ≡ 1
@@ -48,43 +48,43 @@ module _ {t u v w : List ℕ} {states size x depth : ℕ} (a : Top-asks t u v w 
   pub top-node : Node-asks u v states x
   top-node = given-node (a .given) top-inside
 
-  top-place : depth - 1 < product t u v .size
+  top-place : depth - 1 < product-graph t u v .size
   top-place = let k = a .search .room in let o = top-index in omega arith
 
   pub top-cursor : 2 * size + (depth - 1) < length w
   top-cursor = let k = top-place in let q = a .given .sized in let l = a .search .long in omega arith
 
-  pub top-small : 2 * size + (depth - 1) < 4294967296
+  pub top-small : 2 * size + (depth - 1) < 2 ^ wd .bits
   top-small = let k = top-place in let q = a .given .sized in let l = given-small (a .given) in omega arith
 
-  cursor-is : getD w (2 * size + (depth - 1)) 0 ≡ cursor (product t u v .size) w (depth - 1)
+  cursor-is : getD w (2 * size + (depth - 1)) 0 ≡ cursor (product-graph t u v .size) w (depth - 1)
   unfolding cursor
   cursor-is = rw (a .given .sized)
 
   cursor-to : getD w (2 * size + (depth - 1)) 0 ≤ m-of t
-  unfolding product
+  unfolding product-graph
   cursor-to = rw cursor-is (a .search .cursors (depth - 1) top-index)
 
   -- its targets are visited or still ahead, and what is ahead are its targets
   top-ahead :
-      (y : ℕ) → Leads (product t u v) x y →
-      (1 ≤ colour w y) ⊎ product t u v .Ahead x (getD w (2 * size + (depth - 1)) 0) y
+      (y : ℕ) → Arc (product-graph t u v) x y →
+      (1 ≤ colour w y) ⊎ product-graph t u v .Ahead x (getD w (2 * size + (depth - 1)) 0) y
   top-ahead y h =
       let e = a .top in
-      let k : Leads (product t u v) (stacked (product t u v .size) w (depth - 1)) y = rw e at h in
+      let k : Arc (product-graph t u v) (stacked (product-graph t u v .size) w (depth - 1)) y = rw e at h in
       rw (cursor-is, e) (a .search .ahead (depth - 1) y top-index k)
 
-  top-chained : (y : ℕ) → product t u v .Ahead x (getD w (2 * size + (depth - 1)) 0) y → Leads (product t u v) x y
+  top-chained : (y : ℕ) → product-graph t u v .Ahead x (getD w (2 * size + (depth - 1)) 0) y → Arc (product-graph t u v) x y
   top-chained y h =
       let e = a .top in
       rw e (a .search .on-chain (depth - 1) y top-index (rw (cursor-is, e) at h))
 
   module _ {letter base : ℕ} (is-letter : letter ≡ node-letter states u v x) (is-base : base ≡ node-base states u v x) where
     -- the chain of its edges, from its cursor on
-    top-chain : Chain-asks t states size base (getD w (2 * size + (depth - 1)) 0)
+    top-chain : Chain-asks wd t states size base (getD w (2 * size + (depth - 1)) 0)
     top-chain = given-chain (a .given) top-inside is-letter is-base cursor-to
 
-    pub top-asks : Chain-asks t states (length w) base (getD w (2 * size + (depth - 1)) 0)
+    pub top-asks : Chain-asks wd t states (length w) base (getD w (2 * size + (depth - 1)) 0)
     top-asks =
         record {
           valid = top-chain .valid;
@@ -95,16 +95,16 @@ module _ {t u v w : List ℕ} {states size x depth : ℕ} (a : Top-asks t u v w 
         }
 
     -- an edge of the product is one of this chain
-    to-chain : {r y : ℕ} → product t u v .Ahead x r y → Chain-to t letter base y r
-    unfolding product
+    to-chain : {r y : ℕ} → product-graph t u v .Ahead x r y → Chain-to t letter base y r
+    unfolding product-graph
     to-chain h = rw (is-letter, is-base, a .given .counted) h
 
-    from-chain : {r y : ℕ} → Chain-to t letter base y r → product t u v .Ahead x r y
-    unfolding product
+    from-chain : {r y : ℕ} → Chain-to t letter base y r → product-graph t u v .Ahead x r y
+    unfolding product-graph
     from-chain h = rw (is-letter, is-base, a .given .counted) at h
 
     -- no white node is ahead: all targets are visited
-    pub none-white : {r : ℕ} → Next-white t w letter base (getD w (2 * size + (depth - 1)) 0) r → r ≡ 0 → Descended (product t u v) w w x depth false
+    pub none-white : {r : ℕ} → Next-white t w letter base (getD w (2 * size + (depth - 1)) 0) r → r ≡ 0 → Descended (product-graph t u v) w w x depth false
     none-white (no-white e f) z =
         all-visited refl
         (λ y h.
@@ -121,7 +121,7 @@ module _ {t u v w : List ℕ} {states size x depth : ℕ} (a : Top-asks t u v w 
         target-is : base + target-of t r ≡ base + to
         target-is = rw is-target
 
-        to-inside : base + to < product t u v .size
+        to-inside : base + to < product-graph t u v .size
         to-inside =
             let k = chain-inside top-chain letter (base + target-of t r) (h .edge) in
             let q = a .given .sized in let e = target-is in omega arith
@@ -132,20 +132,20 @@ module _ {t u v w : List ℕ} {states size x depth : ℕ} (a : Top-asks t u v w 
         to-white : colour w (base + to) ≡ 0
         to-white = rw target-is at (h .white)
 
-        to-room : depth < product t u v .size
+        to-room : depth < product-graph t u v .size
         to-room =
-            let k = coloured-one 0 (product t u v .size) w (base + to) to-inside to-white in
+            let k = coloured-one 0 (product-graph t u v .size) w (base + to) to-inside to-white in
             let j = a .search .room in omega arith
 
         pub to-state : State-asks t to
         to-state = given-reads (a .given) to-below
 
-        pub to-asks : {first : ℕ} → first < 65536 → Enter-asks w size (base + to) first depth
-        to-asks few =
+        pub to-asks : {first : ℕ} → first < 2 ^ wd .bits → Enter-asks (wd .bits) w size (base + to) first depth
+        to-asks fits =
             let q = a .given .sized in
             record {
               white = to-white;
-              first-few = few;
+              first-fits = fits;
               inside = let k = to-inside in omega arith;
               room = let k = to-room in omega arith;
               long = let k = a .search .long in omega arith;
@@ -155,59 +155,59 @@ module _ {t u v w : List ℕ} {states size x depth : ℕ} (a : Top-asks t u v w 
         -- and then the cursor moves on
         module _ {first : ℕ} (is-first : first ≡ head-of t to) {w1 : List ℕ} (is-entered : w1 ≡ entered size w (base + to) first depth)
             {next : ℕ} (is-next : next ≡ next-of t r) where
-          to-first : first ≡ product t u v .first (base + to)
+          to-first : first ≡ product-graph t u v .first (base + to)
           to-first = is-first ∙ sym (given-head (a .given) top-inside is-letter is-base to-below)
 
-          to-enters : Enters (product t u v .size) w w1 (base + to) (product t u v .first (base + to)) depth
+          to-enters : Enters (product-graph t u v .size) w w1 (base + to) (product-graph t u v .first (base + to)) depth
           to-enters =
-              let e : w1 ≡ entered (product t u v .size) w (base + to) (product t u v .first (base + to)) depth =
+              let e : w1 ≡ entered (product-graph t u v .size) w (base + to) (product-graph t u v .first (base + to)) depth =
               rw (a .given .sized, to-first) at is-entered in
               rw e
-              (enters (product t u v .size) w (base + to) (product t u v .first (base + to)) depth (a .search .long) to-inside to-room to-white)
+              (enters (product-graph t u v .size) w (base + to) (product-graph t u v .first (base + to)) depth (a .search .long) to-inside to-room to-white)
 
-          to-edge : Leads (product t u v) x (base + to)
+          to-edge : Arc (product-graph t u v) x (base + to)
           to-edge = top-chained (base + to) (from-chain (rw target-is at (h .edge)))
 
-          to-reached : Reached (product t u v) (base + to)
+          to-reached : Node-reached (product-graph t u v) (base + to)
           to-reached =
               let from = a .search .reached x top-inside (let k = top-grey in omega arith) in
               record { start = from .start; begins = from .begins; way = onward (base + to) (from .way) to-edge }
 
-          first-to : product t u v .first (base + to) ≤ product t u v .last
-          unfolding product
+          first-to : product-graph t u v .first (base + to) ≤ product-graph t u v .last
+          unfolding product-graph
           first-to = given-first (a .given) to-inside (rw (a .given .counted))
 
-          to-linked : (i : ℕ) → suc i ≡ depth → Leads (product t u v) (stacked (product t u v .size) w i) (base + to)
+          to-linked : (i : ℕ) → suc i ≡ depth → Arc (product-graph t u v) (stacked (product-graph t u v .size) w i) (base + to)
           to-linked i e =
               let top : depth - 1 ≡ i = omega arith in
-              let s : x ≡ stacked (product t u v .size) w i = rw top at (a .top) in rw (← s) to-edge
+              let s : x ≡ stacked (product-graph t u v .size) w i = rw top at (a .top) in rw (← s) to-edge
 
-          deeper-search : Search (product t u v) w1 (suc depth)
+          deeper-search : Search (product-graph t u v) w1 (suc depth)
           deeper-search =
               enter-keeps (given-bounded (a .given)) (a .search) to-inside to-white to-enters to-reached first-to to-linked
 
           -- the place of the top is what it was
-          kept-top : stacked (product t u v .size) w1 (depth - 1) ≡ x
+          kept-top : stacked (product-graph t u v .size) w1 (depth - 1) ≡ x
           kept-top = to-enters .below (depth - 1) top-index ∙ sym (a .top)
 
-          kept-cursor : cursor (product t u v .size) w1 (depth - 1) ≡ getD w (2 * size + (depth - 1)) 0
+          kept-cursor : cursor (product-graph t u v .size) w1 (depth - 1) ≡ getD w (2 * size + (depth - 1)) 0
           kept-cursor = to-enters .cursors (depth - 1) top-index ∙ sym cursor-is
 
-          next-advances : Advances (product t u v .size) w1 (set w1 (2 * size + (depth - 1)) next) (depth - 1) next
+          next-advances : Advances (product-graph t u v .size) w1 (set w1 (2 * size + (depth - 1)) next) (depth - 1) next
           unfolding advanced
           next-advances =
-              rw (a .given .sized) (advances (product t u v .size) w1 (depth - 1) next (deeper-search .long) top-place)
+              rw (a .given .sized) (advances (product-graph t u v .size) w1 (depth - 1) next (deeper-search .long) top-place)
 
-          next-to : next ≤ product t u v .last
-          unfolding product
+          next-to : next ≤ product-graph t u v .last
+          unfolding product-graph
           next-to = let k = given-valid (a .given) .next r (h .from-one) (h .number-to) in omega arith
 
-          next-fewer : (y : ℕ) → product t u v .Ahead x next y → product t u v .Ahead x (cursor (product t u v .size) w1 (depth - 1)) y
+          next-fewer : (y : ℕ) → product-graph t u v .Ahead x next y → product-graph t u v .Ahead x (cursor (product-graph t u v .size) w1 (depth - 1)) y
           next-fewer y k = rw kept-cursor (from-chain (h .rest y (rw is-next at (to-chain k))))
 
           next-passed :
-              (y : ℕ) → product t u v .Ahead x (cursor (product t u v .size) w1 (depth - 1)) y →
-              (1 ≤ colour w1 y) ⊎ product t u v .Ahead x next y
+              (y : ℕ) → product-graph t u v .Ahead x (cursor (product-graph t u v .size) w1 (depth - 1)) y →
+              (1 ≤ colour w1 y) ⊎ product-graph t u v .Ahead x next y
           next-passed y k =
               let c = to-chain (rw kept-cursor at k) in
               elim (h .passed y c) [
@@ -223,7 +223,7 @@ module _ {t u v w : List ℕ} {states size x depth : ℕ} (a : Top-asks t u v w 
                     ]
               ]
 
-          pub next-deeper : Descended (product t u v) w (set w1 (2 * size + (depth - 1)) next) x depth true
+          pub next-deeper : Descended (product-graph t u v) w (set w1 (2 * size + (depth - 1)) next) x depth true
           next-deeper =
               let bounded = given-bounded (a .given) in
               deeper (advance-keeps bounded deeper-search next-advances kept-top next-to next-fewer next-passed)

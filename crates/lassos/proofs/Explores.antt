@@ -4,7 +4,7 @@ use mathlib.Core.Path.{_≡_, refl, sym, _∙_, ap}
 use mathlib.Core.Bool.{Bool, true, false}
 use mathlib.Core.List.{List}
 use mathlib.Core.Logic.{inl, inr}
-use Prim.Native.Nat.{ℕ, suc, _+_, _*_, _-_, _/_, _%_, _≤_, _<_}
+use Prim.Native.Nat.{ℕ, suc, _+_, _*_, _-_, _/_, _%_, _^_, _≤_, _<_}
 use native.Mathlib.Omega.{arith}
 use native.Mathlib.Nat.{mod-eq-of-lt, zero-mul}
 use native.Mathlib.Numerals.{add-one}
@@ -16,17 +16,17 @@ use Rattle.automata.specs.Lasso.{positions}
 use Rattle.automata.proofs.Positions.{next-below}
 use Rattle.tables.specs.Access.{State-asks}
 use Rattle.tables.specs.Table.{n-of, head-of, flags-of, is-initial, is-accepting}
-use Rattle.lassos.specs.Graph.{Graph, Leads, Bounded, stay}
-use Rattle.lassos.specs.Product.{product}
+use Rattle.lassos.specs.Graph.{Graph, Arc, Bounded, stay}
+use Rattle.lassos.specs.Product.{product-graph}
 use Rattle.lassos.specs.Search.{colour, stacked, whites, risen, entered, Search, Grows, Inner-says, met, none}
-use Rattle.lassos.specs.Steps.{Raise-asks, Given, Meets-asks, Top-asks, Descended, deeper, all-visited, Finished, closes, black, red, Enter-asks, Explore-asks, Explored, found, exhausted, Try-asks, Tried, tried, Searched, nothing}
+use Rattle.lassos.specs.Steps.{Width, Few, Raise-asks, Given, Meets-asks, Top-asks, Descended, deeper, all-visited, Finished, closes, black, red, Enter-asks, Search-asks, Explored, found, exhausted, Try-asks, Try-says, tried, Searched, nothing}
 use Rattle.lassos.proofs.Colours.{grows-grows, grows-same, stays-grey}
 use Rattle.lassos.proofs.Given.{size-is, given-bounded, given-reads, given-some, given-small, given-first, given-state}
 use Rattle.lassos.proofs.Outer.{enter-grows, enter-keeps, none-found, Left-off, black-leaves, red-leaves, grey-cycle}
 use Rattle.lassos.proofs.Stores.{recolours, Enters, enters}
 
 -- A FINISHED NODE
-module _ {t u v w : List ℕ} {states size x : ℕ} (a : Meets-asks t u v w states size x) where
+module _ {wd : Width} {t u v w : List ℕ} {states size x : ℕ} (a : Meets-asks wd t u v w states size x) where
   pub finish-state : State-asks t (x % states)
   finish-state = given-state (a .given) (a .asks .inside)
 
@@ -37,7 +37,7 @@ module _ {t u v w : List ℕ} {states size x : ℕ} (a : Meets-asks t u v w stat
       let k = a .asks .grey in record { inside = let m = a .asks .long in omega arith; within = omega arith }
 
   pub raise-still :
-      {w1 : List ℕ} {r : Bool} {by : ℕ} → length w1 ≡ length w → Inner-says (product t u v) x w w1 r → r ≡ false → by ≤ 2 →
+      {w1 : List ℕ} {r : Bool} {by : ℕ} → length w1 ≡ length w → Inner-says (product-graph t u v) x w w1 r → r ≡ false → by ≤ 2 →
       Raise-asks w1 x by
   raise-still same (met y z t p b c) e f = absurd (clash refl e)
   raise-still same (none r c s) e f =
@@ -49,58 +49,58 @@ module _ {t u v w : List ℕ} {states size x : ℕ} (a : Meets-asks t u v w stat
   finish-some = let k = given-some (a .given) in let e = a .given .counted in omega arith
 
   module _ {f : ℕ} (is-flags : f ≡ flags-of t (x % states)) where
-    pub finish-black : f < 2 → {w1 : List ℕ} → w1 ≡ risen w x 1 → Finished (product t u v) x w w1 false
-    unfolding product is-accepting
+    pub finish-black : f < 2 → {w1 : List ℕ} → w1 ≡ risen w x 1 → Finished (product-graph t u v) x w w1 false
+    unfolding product-graph is-accepting
     finish-black l up =
         let e : f ≡ flags-of t (x % n-of t) = rw (a .given .counted) at is-flags in
         let b : flags-of t (x % n-of t) < 2 = omega arith in black (gt-leb b) up
 
-    pub finish-closes : 2 ≤ f → {w1 : List ℕ} {r : Bool} → Inner-says (product t u v) x w w1 r → r ≡ true → Finished (product t u v) x w w1 true
-    unfolding product is-accepting
+    pub finish-closes : 2 ≤ f → {w1 : List ℕ} {r : Bool} → Inner-says (product-graph t u v) x w w1 r → r ≡ true → Finished (product-graph t u v) x w w1 true
+    unfolding product-graph is-accepting
     finish-closes l h e =
         let k : f ≡ flags-of t (x % n-of t) = rw (a .given .counted) at is-flags in
         let b : 2 ≤ flags-of t (x % n-of t) = omega arith in closes (le-leb b) (rw e at h)
 
   pub finish-red :
-      {w1 w2 : List ℕ} {r : Bool} → length w1 ≡ length w → Inner-says (product t u v) x w w1 r → r ≡ false →
-      w2 ≡ risen w1 x 2 → Finished (product t u v) x w w2 false
+      {w1 w2 : List ℕ} {r : Bool} → length w1 ≡ length w → Inner-says (product-graph t u v) x w w1 r → r ≡ false →
+      w2 ≡ risen w1 x 2 → Finished (product-graph t u v) x w w2 false
   finish-red {w1} s h e up = red w1 s (rw e at h) up
 
 -- THE STACK IS EMPTIED: the invariant
-pub record Exploring (t u v w : List ℕ) (states size : ℕ) (w-now : List ℕ) (depth : ℕ) : Type 0 where
-  pub given : Given t u v states size
+pub record Exploring (wd : Width) (t u v w : List ℕ) (states size : ℕ) (w-now : List ℕ) (depth : ℕ) : Type 0 where
+  pub given : Given wd t u v states size
   pub same : length w-now ≡ length w
-  pub search : Search (product t u v) w-now depth
-  pub grows : Grows (product t u v .size) w w-now
+  pub search : Search (product-graph t u v) w-now depth
+  pub grows : Grows (product-graph t u v .size) w w-now
 
 pub exploring-start :
-    {t u v w : List ℕ} {states size depth : ℕ} → Explore-asks t u v w states size depth →
-    Exploring t u v w states size w depth
+    {wd : Width} {t u v w : List ℕ} {states size depth : ℕ} → Search-asks wd t u v w states size depth →
+    Exploring wd t u v w states size w depth
 exploring-start a = record { given = a .given; same = refl; search = a .search; grows = grows-same }
 
-module _ {t u v w : List ℕ} {states size : ℕ} {w1 : List ℕ} {depth : ℕ} (h : Exploring t u v w states size w1 depth) where
-  pub exploring-end : depth ≤ 0 → Explored (product t u v) w w1 false
+module _ {wd : Width} {t u v w : List ℕ} {states size : ℕ} {w1 : List ℕ} {depth : ℕ} (h : Exploring wd t u v w states size w1 depth) where
+  pub exploring-end : depth ≤ 0 → Explored (product-graph t u v) w w1 false
   exploring-end l = let e : depth ≡ 0 = omega arith in exhausted (rw e at (h .search)) (h .grows)
 
   module _ (o : 0 < depth) where
     pub exploring-below : size + (depth - 1) < length w1
     exploring-below = let k = h .search .room in let l = h .search .long in let q = h .given .sized in omega arith
 
-    pub exploring-small : (size + (depth - 1) < 4294967296) × (depth < 1073741824)
+    pub exploring-small : (size + (depth - 1) < 2 ^ wd .bits) × Few (wd .bits) depth
     exploring-small = let k = h .search .room in let l = given-small (h .given) in let q = h .given .sized in omega arith
 
-    top-is : getD w1 (size + (depth - 1)) 0 ≡ stacked (product t u v .size) w1 (depth - 1)
+    top-is : getD w1 (size + (depth - 1)) 0 ≡ stacked (product-graph t u v .size) w1 (depth - 1)
     unfolding stacked
     top-is = rw (h .given .sized)
 
-    pub exploring-top : Top-asks t u v w1 states size (getD w1 (size + (depth - 1)) 0) depth
+    pub exploring-top : Top-asks wd t u v w1 states size (getD w1 (size + (depth - 1)) 0) depth
     exploring-top = record { given = h .given; search = h .search; from-one = o; top = top-is }
 
 -- DEEPER
-module _ {t u v w : List ℕ} {states size : ℕ} {w1 w2 : List ℕ} {depth : ℕ} (h : Exploring t u v w states size w1 depth)
+module _ {wd : Width} {t u v w : List ℕ} {states size : ℕ} {w1 w2 : List ℕ} {depth : ℕ} (h : Exploring wd t u v w states size w1 depth)
     (same : length w2 ≡ length w1) where
   pub exploring-deeper :
-      {x : ℕ} {r : Bool} → Descended (product t u v) w1 w2 x depth r → r ≡ true → Exploring t u v w states size w2 (depth + 1)
+      {x : ℕ} {r : Bool} → Descended (product-graph t u v) w1 w2 x depth r → r ≡ true → Exploring wd t u v w states size w2 (depth + 1)
   exploring-deeper (deeper s g l) e =
       record {
         given = h .given;
@@ -111,22 +111,22 @@ module _ {t u v w : List ℕ} {states size : ℕ} {w1 w2 : List ℕ} {depth : �
   exploring-deeper (all-visited s f) e = absurd (clash e refl)
 
   pub deeper-less :
-      {x : ℕ} {r : Bool} → Descended (product t u v) w1 w2 x depth r → r ≡ true →
+      {x : ℕ} {r : Bool} → Descended (product-graph t u v) w1 w2 x depth r → r ≡ true →
       2 * whites size w2 + (depth + 1) < 2 * whites size w1 + depth
   deeper-less (deeper s g l) e = rw (h .given .sized) (omega arith)
   deeper-less (all-visited s f) e = absurd (clash e refl)
 
 -- FINISHED: all targets of the top are visited
-pub record Finishing (t u v w : List ℕ) (states size : ℕ) (w-now : List ℕ) (x depth : ℕ) : Type 0 where
-  pub exploring : Exploring t u v w states size w-now depth
+pub record Finishing (wd : Width) (t u v w : List ℕ) (states size : ℕ) (w-now : List ℕ) (x depth : ℕ) : Type 0 where
+  pub exploring : Exploring wd t u v w states size w-now depth
   pub from-one : 0 < depth
-  pub top : x ≡ stacked (product t u v .size) w-now (depth - 1)
-  pub done : (y : ℕ) → Leads (product t u v) x y → 1 ≤ colour w-now y
+  pub top : x ≡ stacked (product-graph t u v .size) w-now (depth - 1)
+  pub done : (y : ℕ) → Arc (product-graph t u v) x y → 1 ≤ colour w-now y
 
 pub finishing-start :
-    {t u v w : List ℕ} {states size : ℕ} {w1 w2 : List ℕ} {x depth : ℕ} {r : Bool} →
-    Exploring t u v w states size w1 depth → 0 < depth → x ≡ getD w1 (size + (depth - 1)) 0 →
-    Descended (product t u v) w1 w2 x depth r → r ≡ false → Finishing t u v w states size w2 x depth
+    {wd : Width} {t u v w : List ℕ} {states size : ℕ} {w1 w2 : List ℕ} {x depth : ℕ} {r : Bool} →
+    Exploring wd t u v w states size w1 depth → 0 < depth → x ≡ getD w1 (size + (depth - 1)) 0 →
+    Descended (product-graph t u v) w1 w2 x depth r → r ≡ false → Finishing wd t u v w states size w2 x depth
 finishing-start h o n (deeper s g l) e = absurd (clash refl e)
 finishing-start h o n (all-visited s f) e =
     rw s (record { exploring = h; from-one = o; top = n ∙ top-is h o; done = f })
@@ -136,23 +136,23 @@ pub finishing-same :
 finishing-same (deeper s g l) e = absurd (clash refl e)
 finishing-same (all-visited s f) e = s
 
-module _ {t u v w : List ℕ} {states size : ℕ} {w1 : List ℕ} {x depth : ℕ} (h : Finishing t u v w states size w1 x depth) where
-  bounded : Bounded (product t u v)
+module _ {wd : Width} {t u v w : List ℕ} {states size : ℕ} {w1 : List ℕ} {x depth : ℕ} (h : Finishing wd t u v w states size w1 x depth) where
+  bounded : Bounded (product-graph t u v)
   bounded = given-bounded (h .exploring .given)
 
   from-top : depth ≡ suc (depth - 1)
   from-top = let o = h .from-one in omega arith
 
-  search-top : Search (product t u v) w1 (suc (depth - 1))
+  search-top : Search (product-graph t u v) w1 (suc (depth - 1))
   search-top = rw from-top at (h .exploring .search)
 
-  inside-top : x < product t u v .size
+  inside-top : x < product-graph t u v .size
   inside-top = rw (h .top) (search-top .inside (depth - 1) (omega arith))
 
   grey-top : colour w1 x ≡ 1
   grey-top = rw (h .top) (search-top .grey (depth - 1) (omega arith))
 
-  pub finishing-asks : Meets-asks t u v w1 states size x
+  pub finishing-asks : Meets-asks wd t u v w1 states size x
   finishing-asks =
       let s = h .exploring .search in
       record {
@@ -170,28 +170,28 @@ module _ {t u v w : List ℕ} {states size : ℕ} {w1 : List ℕ} {x depth : ℕ
 
   -- the top closes a cycle
   pub finishing-found :
-      {w2 : List ℕ} {r : Bool} → Finished (product t u v) x w1 w2 r → r ≡ true → Explored (product t u v) w w2 true
+      {w2 : List ℕ} {r : Bool} → Finished (product-graph t u v) x w1 w2 r → r ≡ true → Explored (product-graph t u v) w w2 true
   finishing-found (closes a (met y z t p b c)) e =
       found (grey-cycle bounded search-top y z (rw (h .top) at t) p b c (rw (h .top) at a))
   finishing-found (black a s) e = absurd (clash e refl)
   finishing-found (red w′ l i s) e = absurd (clash e refl)
 
   -- or it leaves the stack
-  finishing-off : {w2 : List ℕ} {r : Bool} → Finished (product t u v) x w1 w2 r → r ≡ false → Left-off (product t u v) w1 w2 (depth - 1)
+  finishing-off : {w2 : List ℕ} {r : Bool} → Finished (product-graph t u v) x w1 w2 r → r ≡ false → Left-off (product-graph t u v) w1 w2 (depth - 1)
   finishing-off (closes a i) e = absurd (clash refl e)
   finishing-off (black a s) e =
       black-leaves bounded search-top (h .top) (h .done) a
-      (rw s (recolours (product t u v .size) w1 x 1 (search-top .long) inside-top grey-top (omega arith)))
+      (rw s (recolours (product-graph t u v .size) w1 x 1 (search-top .long) inside-top grey-top (omega arith)))
   finishing-off (red w′ l (none r c f) s) e =
       red-leaves bounded search-top (h .top) l r c f
       (rw s
-      (recolours (product t u v .size) w′ x 2 (let k = search-top .long in omega arith) inside-top
+      (recolours (product-graph t u v .size) w′ x 2 (let k = search-top .long in omega arith) inside-top
       (stays-grey r x inside-top grey-top)
       (omega arith)))
 
   pub finishing-left :
-      {w2 : List ℕ} {r : Bool} → length w2 ≡ length w1 → Finished (product t u v) x w1 w2 r → r ≡ false →
-      Exploring t u v w states size w2 (depth - 1)
+      {w2 : List ℕ} {r : Bool} → length w2 ≡ length w1 → Finished (product-graph t u v) x w1 w2 r → r ≡ false →
+      Exploring wd t u v w states size w2 (depth - 1)
   finishing-left same f e =
       let k = finishing-off f e in
       record {
@@ -202,14 +202,14 @@ module _ {t u v w : List ℕ} {states size : ℕ} {w1 : List ℕ} {x depth : ℕ
       }
 
   pub finishing-less :
-      {w0 w2 : List ℕ} {r : Bool} → w1 ≡ w0 → Finished (product t u v) x w1 w2 r → r ≡ false →
+      {w0 w2 : List ℕ} {r : Bool} → w1 ≡ w0 → Finished (product-graph t u v) x w1 w2 r → r ≡ false →
       2 * whites size w2 + (depth - 1) < 2 * whites size w0 + depth
   finishing-less s f e =
       let k = finishing-off f e .fewer in
       let o = h .from-one in rw (h .exploring .given .sized, ← s) (omega arith)
 
 -- ONE STATE at the first position
-module _ {t u v w : List ℕ} {states size q : ℕ} (a : Try-asks t u v w states size q) where
+module _ {wd : Width} {t u v w : List ℕ} {states size q : ℕ} (a : Try-asks wd t u v w states size q) where
   try-below : q < n-of t
   try-below = let b = a .inside in let e = a .given .counted in omega arith
 
@@ -217,7 +217,7 @@ module _ {t u v w : List ℕ} {states size q : ℕ} (a : Try-asks t u v w states
   try-reads = given-reads (a .given) try-below
 
   -- its node is the state's own number
-  try-inside : q < product t u v .size
+  try-inside : q < product-graph t u v .size
   try-inside =
       let z : 0 < positions u v = (let b = next-below u v (a .given .endless) 0 in omega arith) in
       let k = digits-lt {q = 0} {r = q} z try-below in
@@ -227,26 +227,26 @@ module _ {t u v w : List ℕ} {states size q : ℕ} (a : Try-asks t u v w states
   pub try-word : q / 16 < length w
   try-word = let k = try-inside in let l = a .search .long in omega arith
 
-  pub not-initial : {f : ℕ} → f ≡ flags-of t q → (f % 2 ≡ 1 → ⊥) → Tried (product t u v) w w q false
-  unfolding product is-initial
+  pub not-initial : {f : ℕ} → f ≡ flags-of t q → (f % 2 ≡ 1 → ⊥) → Try-says (product-graph t u v) w w q false
+  unfolding product-graph is-initial
   not-initial {f} e ne =
       tried (a .search) grows-same
       (λ s. absurd (ne (rw e (eqb-eq (flags-of t q % 2) 1 (and-r (ltb q (n-of t)) s)))))
 
-  pub not-white : {c : ℕ} → c ≡ colour w q → (c ≡ 0 → ⊥) → Tried (product t u v) w w q false
+  pub not-white : {c : ℕ} → c ≡ colour w q → (c ≡ 0 → ⊥) → Try-says (product-graph t u v) w w q false
   not-white is ne = tried (a .search) grows-same (λ s. omega arith)
 
   module _ {c : ℕ} (is-colour : c ≡ colour w q) (is-white : c ≡ 0) where
     white : colour w q ≡ 0
     white = sym is-colour ∙ is-white
 
-    pub try-enter : {first : ℕ} → first < 65536 → Enter-asks w size q first 0
-    try-enter few =
+    pub try-enter : {first : ℕ} → first < 2 ^ wd .bits → Enter-asks (wd .bits) w size q first 0
+    try-enter fits =
         let s = a .given .sized in
         let b = try-inside in
         record {
           white = white;
-          first-few = few;
+          first-fits = fits;
           inside = omega arith;
           room = omega arith;
           long = let k = a .search .long in omega arith;
@@ -254,62 +254,62 @@ module _ {t u v w : List ℕ} {states size q : ℕ} (a : Try-asks t u v w states
         }
 
     module _ {f : ℕ} (is-flags : f ≡ flags-of t q) (odd : f % 2 ≡ 1) {first : ℕ} (is-first : first ≡ head-of t q) {w1 : List ℕ} (is-entered : w1 ≡ entered size w q first 0) where
-      first-is : first ≡ product t u v .first q
-      unfolding product
+      first-is : first ≡ product-graph t u v .first q
+      unfolding product-graph
       first-is = is-first ∙ sym (ap (head-of t) (mod-eq-of-lt try-below))
 
-      try-enters : Enters (product t u v .size) w w1 q (product t u v .first q) 0
+      try-enters : Enters (product-graph t u v .size) w w1 q (product-graph t u v .first q) 0
       try-enters =
-          let e : w1 ≡ entered (product t u v .size) w q (product t u v .first q) 0 =
+          let e : w1 ≡ entered (product-graph t u v .size) w q (product-graph t u v .first q) 0 =
           rw (a .given .sized, first-is) at is-entered in
           rw e
-          (enters (product t u v .size) w q (product t u v .first q) 0 (a .search .long) try-inside (let b = try-inside in omega arith) white)
+          (enters (product-graph t u v .size) w q (product-graph t u v .first q) 0 (a .search .long) try-inside (let b = try-inside in omega arith) white)
 
-      try-starts : product t u v .starts q ≡ true
-      unfolding product is-initial
+      try-starts : product-graph t u v .starts q ≡ true
+      unfolding product-graph is-initial
       try-starts =
           let e : flags-of t q % 2 ≡ 1 = rw is-flags at odd in and-make (lt-ltb try-below) (eq-eqb e)
 
-      try-first : product t u v .first q ≤ product t u v .last
-      unfolding product
+      try-first : product-graph t u v .first q ≤ product-graph t u v .last
+      unfolding product-graph
       try-first = given-first (a .given) try-inside (rw (a .given .counted))
 
-      try-search : Search (product t u v) w1 1
+      try-search : Search (product-graph t u v) w1 1
       try-search =
           enter-keeps (given-bounded (a .given)) (a .search) try-inside white try-enters
           (record { start = q; begins = try-starts; way = stay }) try-first (λ i e. absurd (omega arith))
 
-      pub try-explore : Explore-asks t u v w1 states size 1
+      pub try-explore : Search-asks wd t u v w1 states size 1
       try-explore = record { given = a .given; search = try-search }
 
-      pub try-end : {w2 : List ℕ} {r : Bool} → Explored (product t u v) w1 w2 r → Tried (product t u v) w w2 q r
+      pub try-end : {w2 : List ℕ} {r : Bool} → Explored (product-graph t u v) w1 w2 r → Try-says (product-graph t u v) w w2 q r
       try-end (found f) = found f
       try-end (exhausted s g) =
           tried s (grows-grows (enter-grows (given-bounded (a .given)) (a .search) try-inside white try-enters) g)
           (λ e. g .stays q try-inside (let k = try-enters .here in omega arith))
 
 -- ALL STATES: the invariant
-pub record Trying (t u v w : List ℕ) (states size : ℕ) (w-now : List ℕ) (q : ℕ) : Type 0 where
-  pub given : Given t u v states size
+pub record Trying (wd : Width) (t u v w : List ℕ) (states size : ℕ) (w-now : List ℕ) (q : ℕ) : Type 0 where
+  pub given : Given wd t u v states size
   pub same : length w-now ≡ length w
-  pub search : Search (product t u v) w-now 0
-  pub tried : (p : ℕ) → p < q → product t u v .starts p ≡ true → 1 ≤ colour w-now p
+  pub search : Search (product-graph t u v) w-now 0
+  pub tried : (p : ℕ) → p < q → product-graph t u v .starts p ≡ true → 1 ≤ colour w-now p
 
-pub trying-start : {t u v w : List ℕ} {states size : ℕ} → Explore-asks t u v w states size 0 → Trying t u v w states size w 0
+pub trying-start : {wd : Width} {t u v w : List ℕ} {states size : ℕ} → Search-asks wd t u v w states size 0 → Trying wd t u v w states size w 0
 trying-start a =
     record { given = a .given; same = refl; search = a .search; tried = λ p l. absurd (omega arith) }
 
-module _ {t u v w : List ℕ} {states size : ℕ} {w1 : List ℕ} {q : ℕ} (h : Trying t u v w states size w1 q) where
-  pub trying-asks : q < states → Try-asks t u v w1 states size q
+module _ {wd : Width} {t u v w : List ℕ} {states size : ℕ} {w1 : List ℕ} {q : ℕ} (h : Trying wd t u v w states size w1 q) where
+  pub trying-asks : q < states → Try-asks wd t u v w1 states size q
   trying-asks l = record { given = h .given; search = h .search; inside = l }
 
-  pub trying-found : {w2 : List ℕ} {r : Bool} → Tried (product t u v) w1 w2 q r → r ≡ true → Searched (product t u v) true
+  pub trying-found : {w2 : List ℕ} {r : Bool} → Try-says (product-graph t u v) w1 w2 q r → r ≡ true → Searched (product-graph t u v) true
   trying-found (found f) e = found f
   trying-found (tried s g f) e = absurd (clash e refl)
 
   pub trying-turn :
-      {w2 : List ℕ} {r : Bool} → length w2 ≡ length w1 → Tried (product t u v) w1 w2 q r → r ≡ false →
-      Trying t u v w states size w2 (q + 1)
+      {w2 : List ℕ} {r : Bool} → length w2 ≡ length w1 → Try-says (product-graph t u v) w1 w2 q r → r ≡ false →
+      Trying wd t u v w states size w2 (q + 1)
   trying-turn same (found f) e = absurd (clash refl e)
   trying-turn same (tried s g f) e =
       record {
@@ -324,10 +324,10 @@ module _ {t u v w : List ℕ} {states size : ℕ} {w1 : List ℕ} {q : ℕ} (h :
             ];
       }
 
-  starts-below : states ≤ q → (p : ℕ) → product t u v .starts p ≡ true → p < q
-  unfolding product
+  starts-below : states ≤ q → (p : ℕ) → product-graph t u v .starts p ≡ true → p < q
+  unfolding product-graph
   starts-below l p b = let k = ltb-lt p (n-of t) (and-l (is-initial t p) b) in let e = h .given .counted in omega arith
 
-  pub trying-end : states ≤ q → Searched (product t u v) false
+  pub trying-end : states ≤ q → Searched (product-graph t u v) false
   trying-end l =
       nothing (none-found (given-bounded (h .given)) (h .search) (λ p b. h .tried p (starts-below l p b) b))

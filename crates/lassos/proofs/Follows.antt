@@ -10,8 +10,8 @@ use Rattle.basics.proofs.Booleans.{same-or}
 use Rattle.tables.specs.Access.{Record-asks}
 use Rattle.tables.specs.Table.{letter-of, target-of, next-of}
 use Rattle.lassos.specs.Product.{Chain-to, here, later}
-use Rattle.lassos.specs.Search.{colour, blacks, risen, reddened, Spread, Spread-says, met, spread}
-use Rattle.lassos.specs.Steps.{Raise-asks, Chain-asks, Follow-asks, Followed, other-letter, grey-met, black-met, other-met, Spread-asks}
+use Rattle.lassos.specs.Search.{colour, blacks, risen, reddened, Spread-over, Spread-says, met, spread}
+use Rattle.lassos.specs.Steps.{Width, Raise-asks, Chain-asks, Follow-asks, Follow-says, other-letter, grey-met, black-met, other-met, Spread-asks}
 use Rattle.lassos.proofs.Chains.{reads-edge, edge-target, chain-inside, next-asks}
 use Rattle.lassos.proofs.Colours.{colour-to, coloured-one, was-grey}
 use Rattle.lassos.proofs.Inner.{spread-start, spread-skip, spread-push}
@@ -19,7 +19,7 @@ use Rattle.lassos.proofs.Product.{chain-zero, chain-parts}
 use Rattle.lassos.proofs.Stores.{reddens}
 
 -- ONE EDGE, as it is read
-module _ {t w : List ℕ} {states size base r wait : ℕ} (a : Follow-asks t w states size base r wait) where
+module _ {wd : Width} {t w : List ℕ} {states size base r wait : ℕ} (a : Follow-asks wd t w states size base r wait) where
   pub follow-record : Record-asks t states r
   follow-record = reads-edge (a .edge)
 
@@ -38,46 +38,46 @@ module _ {t w : List ℕ} {states size base r wait : ℕ} (a : Follow-asks t w s
     follow-wait is e = let k = follow-room (sym is ∙ e) in let l = a .long in omega arith
 
 module _ (t : List ℕ) (size letter base r : ℕ) (w : List ℕ) (wait : ℕ) {x : ℕ} (p : x ≡ letter-of t r) where
-  pub follow-other : (x ≡ letter → ⊥) → Followed t size letter base r w w wait wait
+  pub follow-other : (x ≡ letter → ⊥) → Follow-says t size letter base r w w wait wait
   follow-other ne = other-letter (λ s. ne (p ∙ s)) refl refl
 
   module _ {y c : ℕ} (n : y ≡ target-of t r) (is : c ≡ colour w (base + y)) where
     target-colour : c ≡ colour w (base + target-of t r)
     target-colour = rw n at is
 
-    pub follow-grey : {w′ : List ℕ} → x ≡ letter → c ≡ 1 → Followed t size letter base r w w′ wait (size + 1)
+    pub follow-grey : {w′ : List ℕ} → x ≡ letter → c ≡ 1 → Follow-says t size letter base r w w′ wait (size + 1)
     follow-grey s e = grey-met (sym p ∙ s) (sym target-colour ∙ e) refl
 
     pub follow-black :
         {w1 : List ℕ} → x ≡ letter → c ≡ 2 → w1 ≡ risen w (base + y) 1 →
-        Followed t size letter base r w (set w1 (3 * size + wait) (base + y)) wait (wait + 1)
+        Follow-says t size letter base r w (set w1 (3 * size + wait) (base + y)) wait (wait + 1)
     unfolding reddened
     follow-black s e up = black-met (sym p ∙ s) (sym target-colour ∙ e) (rw (up, n)) refl
 
-    pub follow-rest : (c ≡ 1 → ⊥) → (c ≡ 2 → ⊥) → Followed t size letter base r w w wait wait
+    pub follow-rest : (c ≡ 1 → ⊥) → (c ≡ 2 → ⊥) → Follow-says t size letter base r w w wait wait
     follow-rest f g = other-met (λ e. f (target-colour ∙ e)) (λ e. g (target-colour ∙ e)) refl refl
 
 -- ALL EDGES OF A CHAIN: the invariant of the walk
-pub record Spreading (t w : List ℕ) (states size letter base first wait : ℕ) (w-now : List ℕ) (r count : ℕ) : Type 0 where
-  pub asks : Spread-asks t w states size base first wait
-  pub chain : Chain-asks t states size base r
+pub record Spreading (wd : Width) (t w : List ℕ) (states size letter base first wait : ℕ) (w-now : List ℕ) (r count : ℕ) : Type 0 where
+  pub asks : Spread-asks wd t w states size base first wait
+  pub chain : Chain-asks wd t states size base r
   pub same : length w-now ≡ length w
-  pub spread : Spread size (λ y. Chain-to t letter base y first) (λ y. Chain-to t letter base y r) w w-now wait count
+  pub spread : Spread-over size (λ y. Chain-to t letter base y first) (λ y. Chain-to t letter base y r) w w-now wait count
 
 pub spreading-start :
-    {t w : List ℕ} {states size base first wait : ℕ} (letter : ℕ) → Spread-asks t w states size base first wait →
-    Spreading t w states size letter base first wait w first wait
+    {wd : Width} {t w : List ℕ} {states size base first wait : ℕ} (letter : ℕ) → Spread-asks wd t w states size base first wait →
+    Spreading wd t w states size letter base first wait w first wait
 spreading-start letter a = record { asks = a; chain = a .chain; same = refl; spread = spread-start }
 
-module _ {t w : List ℕ} {states size letter base first wait : ℕ} {w1 : List ℕ} {r count : ℕ}
-    (h : Spreading t w states size letter base first wait w1 r count) where
+module _ {wd : Width} {t w : List ℕ} {states size letter base first wait : ℕ} {w1 : List ℕ} {r count : ℕ}
+    (h : Spreading wd t w states size letter base first wait w1 r count) where
   below : (y : ℕ) → Chain-to t letter base y first → y < size
   below y = chain-inside (h .asks .chain) letter y
 
   still-room : count + blacks size w1 ≤ size
   still-room = let k = h .spread .room in let j = h .asks .room in omega arith
 
-  pub spreading-follow : (r ≡ 0 → ⊥) → Follow-asks t w1 states size base r count
+  pub spreading-follow : (r ≡ 0 → ⊥) → Follow-asks wd t w1 states size base r count
   spreading-follow ne =
       record {
         edge = record { chain = h .chain; from-one = omega arith };
@@ -91,7 +91,7 @@ module _ {t w : List ℕ} {states size letter base first wait : ℕ} {w1 : List 
 
   -- a grey node is met
   pub spreading-met :
-      {w2 : List ℕ} {k : ℕ} → (r ≡ 0 → ⊥) → Followed t size letter base r w1 w2 count k → size < k →
+      {w2 : List ℕ} {k : ℕ} → (r ≡ 0 → ⊥) → Follow-says t size letter base r w1 w2 count k → size < k →
       Spread-says size (λ y. Chain-to t letter base y first) w w2 wait k
   spreading-met ne (other-letter f e n) far = absurd (let j = still-room in omega arith)
   spreading-met ne (grey-met p g n) far =
@@ -118,7 +118,7 @@ module _ {t w : List ℕ} {states size letter base first wait : ℕ} {w1 : List 
 
     passed-by :
         ((y : ℕ) → Chain-to t letter base y r → Chain-to t letter base y next ⊎ ((colour w1 y ≡ 0) ⊎ (colour w1 y ≡ 3))) →
-        Spreading t w states size letter base first wait w1 next count
+        Spreading wd t w states size letter base first wait w1 next count
     passed-by rest =
         record {
           asks = h .asks;
@@ -128,8 +128,8 @@ module _ {t w : List ℕ} {states size letter base first wait : ℕ} {w1 : List 
         }
 
     pub spreading-turn :
-        {w2 : List ℕ} {k : ℕ} → length w2 ≡ length w1 → Followed t size letter base r w1 w2 count k → k ≤ size →
-        Spreading t w states size letter base first wait w2 next k
+        {w2 : List ℕ} {k : ℕ} → length w2 ≡ length w1 → Follow-says t size letter base r w1 w2 count k → k ≤ size →
+        Spreading wd t w states size letter base first wait w2 next k
     spreading-turn same (other-letter f e n) fits =
         rw (e, n)
         (passed-by (λ y l. elim (next-rest y l) [ inl s ↦ absurd (f (s .0)) | inr s ↦ inl s ]))

@@ -4,59 +4,49 @@ use mathlib.Core.Path.{_≡_, refl, ap}
 use mathlib.Core.List.{List}
 use Prim.Native.Nat.{ℕ, suc, _+_, _*_, _/_, _%_, _≤_, _<_}
 use native.Mathlib.Omega.{arith}
-use native.Mathlib.Nat.{mod-lt, mul-le-mul, mul-le-mul-right, suc-mul}
+use native.Mathlib.Nat.{mod-lt, mul-le-mul-right, suc-mul}
 use lib.Arith.{digits-mod}
-use lib.ListN.{length}
 use Rattle.automata.specs.Lasso.{positions, next-position}
 use Rattle.automata.proofs.Positions.{next-below}
 use Rattle.tables.specs.Access.{State-asks}
-use Rattle.tables.specs.Table.{n-of, m-of, head-of, wide-range}
+use Rattle.tables.specs.Table.{n-of, m-of, head-of}
 use Rattle.tables.proofs.Laws.{Valid, valid, state-asked}
-use Rattle.lassos.specs.Graph.{Leads, Bounded}
-use Rattle.lassos.specs.Product.{Chain-to, node-letter, node-base, product}
+use Rattle.lassos.specs.Graph.{Arc, Bounded}
+use Rattle.lassos.specs.Product.{Chain-to, node-letter, node-base, product-graph}
 use Rattle.lassos.specs.Search.{Spread-says}
-use Rattle.lassos.specs.Steps.{Node-asks, Chain-asks, Given}
+use Rattle.lassos.specs.Steps.{Width, Few, Node-asks, Chain-asks, Given}
 use Rattle.lassos.proofs.Product.{product-bounded}
 
-pub size-is : (t u v : List ℕ) → product t u v .size ≡ positions u v * n-of t
-unfolding product
+pub size-is : (t u v : List ℕ) → product-graph t u v .size ≡ positions u v * n-of t
+unfolding product-graph
 size-is t u v = refl
 
-module _ {t u v : List ℕ} {states size : ℕ} (g : Given t u v states size) where
-  pub given-valid : Valid wide-range t
-  given-valid = valid wide-range t (g .valid)
+module _ {wd : Width} {t u v : List ℕ} {states size : ℕ} (g : Given wd t u v states size) where
+  pub given-valid : Valid (wd .range) t
+  given-valid = valid (wd .range) t (g .valid)
 
-  pub given-bounded : Bounded (product t u v)
+  pub given-bounded : Bounded (product-graph t u v)
   given-bounded = product-bounded given-valid u v (g .endless)
-
-  given-few : n-of t < 65536
-  unfolding wide-range
-  given-few = let k = given-valid .states-to in omega arith
 
   pub given-some : 1 ≤ n-of t
   given-some = given-valid .states-from
 
   -- states are read from the table
   pub given-reads : {q : ℕ} → q < n-of t → State-asks t q
-  given-reads l = state-asked wide-range t (g .valid) l
+  given-reads l = state-asked (wd .range) t (g .valid) l
 
-  -- fewer than 2^30 nodes
-  pub given-small : product t u v .size < 1073741824
-  unfolding positions
-  given-small =
-      let a : length u + length v ≤ 8192 = (let k = g .prefix-short in let j = g .loop-short in omega arith) in
-      let b : n-of t ≤ 65535 = (let k = given-few in omega arith) in
-      let s = size-is t u v in
-      let m = mul-le-mul a b in omega arith
+  -- its nodes can be counted through in a work word
+  pub given-small : Few (wd .bits) (product-graph t u v .size)
+  given-small = rw (← g .sized) (g .small)
 
-  module _ {x : ℕ} (l : x < product t u v .size) where
+  module _ {x : ℕ} (l : x < product-graph t u v .size) where
     pub given-node : Node-asks u v states x
     given-node =
         rw (g .counted)
         (record {
           some = given-some;
           inside = let s = size-is t u v in omega arith;
-          small = let s = size-is t u v in let k = given-small in omega arith;
+          small = let s = size-is t u v in let k = g .machine in let q = g .sized in omega arith;
         })
 
     pub given-state : State-asks t (x % states)
@@ -74,19 +64,19 @@ module _ {t u v : List ℕ} {states size : ℕ} (g : Given t u v states size) wh
           let s = size-is t u v in
           let q = g .sized in omega arith
 
-      pub given-chain : {r : ℕ} → r ≤ m-of t → Chain-asks t states size base r
+      pub given-chain : {r : ℕ} → r ≤ m-of t → Chain-asks wd t states size base r
       given-chain b =
           record {
             valid = g .valid;
             counted = g .counted;
             number-to = b;
             fits = base-fits;
-            small = let k = base-fits in let j = given-small in let q = g .sized in omega arith;
+            small = let k = base-fits in let j = g .small in omega arith;
           }
 
       -- the first record of a node at the next position is that of its state
-      pub given-head : {q : ℕ} → q < n-of t → product t u v .first (base + q) ≡ head-of t q
-      unfolding product node-base
+      pub given-head : {q : ℕ} → q < n-of t → product-graph t u v .first (base + q) ≡ head-of t q
+      unfolding product-graph node-base
       given-head b =
           let p = next-position u v (x / n-of t) in
           let e : base ≡ p * n-of t = rw (g .counted) at is-base in rw e (ap (head-of t) (digits-mod p b))
@@ -94,8 +84,8 @@ module _ {t u v : List ℕ} {states size : ℕ} (g : Given t u v states size) wh
       pub given-spread :
           {w w′ : List ℕ} {a r first : ℕ} → first ≡ head-of t (x % states) →
           Spread-says size (λ y. Chain-to t letter base y first) w w′ a r →
-          Spread-says (product t u v .size) (Leads (product t u v) x) w w′ a r
-      unfolding product
+          Spread-says (product-graph t u v .size) (Arc (product-graph t u v) x) w w′ a r
+      unfolding product-graph
       given-spread is-first h = rw (g .sized, is-letter, is-base, is-first, g .counted) at h
 
     pub given-first : {first : ℕ} → first ≡ head-of t (x % states) → first ≤ m-of t

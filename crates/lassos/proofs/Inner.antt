@@ -8,13 +8,13 @@ use Prim.Native.Nat.{ℕ, suc, _+_, _*_, _≤_, _<_}
 use native.Mathlib.Omega.{arith}
 use lib.ListN.{length}
 use Rattle.basics.proofs.Booleans.{same-or, below-or}
-use Rattle.lassos.specs.Graph.{Graph, Leads, Bounded, Way, stay, onward}
-use Rattle.lassos.specs.Search.{colour, waiting, blacks, Redder, Red-closed, Inner-asks, Inner-says, Spread, None, Waiting, Since, Drained, met, none}
+use Rattle.lassos.specs.Graph.{Graph, Arc, Bounded, Way, stay, onward}
+use Rattle.lassos.specs.Search.{colour, waiting, blacks, Redder, Red-closed, Inner-asks, Inner-says, Spread-over, None, Waiting, Since, Drained, met, none}
 use Rattle.lassos.proofs.Colours.{coloured-le, coloured-less, redder-same, redder-redder, stays-red, was-grey, was-white, was-black, was-finished, stays-visited, red-or-new}
 use Rattle.lassos.proofs.Stores.{Reddens}
 
 -- ONE NODE'S EDGES
-pub spread-start : {n : ℕ} {To : ℕ → Type 0} {w : List ℕ} {a : ℕ} → Spread n To To w w a a
+pub spread-start : {n : ℕ} {To : ℕ → Type 0} {w : List ℕ} {a : ℕ} → Spread-over n To To w w a a
 spread-start =
     record {
       redder = redder-same;
@@ -30,11 +30,11 @@ spread-start =
       passed = λ y t. inl t;
     }
 
-module _ {n : ℕ} {To Left Left′ : ℕ → Type 0} {w w1 : List ℕ} {a b : ℕ} (h : Spread n To Left w w1 a b)
+module _ {n : ℕ} {To Left Left′ : ℕ → Type 0} {w w1 : List ℕ} {a b : ℕ} (h : Spread-over n To Left w w1 a b)
     (below : (y : ℕ) → To y → y < n) (fewer : (y : ℕ) → Left′ y → Left y) where
   -- targets that are white or red are passed by
   pub spread-skip :
-      ((y : ℕ) → Left y → Left′ y ⊎ ((colour w1 y ≡ 0) ⊎ (colour w1 y ≡ 3))) → Spread n To Left′ w w1 a b
+      ((y : ℕ) → Left y → Left′ y ⊎ ((colour w1 y ≡ 0) ⊎ (colour w1 y ≡ 3))) → Spread-over n To Left′ w w1 a b
   spread-skip rest =
       record {
         redder = h .redder;
@@ -83,7 +83,7 @@ module _ {n : ℕ} {To Left Left′ : ℕ → Type 0} {w w1 : List ℕ} {a b : �
           | inr ne ↦ let lt : i < b = omega arith in inr (lt, e .before i lt)
         ]
 
-    pub spread-push : Spread n To Left′ w w2 a (suc b)
+    pub spread-push : Spread-over n To Left′ w w2 a (suc b)
     spread-push =
         record {
           redder = redder-redder (h .redder) push-redder;
@@ -125,7 +125,7 @@ module _ {n : ℕ} {To Left Left′ : ℕ → Type 0} {w w1 : List ℕ} {a b : �
 module _ {g : Graph} (closed : Bounded g) where
   -- once its edges were followed, all targets of a node are red
   spread-reds :
-      {To : ℕ → Type 0} {w w1 : List ℕ} {a b : ℕ} → Spread (g .size) To None w w1 a b → ((y : ℕ) → To y → 1 ≤ colour w y) →
+      {To : ℕ → Type 0} {w w1 : List ℕ} {a b : ℕ} → Spread-over (g .size) To None w w1 a b → ((y : ℕ) → To y → 1 ≤ colour w y) →
       (y : ℕ) → To y → colour w1 y ≡ 3
   spread-reds {w = w} {w1 = w1} h visited y t =
       elim (h .passed y t) [
@@ -135,7 +135,7 @@ module _ {g : Graph} (closed : Bounded g) where
 
   -- what the inner search begins with
   module _ {s : ℕ} {w w1 : List ℕ} {b : ℕ} (asks : Inner-asks g s w) (same : length w1 ≡ length w)
-      (h : Spread (g .size) (Leads g s) None w w1 0 b) where
+      (h : Spread-over (g .size) (Arc g s) None w w1 0 b) where
     pub waiting-start : Waiting g w1 b
     waiting-start =
         record {
@@ -172,10 +172,10 @@ module _ {g : Graph} (closed : Bounded g) where
 
   -- one waiting node less, and its black targets more
   module _ {w w1 : List ℕ} {k b : ℕ} (q : Waiting g w (suc k)) (same : length w1 ≡ length w)
-      (h : Spread (g .size) (Leads g (waiting (g .size) w k)) None w w1 k b) where
+      (h : Spread-over (g .size) (Arc g (waiting (g .size) w k)) None w w1 k b) where
     red-again :
         (x : ℕ) → x < g .size → colour w x ≡ 3 →
-        ((i : ℕ) × (i < b) × (waiting (g .size) w1 i ≡ x)) ⊎ ((y : ℕ) → Leads g x y → colour w1 y ≡ 3)
+        ((i : ℕ) × (i < b) × (waiting (g .size) w1 i ≡ x)) ⊎ ((y : ℕ) → Arc g x y → colour w1 y ≡ 3)
     red-again x l c =
         elim (q .red x l c) [
           | inl r ↦
@@ -245,7 +245,7 @@ since-start = record { redder = redder-same; origin = λ i l. (i, l, stay) }
 
 -- a grey node that the last waiting node leads to
 pub drained-met :
-    {g : Graph} {w0 w w1 : List ℕ} {b0 k : ℕ} → Since g w0 b0 w (suc k) → (y : ℕ) → Leads g (waiting (g .size) w k) y →
+    {g : Graph} {w0 w w1 : List ℕ} {b0 k : ℕ} → Since g w0 b0 w (suc k) → (y : ℕ) → Arc g (waiting (g .size) w k) y →
     y < g .size → colour w y ≡ 1 → Drained g w0 w1 b0 true
 drained-met {k = k} s y t l c =
     let o = s .origin k (omega arith) in met (o .0) y (o .1) (onward y (o .2) t) l (was-grey (s .redder) y l c)

@@ -8,7 +8,7 @@ use Prim.Native.Nat.{ℕ, zero, suc, _≤_, _<_}
 use native.Mathlib.Omega.{arith}
 use lib.ListN.{length}
 use Rattle.basics.proofs.Booleans.{clash, same-or}
-use Rattle.lassos.specs.Graph.{Graph, Leads, Bounded, Way, stay, onward, Reached, Cycle, Found}
+use Rattle.lassos.specs.Graph.{Graph, Arc, Bounded, Way, stay, onward, Node-reached, Cycle, Found}
 use Rattle.lassos.specs.Search.{colour, stacked, cursor, whites, Search, Grows, Redder, Red-closed}
 use Rattle.lassos.proofs.Colours.{grows-grows, coloured-mono, coloured-less, stays-visited, stays-grey, was-grey, was-white, was-visited, was-finished}
 use Rattle.lassos.proofs.Stores.{Recolours, Enters, Advances}
@@ -44,8 +44,8 @@ module _ {g : Graph} (closed : Bounded g) where
         (λ y b z. elim (enter-colour y b) [ inl s ↦ rw s white | inr s ↦ sym s ∙ z ])
         x l white (λ z. let k = e .here in omega arith)
 
-    module _ (found : Reached g x) (small : g .first x ≤ g .last)
-        (link : (i : ℕ) → suc i ≡ d → Leads g (stacked (g .size) w i) x) where
+    module _ (found : Node-reached g x) (small : g .first x ≤ g .last)
+        (link : (i : ℕ) → suc i ≡ d → Arc g (stacked (g .size) w i) x) where
       -- nodes of the stack are grey, so that they are others
       other-stacked : (i : ℕ) → i < d → stacked (g .size) w i ≡ x → ⊥
       other-stacked i b s = let k = h .grey i b in let z : colour w x ≡ 1 = rw s at k in omega arith
@@ -60,7 +60,7 @@ module _ {g : Graph} (closed : Bounded g) where
             | inr ne ↦ let lt : i < d = omega arith in inr (lt, e .below i lt)
           ]
 
-      enter-linked : (i : ℕ) → suc i < suc d → Leads g (stacked (g .size) w′ i) (stacked (g .size) w′ (suc i))
+      enter-linked : (i : ℕ) → suc i < suc d → Arc g (stacked (g .size) w′ i) (stacked (g .size) w′ (suc i))
       enter-linked i b =
           let lt : i < d = omega arith in
           elim (enter-stack (suc i) b) [
@@ -85,13 +85,13 @@ module _ {g : Graph} (closed : Bounded g) where
           ]
 
       enter-ahead :
-          (i z : ℕ) → i < suc d → Leads g (stacked (g .size) w′ i) z →
+          (i z : ℕ) → i < suc d → Arc g (stacked (g .size) w′ i) z →
           (1 ≤ colour w′ z) ⊎ g .Ahead (stacked (g .size) w′ i) (cursor (g .size) w′ i) z
       enter-ahead i z b t =
           elim (enter-stack i b) [
             | inl s ↦ let first : cursor (g .size) w′ i ≡ g .first x = rw (s .0) (e .at-first) in inr (rw (s .1, first) (rw (s .1) at t))
             | inr s ↦
-                let old : Leads g (stacked (g .size) w i) z = rw (s .1) at t in
+                let old : Arc g (stacked (g .size) w i) z = rw (s .1) at t in
                 elim (h .ahead i z (s .0) old) [
                   | inl v ↦ inl (enter-grows .stays z (closed .edge (stacked (g .size) w i) z (h .inside i (s .0)) old) v)
                   | inr v ↦ inr (rw (s .1, e .cursors i (s .0)) v)
@@ -101,7 +101,7 @@ module _ {g : Graph} (closed : Bounded g) where
       enter-old : (y : ℕ) → y < g .size → 2 ≤ colour w′ y → colour w′ y ≡ colour w y
       enter-old y b o = e .others y b (λ s. let k = e .here in let z : 2 ≤ colour w′ x = rw s at o in omega arith)
 
-      enter-red : (y z : ℕ) → y < g .size → colour w′ y ≡ 3 → Leads g y z → colour w′ z ≡ 3
+      enter-red : (y z : ℕ) → y < g .size → colour w′ y ≡ 3 → Arc g y z → colour w′ z ≡ 3
       enter-red y z b o t =
           let k = h .red y z b (sym (enter-old y b (omega arith)) ∙ o) t in
           e .others z (closed .edge y z b t) (λ s. let q : colour w x ≡ 3 = rw s at k in omega arith) ∙ k
@@ -178,7 +178,7 @@ module _ {g : Graph} (closed : Bounded g) where
               ]));
           ahead =
               λ i z b t.
-              let t′ : Leads g (stacked (g .size) w i) z = rw (e .stack i (omega arith)) at t in
+              let t′ : Arc g (stacked (g .size) w i) z = rw (e .stack i (omega arith)) at t in
               let lift : 1 ≤ colour w z → 1 ≤ colour w′ z =
               advance-grows .stays z (closed .edge (stacked (g .size) w i) z (h .inside i b) t′) in
               rw (e .stack i (omega arith))
@@ -224,8 +224,8 @@ module _ {g : Graph} (closed : Bounded g) where
     leave-other : (i : ℕ) → i < d → stacked (g .size) w i ≡ stacked (g .size) w d → ⊥
     leave-other i b = h .distinct i d b (omega arith)
 
-    module _ (done : (y : ℕ) → Leads g (stacked (g .size) w d) y → 1 ≤ colour w y)
-        (reds : c ≡ 3 → (y : ℕ) → Leads g (stacked (g .size) w d) y → colour w y ≡ 3)
+    module _ (done : (y : ℕ) → Arc g (stacked (g .size) w d) y → 1 ≤ colour w y)
+        (reds : c ≡ 3 → (y : ℕ) → Arc g (stacked (g .size) w d) y → colour w y ≡ 3)
         (fruitless : g .accepts (stacked (g .size) w d) ≡ true → Cycle g (stacked (g .size) w d) → ⊥) where
       leave-found : (y : ℕ) → y < g .size → colour w′ y ≡ 1 → (i : ℕ) × (i < d) × (stacked (g .size) w′ i ≡ y)
       leave-found y b k =
@@ -236,7 +236,7 @@ module _ {g : Graph} (closed : Bounded g) where
           let lt : r .0 < d = (let t = r .1 in omega arith) in
           (r .0, lt, e .stack (r .0) (let k = h .room in omega arith) ∙ r .2)
 
-      leave-red : (y z : ℕ) → y < g .size → colour w′ y ≡ 3 → Leads g y z → colour w′ z ≡ 3
+      leave-red : (y z : ℕ) → y < g .size → colour w′ y ≡ 3 → Arc g y z → colour w′ z ≡ 3
       leave-red y z b o t =
           let grey = h .grey d (omega arith) in
           let keep : colour w z ≡ 3 → colour w′ z ≡ 3 =
@@ -271,7 +271,7 @@ module _ {g : Graph} (closed : Bounded g) where
                 (h .on-chain i z (omega arith) (rw (e .stack i (omega arith), e .cursors i (omega arith)) at k));
             ahead =
                 λ i z b t.
-                let t′ : Leads g (stacked (g .size) w i) z = rw (e .stack i (omega arith)) at t in
+                let t′ : Arc g (stacked (g .size) w i) z = rw (e .stack i (omega arith)) at t in
                 elim (h .ahead i z (omega arith) t′) [
                   | inl v ↦
                       inl (leave-grows .stays z (closed .edge (stacked (g .size) w i) z (h .inside i (omega arith)) t′) v)
@@ -320,7 +320,7 @@ module _ {g : Graph} (closed : Bounded g) where
               (h .on-chain i z b (rw (r .stack i (omega arith), r .cursors i (omega arith)) at k));
           ahead =
               λ i z b t.
-              let t′ : Leads g (stacked (g .size) w i) z = rw (r .stack i (omega arith)) at t in
+              let t′ : Arc g (stacked (g .size) w i) z = rw (r .stack i (omega arith)) at t in
               elim (h .ahead i z b t′) [
                 | inl v ↦ inl (redder-grows .stays z (closed .edge (stacked (g .size) w i) z (h .inside i b) t′) v)
                 | inr v ↦ inr (rw (r .stack i (omega arith), r .cursors i (omega arith)) v)
@@ -339,7 +339,7 @@ module _ {g : Graph} (closed : Bounded g) where
 
   -- so a node that is not red, and whose targets are red, lies on no cycle
   pub red-no-cycle :
-      {w : List ℕ} {x : ℕ} → Red-closed g w → x < g .size → colour w x ≡ 1 → ((y : ℕ) → Leads g x y → colour w y ≡ 3) →
+      {w : List ℕ} {x : ℕ} → Red-closed g w → x < g .size → colour w x ≡ 1 → ((y : ℕ) → Arc g x y → colour w y ≡ 3) →
       Cycle g x → ⊥
   red-no-cycle {w} {x} c l k reds q =
       let s = red-way c (closed .edge x (q .behind) l (q .leaves)) (reds (q .behind) (q .leaves)) (q .returns) in
@@ -347,7 +347,7 @@ module _ {g : Graph} (closed : Bounded g) where
 
   -- THE TOP, FINISHED: black where it does not accept
   pub black-leaves :
-      {w w′ : List ℕ} {d x : ℕ} → Search g w (suc d) → x ≡ stacked (g .size) w d → ((y : ℕ) → Leads g x y → 1 ≤ colour w y) →
+      {w w′ : List ℕ} {d x : ℕ} → Search g w (suc d) → x ≡ stacked (g .size) w d → ((y : ℕ) → Arc g x y → 1 ≤ colour w y) →
       g .accepts x ≡ false → Recolours (g .size) w w′ x 2 → Left-off g w w′ d
   black-leaves {w} {w′} {d} {x} h top done rejects e =
       let e′ : Recolours (g .size) w w′ (stacked (g .size) w d) 2 = rw top at e in
@@ -362,7 +362,7 @@ module _ {g : Graph} (closed : Bounded g) where
   -- red after an inner search that met no grey node: then all its targets are red, and it lies on no cycle
   pub red-leaves :
       {w w1 w′ : List ℕ} {d x : ℕ} → Search g w (suc d) → x ≡ stacked (g .size) w d → length w1 ≡ length w → Redder (g .size) w w1 → Red-closed g w1 →
-      ((y : ℕ) → Leads g x y → colour w1 y ≡ 3) → Recolours (g .size) w1 w′ x 3 → Left-off g w w′ d
+      ((y : ℕ) → Arc g x y → colour w1 y ≡ 3) → Recolours (g .size) w1 w′ x 3 → Left-off g w w′ d
   red-leaves {w} {w1} {w′} {d} {x} h top same r c reds e =
       let fits : d < g .size = (let k = h .room in omega arith) in
       let top1 : x ≡ stacked (g .size) w1 d = top ∙ sym (r .stack d fits) in
@@ -371,7 +371,7 @@ module _ {g : Graph} (closed : Bounded g) where
       let grey : colour w1 x ≡ 1 = rw top1 (h1 .grey d (omega arith)) in
       let inside : x < g .size = rw top1 (h1 .inside d (omega arith)) in
       let no-cycle : Cycle g x → ⊥ = red-no-cycle c inside grey reds in
-      let visited : (y : ℕ) → Leads g x y → 1 ≤ colour w1 y = λ y t. (let k = reds y t in omega arith) in
+      let visited : (y : ℕ) → Arc g x y → 1 ≤ colour w1 y = λ y t. (let k = reds y t in omega arith) in
       record {
         search =
             leave-keeps h1 e′ (omega arith) (rw top1 at visited) (λ z. rw top1 at reds)
@@ -391,7 +391,7 @@ module _ {g : Graph} (closed : Bounded g) where
       ]
 
   pub grey-cycle :
-      {w : List ℕ} {d : ℕ} → Search g w (suc d) → (y z : ℕ) → Leads g (stacked (g .size) w d) z → Way g z y → y < g .size →
+      {w : List ℕ} {d : ℕ} → Search g w (suc d) → (y z : ℕ) → Arc g (stacked (g .size) w d) z → Way g z y → y < g .size →
       colour w y ≡ 1 → g .accepts (stacked (g .size) w d) ≡ true → Found g
   grey-cycle {w} {d} h y z t p b k a =
       let s = h .on-stack y b k in

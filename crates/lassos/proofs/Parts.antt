@@ -1,5 +1,5 @@
 -- Laws of refusals 13 to 16: what each test finds, and what holds of a table and a lasso that none refuses. Assumes nothing.
-use mathlib.Core.Path.{_≡_, sym, _∙_}
+use mathlib.Core.Path.{_≡_, _∙_}
 use mathlib.Core.Bool.{Bool, true, false, _&&_, _||_, not}
 use mathlib.Core.List.{List}
 use Prim.Native.Nat.{ℕ, _+_, _*_, _^_, _≤_, _<_}
@@ -12,8 +12,8 @@ use Rattle.basics.proofs.Booleans.{eq-eqb, eqb-ne, ne-eqb, lt-ltb, ge-ltb, ltb-
 use Rattle.basics.proofs.Refusing.{passed, or-else-none}
 use Rattle.basics.proofs.Scans.{scan-fails}
 use Rattle.automata.specs.Lasso.{all-below}
-use Rattle.tables.specs.Table.{n-of, k-of, wide-range, table-refusal}
-use Rattle.lassos.specs.Refusals.{parts-refusal, lasso-refusal}
+use Rattle.tables.specs.Table.{Limits, n-of, k-of, table-refusal}
+use Rattle.lassos.specs.Refusals.{longest-part, parts-refusal, lasso-refusal}
 
 -- A LETTER of a part that is none
 pub not-below : (k : ℕ) (u : List ℕ) (i : ℕ) → i < length u → k ≤ getD u i 0 → false ≡ all-below k u
@@ -27,16 +27,16 @@ module _ (n k : ℕ) (u v : List ℕ) (w : ℕ) where
   parts-13 e = let a = eq-eqb e in cc
 
   module _ (some : length v ≡ 0 → ⊥) where
-    pub parts-14-prefix : 4096 < length u → 14 ≡ parts-refusal n k u v w
+    pub parts-14-prefix : longest-part < length u → 14 ≡ parts-refusal n k u v w
     unfolding parts-refusal
     parts-14-prefix l = let a = ne-eqb (length v) 0 some in let b = lt-ltb l in cc
 
-    module _ (short : length u ≤ 4096) where
-      pub parts-14-loop : 4096 < length v → 14 ≡ parts-refusal n k u v w
+    module _ (short : length u ≤ longest-part) where
+      pub parts-14-loop : longest-part < length v → 14 ≡ parts-refusal n k u v w
       unfolding parts-refusal
       parts-14-loop l = let a = ne-eqb (length v) 0 some in let b = ge-ltb short in let c = lt-ltb l in cc
 
-      module _ (short′ : length v ≤ 4096) {p : Bool} (is-p : p ≡ all-below k u) where
+      module _ (short′ : length v ≤ longest-part) {p : Bool} (is-p : p ≡ all-below k u) where
         pub parts-15-prefix : p ≡ false → 15 ≡ parts-refusal n k u v w
         unfolding parts-refusal
         parts-15-prefix e = let a = ne-eqb (length v) 0 some in let b = ge-ltb short in let c = ge-ltb short′ in cc
@@ -60,52 +60,51 @@ module _ (n k : ℕ) (u v : List ℕ) (w : ℕ) where
                 let b = ge-ltb short in let c = ge-ltb short′ in let d = ge-ltb l in cc
 
 -- the words that are needed are a number of 64 bits
-pub needed-fits : (n a b : ℕ) → n < 65536 → a ≤ 4096 → b ≤ 4096 → 4 * n * (a + b) < 2 ^ 64
+pub needed-fits : (n a b : ℕ) → n < 2 ^ 32 → a ≤ longest-part → b ≤ longest-part → 4 * n * (a + b) < 2 ^ 64
 needed-fits n a b l p q =
-    let x : 4 * n ≤ 262140 = omega arith in
-    let y : a + b ≤ 8192 = omega arith in let m = mul-le-mul x y in omega arith
+    let x : 4 * n ≤ 4 * 2 ^ 32 = omega arith in
+    let y : a + b ≤ 2 * longest-part = omega arith in let m = mul-le-mul x y in omega arith
 
--- TABLE FIRST
-pub table-first :
-    (t u v : List ℕ) (w : ℕ) {r : ℕ} → r ≡ table-refusal wide-range t → (r ≡ 0 → ⊥) → r ≡ lasso-refusal t u v w
-unfolding lasso-refusal or-else
-table-first t u v w {r} e ne =
-    let a : eqb (table-refusal wide-range t) 0 ≡ false = ne-eqb (table-refusal wide-range t) 0 (λ z. ne (e ∙ z)) in cc
+-- TABLE FIRST, in a range
+module _ (range : Limits) (t u v : List ℕ) (w : ℕ) where
+  pub table-first : {x : ℕ} → x ≡ table-refusal range t → (x ≡ 0 → ⊥) → x ≡ lasso-refusal range t u v w
+  unfolding lasso-refusal or-else
+  table-first e ne =
+      let a : eqb (table-refusal range t) 0 ≡ false = ne-eqb (table-refusal range t) 0 (λ z. ne (e ∙ z)) in cc
 
-pub parts-then :
-    (t u v : List ℕ) (w : ℕ) {r n k s : ℕ} → r ≡ table-refusal wide-range t → r ≡ 0 → n ≡ n-of t → k ≡ k-of t →
-    s ≡ parts-refusal n k u v w → s ≡ lasso-refusal t u v w
-unfolding lasso-refusal or-else
-parts-then t u v w e z a b s = let c : eqb (table-refusal wide-range t) 0 ≡ true = eq-eqb (sym e ∙ z) in cc
+  pub parts-then :
+      {n k x : ℕ} → table-refusal range t ≡ 0 → n ≡ n-of t → k ≡ k-of t → x ≡ parts-refusal n k u v w → x ≡ lasso-refusal range t u v w
+  unfolding lasso-refusal or-else
+  parts-then z a b e = let c : eqb (table-refusal range t) 0 ≡ true = eq-eqb z in cc
 
 -- WHAT IS NOT REFUSED
-pub record Accepted (t u v : List ℕ) (w : ℕ) : Type 0 where
-  pub valid : table-refusal wide-range t ≡ 0
+pub record Accepted (range : Limits) (t u v : List ℕ) (w : ℕ) : Type 0 where
+  pub valid : table-refusal range t ≡ 0
   pub endless : 1 ≤ length v
-  pub prefix-short : length u ≤ 4096
-  pub loop-short : length v ≤ 4096
+  pub prefix-short : length u ≤ longest-part
+  pub loop-short : length v ≤ longest-part
   pub room : 4 * n-of t * (length u + length v) ≤ w
 
 parts-past :
     (n k : ℕ) (u v : List ℕ) (w : ℕ) → parts-refusal n k u v w ≡ 0 →
-    (1 ≤ length v) × (length u ≤ 4096) × (length v ≤ 4096) × (4 * n * (length u + length v) ≤ w)
+    (1 ≤ length v) × (length u ≤ longest-part) × (length v ≤ longest-part) × (4 * n * (length u + length v) ≤ w)
 unfolding parts-refusal
 parts-past n k u v w h =
     let a = passed (eqb (length v) 0) 12 _ h in
-    let b = passed (ltb 4096 (length u) || ltb 4096 (length v)) 13 _ (a .1) in
+    let b = passed (ltb longest-part (length u) || ltb longest-part (length v)) 13 _ (a .1) in
     let c = passed (not (all-below k u && all-below k v)) 14 _ (b .1) in
     let d = passed (ltb w (4 * n * (length u + length v))) 15 0 (c .1) in
     let some = eqb-ne (length v) 0 (a .0) in (
       omega arith,
-      ltb-ge 4096 (length u) (or-false-l (ltb 4096 (length u)) (ltb 4096 (length v)) (b .0)),
-      ltb-ge 4096 (length v) (or-false-r (ltb 4096 (length u)) (ltb 4096 (length v)) (b .0)),
+      ltb-ge longest-part (length u) (or-false-l (ltb longest-part (length u)) (ltb longest-part (length v)) (b .0)),
+      ltb-ge longest-part (length v) (or-false-r (ltb longest-part (length u)) (ltb longest-part (length v)) (b .0)),
       ltb-ge w (4 * n * (length u + length v)) (d .0),
     )
 
-pub accepted : (t u v : List ℕ) (w : ℕ) → lasso-refusal t u v w ≡ 0 → Accepted t u v w
+pub accepted : (range : Limits) (t u v : List ℕ) (w : ℕ) → lasso-refusal range t u v w ≡ 0 → Accepted range t u v w
 unfolding lasso-refusal
-accepted t u v w h =
-    let both = or-else-none (table-refusal wide-range t) (parts-refusal (n-of t) (k-of t) u v w) h in
+accepted range t u v w h =
+    let both = or-else-none (table-refusal range t) (parts-refusal (n-of t) (k-of t) u v w) h in
     let parts = parts-past (n-of t) (k-of t) u v w (both .1) in
     record {
       valid = both .0;

@@ -15,8 +15,8 @@ use Rattle.automata.specs.Lasso.{positions, position-letter, next-position, Wal
 use Rattle.automata.proofs.Positions.{next-below}
 use Rattle.tables.specs.Table.{Limits, n-of, m-of, head-of, letter-of, target-of, next-of, is-initial, chain-has, edge, meaning}
 use Rattle.tables.proofs.Laws.{Valid, chain-step}
-use Rattle.lassos.specs.Graph.{Leads, Bounded, Way, Found}
-use Rattle.lassos.specs.Product.{Chain-to, here, later, node-letter, node-base, product}
+use Rattle.lassos.specs.Graph.{Arc, Bounded, Way, Found}
+use Rattle.lassos.specs.Product.{Chain-to, here, later, node-letter, node-base, product-graph}
 
 -- CHAINS
 -- zero ends a chain
@@ -70,10 +70,10 @@ edge-chain (suc f) t r c b q h =
 module _ {l : Limits} {t : List ℕ} (valid : Valid l t) (u v : List ℕ) (o : 1 ≤ length v) where
   -- EDGES of the product are edges of the table, from a position to the next
   leads-edge :
-      (x y : ℕ) → Leads (product t u v) x y →
+      (x y : ℕ) → Arc (product-graph t u v) x y →
       (y / n-of t ≡ next-position u v (x / n-of t)) ×
       (meaning t .edge (x % n-of t) (position-letter u v (x / n-of t)) (y % n-of t) ≡ true)
-  unfolding product node-letter node-base meaning edge
+  unfolding product-graph node-letter node-base meaning edge
   leads-edge x y h =
       let small : x % n-of t < n-of t = mod-lt x (valid .states-from) in
       let w = chain-edge valid h (valid .head (x % n-of t) small) in
@@ -86,8 +86,8 @@ module _ {l : Limits} {t : List ℕ} (valid : Valid l t) (u v : List ℕ) (o : 1
 
   edge-leads :
       (i p q : ℕ) → meaning t .edge p (position-letter u v i) q ≡ true →
-      (q < n-of t) × Leads (product t u v) (i * n-of t + p) (next-position u v i * n-of t + q)
-  unfolding product node-letter node-base meaning edge
+      (q < n-of t) × Arc (product-graph t u v) (i * n-of t + p) (next-position u v i * n-of t + q)
+  unfolding product-graph node-letter node-base meaning edge
   edge-leads i p q h =
       let ends = and-l (chain-has (m-of t) t (head-of t p) (position-letter u v i) q) h in
       let lp = ltb-lt p (n-of t) (and-l (ltb q (n-of t)) ends) in
@@ -98,33 +98,33 @@ module _ {l : Limits} {t : List ℕ} (valid : Valid l t) (u v : List ℕ) (o : 1
       )
 
   -- every edge and every start stays inside
-  edge-inside : (x y : ℕ) → Leads (product t u v) x y → y < product t u v .size
-  unfolding product node-base
+  edge-inside : (x y : ℕ) → Arc (product-graph t u v) x y → y < product-graph t u v .size
+  unfolding product-graph node-base
   edge-inside x y h =
       let small : x % n-of t < n-of t = mod-lt x (valid .states-from) in
       let w = chain-edge valid h (valid .head (x % n-of t) small) in
       let at = w .2 in rw (← at) (digits-lt (next-below u v o (x / n-of t)) (w .1))
 
-  start-inside : (x : ℕ) → product t u v .starts x ≡ true → x < product t u v .size
-  unfolding product positions
+  start-inside : (x : ℕ) → product-graph t u v .starts x ≡ true → x < product-graph t u v .size
+  unfolding product-graph positions
   start-inside x h =
       let b = ltb-lt x (n-of t) (and-l (is-initial t x) h) in
       let z : 0 < length u + length v = omega arith in
       rw (zero-mul, zero-add) at (digits-lt {q = 0} {r = x} z b)
 
-  pub product-bounded : Bounded (product t u v)
+  pub product-bounded : Bounded (product-graph t u v)
   product-bounded = record { edge = λ x y b h. edge-inside x y h; start = start-inside }
 
   -- WAYS are walks
   way-walk :
-      {x y : ℕ} → Way (product t u v) x y → Walk (meaning t) u v (x / n-of t) (x % n-of t) (y / n-of t) (y % n-of t)
+      {x y : ℕ} → Way (product-graph t u v) x y → Walk (meaning t) u v (x / n-of t) (x % n-of t) (y / n-of t) (y % n-of t)
   way-walk Way.stay = Walk.stay
   way-walk (Way.onward {y} z p h) =
       let e = leads-edge y z h in rw (e .0) (Walk.onward (z % n-of t) (way-walk p) (e .1))
 
   walk-way :
       {i p j q : ℕ} → p < n-of t → Walk (meaning t) u v i p j q →
-      (q < n-of t) × Way (product t u v) (i * n-of t + p) (j * n-of t + q)
+      (q < n-of t) × Way (product-graph t u v) (i * n-of t + p) (j * n-of t + q)
   walk-way b Walk.stay = (b, Way.stay)
   walk-way b (Walk.onward {j} {q} r w h) =
       let e = edge-leads j q r h in
@@ -132,8 +132,8 @@ module _ {l : Limits} {t : List ℕ} (valid : Valid l t) (u v : List ℕ) (o : 1
       (e .0, Way.onward (next-position u v j * n-of t + r) (s .1) (e .1))
 
   -- an accepting node on a cycle is an accepting cycle of the automaton
-  pub found-cycle : Found (product t u v) → Accepting-cycle (meaning t) u v
-  unfolding product meaning
+  pub found-cycle : Found (product-graph t u v) → Accepting-cycle (meaning t) u v
+  unfolding product-graph meaning
   found-cycle f =
       let s = f .reached .start in
       let x = f .node in
@@ -154,8 +154,8 @@ module _ {l : Limits} {t : List ℕ} (valid : Valid l t) (u v : List ℕ) (o : 1
       }
 
   -- and back
-  pub cycle-found : Accepting-cycle (meaning t) u v → Found (product t u v)
-  unfolding product meaning
+  pub cycle-found : Accepting-cycle (meaning t) u v → Found (product-graph t u v)
+  unfolding product-graph meaning
   cycle-found c =
       let b = ltb-lt (c .start) (n-of t) (and-l (is-initial t (c .start)) (c .begins)) in
       let p = walk-way b (c .reached) in

@@ -16,8 +16,8 @@ pub colour-read : (w : List ℕ) (x : ℕ) → getD w (x / 16) 0 / 2 ^ (2 * (x %
 unfolding colour packed digit
 colour-read w x = rw (pairs (x % 16)) refl
 
-module _ {w : List ℕ} {x by : ℕ} (a : Raise-asks w x by) (word : getD w (x / 16) 0 < 4294967296) where
-  sum-fits : getD w (x / 16) 0 + by * 4 ^ (x % 16) < 4294967296
+module _ {w : List ℕ} {x by : ℕ} (a : Raise-asks w x by) (word : getD w (x / 16) 0 < 2 ^ 32) where
+  sum-fits : getD w (x / 16) 0 + by * 4 ^ (x % 16) < 2 ^ 32
   unfolding colour packed
   sum-fits =
       let within = a .within in
@@ -28,7 +28,7 @@ module _ {w : List ℕ} {x by : ℕ} (a : Raise-asks w x by) (word : getD w (x /
       let small : by * 4 ^ (x % 16) < 2 ^ 32 = (let k = sum-fits in omega arith) in
       rw (← pairs (x % 16)) (mod-eq-of-lt small)
 
-  pub raise-fits : getD w (x / 16) 0 + by * 2 ^ (2 * (x % 16)) % 2 ^ 32 < 4294967296
+  pub raise-fits : getD w (x / 16) 0 + by * 2 ^ (2 * (x % 16)) % 2 ^ 32 < 2 ^ 32
   raise-fits = rw shifted sum-fits
 
   pub raise-is : set w (x / 16) (getD w (x / 16) 0 + by * 2 ^ (2 * (x % 16)) % 2 ^ 32) ≡ risen w x by

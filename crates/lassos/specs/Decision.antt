@@ -6,7 +6,7 @@ use Prim.Native.Nat.{ℕ, zero, suc}
 use lib.ListN.{length}
 use Rattle.basics.specs.Buffers.{zeros}
 use Rattle.automata.specs.Decision.{takes?}
-use Rattle.tables.specs.Table.{meaning}
+use Rattle.tables.specs.Table.{Limits, meaning}
 use Rattle.lassos.specs.Refusals.{lasso-refusal}
 use Rattle.lassos.specs.declared.Decision.{Decision}
 use Rattle.lassos.specs.declared.Decision.the-variants.{Taken, NotTaken, Refused}
@@ -17,15 +17,15 @@ as-decision zero true = Taken
 as-decision zero false = NotTaken
 as-decision (suc r) taken = Refused (suc r)
 
--- the decision on a table t, a prefix u and a loop v, with so many work words
-unfoldable pub decision : (t u v : List ℕ) → (work : ℕ) → Decision
-decision t u v w = as-decision (lasso-refusal t u v w) (takes? (meaning t) u v)
+-- the decision on a table t of a range, a prefix u and a loop v, with so many work words
+unfoldable pub decision : Limits → (t u v : List ℕ) → (work : ℕ) → Decision
+decision r t u v w = as-decision (lasso-refusal r t u v w) (takes? (meaning t) u v)
 
 -- what a call answers, and that the work words are all zero after it
-pub record Lasso-says (t u v : List ℕ) (r : Decision) (w w-now : List ℕ) : Type 0 where
-  pub answer : r ≡ decision t u v (length w)
+pub record Lasso-says (range : Limits) (t u v : List ℕ) (d : Decision) (w w-now : List ℕ) : Type 0 where
+  pub answer : d ≡ decision range t u v (length w)
   pub work : w-now ≡ zeros w
 
 -- what the search asks: nothing is refused; it is held to the table's meaning
-pub record Takes-asks (t u v w : List ℕ) : Type 0 where
-  pub accepted : lasso-refusal t u v (length w) ≡ 0
+pub record Takes-asks (r : Limits) (t u v w : List ℕ) : Type 0 where
+  pub accepted : lasso-refusal r t u v (length w) ≡ 0

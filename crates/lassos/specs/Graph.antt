@@ -16,20 +16,20 @@ pub record Graph : Type 1 where
   pub Ahead : (node number target : ℕ) → Type 0
 
 -- an edge
-abbrev pub Leads : (g : Graph) → (x y : ℕ) → Type 0
-Leads g x y = g .Ahead x (g .first x) y
+abbrev pub Arc : (g : Graph) → (x y : ℕ) → Type 0
+Arc g x y = g .Ahead x (g .first x) y
 
 -- every edge and every start stays inside
 pub record Bounded (g : Graph) : Type 0 where
-  pub edge : (x y : ℕ) → x < g .size → Leads g x y → y < g .size
+  pub edge : (x y : ℕ) → x < g .size → Arc g x y → y < g .size
   pub start : (x : ℕ) → g .starts x ≡ true → x < g .size
 
 -- no edge, or several one behind the other
 pub data Way (g : Graph) (x : ℕ) : (y : ℕ) → Type 0 where
   stay : Way g x x
-  onward : {y : ℕ} (z : ℕ) → Way g x y → Leads g y z → Way g x z
+  onward : {y : ℕ} (z : ℕ) → Way g x y → Arc g y z → Way g x z
 
-pub record Reached (g : Graph) (x : ℕ) : Type 0 where
+pub record Node-reached (g : Graph) (x : ℕ) : Type 0 where
   pub start : ℕ
   pub begins : g .starts start ≡ true
   pub way : Way g start x
@@ -37,12 +37,12 @@ pub record Reached (g : Graph) (x : ℕ) : Type 0 where
 -- the node lies on a cycle
 pub record Cycle (g : Graph) (x : ℕ) : Type 0 where
   pub behind : ℕ
-  pub leaves : Leads g x behind
+  pub leaves : Arc g x behind
   pub returns : Way g behind x
 
 -- an accepting node that is reached and lies on a cycle
 pub record Found (g : Graph) : Type 0 where
   pub node : ℕ
-  pub reached : Reached g node
+  pub reached : Node-reached g node
   pub accepts : g .accepts node ≡ true
   pub cycle : Cycle g node

@@ -21,8 +21,8 @@ node-letter n u v x = position-letter u v (x / n)
 unfoldable pub node-base : (n : ℕ) → (u v : List ℕ) → (node : ℕ) → ℕ
 node-base n u v x = next-position u v (x / n) * n
 
-unfoldable pub product : (t u v : List ℕ) → Graph
-product t u v =
+unfoldable pub product-graph : (t u v : List ℕ) → Graph
+product-graph t u v =
     record {
       size = positions u v * n-of t;
       last = m-of t;

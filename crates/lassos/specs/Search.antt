@@ -8,7 +8,7 @@ use lib.Dec.{eqb}
 use lib.ListN.{length, getD, set}
 use Rattle.basics.specs.Bounded.{count}
 use Rattle.basics.specs.Packed.{packed, raised}
-use Rattle.lassos.specs.Graph.{Graph, Leads, Way, Reached, Cycle}
+use Rattle.lassos.specs.Graph.{Graph, Arc, Way, Node-reached, Cycle}
 
 -- THE WORK WORDS are four blocks of `size` words.
 -- Block 0: in its first words the colours of the nodes, two bits each, 16 to a word:
@@ -65,20 +65,20 @@ pub record Search (g : Graph) (w : List ℕ) (depth : ℕ) : Type 0 where
   pub grey : (i : ℕ) → i < depth → colour w (stacked (g .size) w i) ≡ 1
   pub distinct : (i j : ℕ) → i < j → j < depth → stacked (g .size) w i ≡ stacked (g .size) w j → ⊥
   pub on-stack : (x : ℕ) → x < g .size → colour w x ≡ 1 → (i : ℕ) × (i < depth) × (stacked (g .size) w i ≡ x)
-  pub linked : (i : ℕ) → suc i < depth → Leads g (stacked (g .size) w i) (stacked (g .size) w (suc i))
+  pub linked : (i : ℕ) → suc i < depth → Arc g (stacked (g .size) w i) (stacked (g .size) w (suc i))
   -- their cursors are on their chains; their targets are visited or still ahead
   pub cursors : (i : ℕ) → i < depth → cursor (g .size) w i ≤ g .last
   pub on-chain :
       (i y : ℕ) → i < depth → g .Ahead (stacked (g .size) w i) (cursor (g .size) w i) y →
-      Leads g (stacked (g .size) w i) y
+      Arc g (stacked (g .size) w i) y
   pub ahead :
-      (i y : ℕ) → i < depth → Leads g (stacked (g .size) w i) y →
+      (i y : ℕ) → i < depth → Arc g (stacked (g .size) w i) y →
       (1 ≤ colour w y) ⊎ g .Ahead (stacked (g .size) w i) (cursor (g .size) w i) y
   -- visited nodes are reached
-  pub reached : (x : ℕ) → x < g .size → 1 ≤ colour w x → Reached g x
+  pub reached : (x : ℕ) → x < g .size → 1 ≤ colour w x → Node-reached g x
   -- finished nodes: their targets are visited, those of red ones red, and no accepting one lies on a cycle
-  pub finished : (x y : ℕ) → x < g .size → 2 ≤ colour w x → Leads g x y → 1 ≤ colour w y
-  pub red : (x y : ℕ) → x < g .size → colour w x ≡ 3 → Leads g x y → colour w y ≡ 3
+  pub finished : (x y : ℕ) → x < g .size → 2 ≤ colour w x → Arc g x y → 1 ≤ colour w y
+  pub red : (x y : ℕ) → x < g .size → colour w x ≡ 3 → Arc g x y → colour w y ≡ 3
   pub fruitless : (x : ℕ) → x < g .size → 2 ≤ colour w x → g .accepts x ≡ true → Cycle g x → ⊥
 
 -- what was visited stays visited
@@ -94,26 +94,26 @@ pub record Redder (size : ℕ) (w w-now : List ℕ) : Type 0 where
 
 -- all edges of red nodes lead to red nodes
 pub record Red-closed (g : Graph) (w : List ℕ) : Type 0 where
-  pub edges : (x y : ℕ) → x < g .size → colour w x ≡ 3 → Leads g x y → colour w y ≡ 3
+  pub edges : (x y : ℕ) → x < g .size → colour w x ≡ 3 → Arc g x y → colour w y ≡ 3
 
 -- what the inner search asks: its node is grey, its targets are visited, and so are those of finished nodes
 pub record Inner-asks (g : Graph) (s : ℕ) (w : List ℕ) : Type 0 where
   pub long : 4 * g .size ≤ length w
   pub inside : s < g .size
   pub grey : colour w s ≡ 1
-  pub begun : (y : ℕ) → Leads g s y → 1 ≤ colour w y
-  pub finished : (x y : ℕ) → x < g .size → 2 ≤ colour w x → Leads g x y → 1 ≤ colour w y
+  pub begun : (y : ℕ) → Arc g s y → 1 ≤ colour w y
+  pub finished : (x y : ℕ) → x < g .size → 2 ≤ colour w x → Arc g x y → 1 ≤ colour w y
   pub closed : Red-closed g w
 
 -- what it answers: a way over at least one edge to a grey node, or all that is reached so is red
 pub data Inner-says (g : Graph) (s : ℕ) (w w-now : List ℕ) : (met : Bool) → Type 0 where
-  met : (y z : ℕ) → Leads g s z → Way g z y → y < g .size → colour w y ≡ 1 → Inner-says g s w w-now true
+  met : (y z : ℕ) → Arc g s z → Way g z y → y < g .size → colour w y ≡ 1 → Inner-says g s w w-now true
   none :
-      Redder (g .size) w w-now → Red-closed g w-now → ((y : ℕ) → Leads g s y → colour w-now y ≡ 3) →
+      Redder (g .size) w w-now → Red-closed g w-now → ((y : ℕ) → Arc g s y → colour w-now y ≡ 3) →
       Inner-says g s w w-now false
 
 -- the edges of one node, followed: black targets turn red and wait; `Left` is what is left of its targets `To`
-pub record Spread (size : ℕ) (To Left : ℕ → Type 0) (w w-now : List ℕ) (from to : ℕ) : Type 0 where
+pub record Spread-over (size : ℕ) (To Left : ℕ → Type 0) (w w-now : List ℕ) (from to : ℕ) : Type 0 where
   pub redder : Redder size w w-now
   pub rises : from ≤ to
   pub room : to + blacks size w-now ≤ from + blacks size w
@@ -134,7 +134,7 @@ pub data None (y : ℕ) : Type 0 where
 -- one more than the size where a grey node was met, else how many nodes wait now
 pub data Spread-says (size : ℕ) (To : ℕ → Type 0) (w w-now : List ℕ) (from r : ℕ) : Type 0 where
   met : (y : ℕ) → To y → y < size → colour w y ≡ 1 → r ≡ size + 1 → Spread-says size To w w-now from r
-  spread : r ≤ size → Spread size To None w w-now from r → Spread-says size To w w-now from r
+  spread : r ≤ size → Spread-over size To None w w-now from r → Spread-says size To w w-now from r
 
 -- THE INVARIANT of the inner search: so many red nodes wait, and the edges of all other red nodes lead to red nodes
 pub record Waiting (g : Graph) (w : List ℕ) (wait : ℕ) : Type 0 where
@@ -142,10 +142,10 @@ pub record Waiting (g : Graph) (w : List ℕ) (wait : ℕ) : Type 0 where
   pub room : wait + blacks (g .size) w ≤ g .size
   pub inside : (i : ℕ) → i < wait → waiting (g .size) w i < g .size
   pub reds : (i : ℕ) → i < wait → colour w (waiting (g .size) w i) ≡ 3
-  pub finished : (x y : ℕ) → x < g .size → 2 ≤ colour w x → Leads g x y → 1 ≤ colour w y
+  pub finished : (x y : ℕ) → x < g .size → 2 ≤ colour w x → Arc g x y → 1 ≤ colour w y
   pub red :
       (x : ℕ) → x < g .size → colour w x ≡ 3 →
-      ((i : ℕ) × (i < wait) × (waiting (g .size) w i ≡ x)) ⊎ ((y : ℕ) → Leads g x y → colour w y ≡ 3)
+      ((i : ℕ) × (i < wait) × (waiting (g .size) w i ≡ x)) ⊎ ((y : ℕ) → Arc g x y → colour w y ≡ 3)
 
 -- every waiting node is reached from one that waited at first
 pub record Since (g : Graph) (w : List ℕ) (wait : ℕ) (w-now : List ℕ) (wait-now : ℕ) : Type 0 where

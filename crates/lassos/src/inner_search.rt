@@ -7,10 +7,10 @@ use tables::head_of;
 use tables::letter_of;
 use tables::next_of;
 use tables::target_of;
-ghost use Rattle.lassos.specs.Graph.{Leads};
-ghost use Rattle.lassos.specs.Product.{Chain-to, product};
+ghost use Rattle.lassos.specs.Graph.{Arc};
+ghost use Rattle.lassos.specs.Product.{Chain-to, product-graph};
 ghost use Rattle.lassos.specs.Search.{Spread-says, Drained, Inner-says};
-ghost use Rattle.lassos.specs.Steps.{Follow-asks, Followed, Spread-asks, Spread-node-asks, Drain-asks, Meets-asks};
+ghost use Rattle.lassos.specs.Steps.{width-16, Follow-asks, Follow-says, Spread-asks, Spread-node-asks, Drain-asks, Meets-asks};
 
 // Follows one record's edge: a black target turns red and waits. Answers how many nodes wait, or size + 1 where the target is grey.
 fn follow(
@@ -23,8 +23,8 @@ fn follow(
     at: usize,
     waiting: usize,
 ) -> usize
-    requires { ⌜ Follow-asks (now table) (now work) states size base at waiting ⌝ }
-    ensures { λ r. ⌜ Followed (now (table .entry)) size letter base at (now (work .entry)) (now (work .exit)) waiting r ⌝ }
+    requires { ⌜ Follow-asks width-16 (now table) (now work) states size base at waiting ⌝ }
+    ensures { λ r. ⌜ Follow-says (now (table .entry)) size letter base at (now (work .entry)) (now (work .exit)) waiting r ⌝ }
 {
     if letter_of(table, states, at) != letter {
         return waiting;
@@ -53,7 +53,7 @@ fn spread(
     first: usize,
     waiting: usize,
 ) -> usize
-    requires { ⌜ Spread-asks (now table) (now work) states size base first waiting ⌝ }
+    requires { ⌜ Spread-asks width-16 (now table) (now work) states size base first waiting ⌝ }
     ensures { λ r. ⌜ Spread-says size (λ y. Chain-to (now (table .entry)) letter base y first) (now (work .entry)) (now (work .exit)) waiting r ⌝ }
 {
     let mut at = first;
@@ -79,9 +79,9 @@ fn spread_node(
     node: usize,
     waiting: usize,
 ) -> usize
-    requires { ⌜ Spread-node-asks (now table) (now prefix) (now cycle) (now work) states size node waiting ⌝ }
-    ensures { λ r. ⌜ Spread-says (product (now (table .entry)) (now (prefix .entry)) (now (cycle .entry)) .size)
-        (Leads (product (now (table .entry)) (now (prefix .entry)) (now (cycle .entry))) node)
+    requires { ⌜ Spread-node-asks width-16 (now table) (now prefix) (now cycle) (now work) states size node waiting ⌝ }
+    ensures { λ r. ⌜ Spread-says (product-graph (now (table .entry)) (now (prefix .entry)) (now (cycle .entry)) .size)
+        (Arc (product-graph (now (table .entry)) (now (prefix .entry)) (now (cycle .entry))) node)
         (now (work .entry)) (now (work .exit)) waiting r ⌝ }
 {
     let letter = node_letter(prefix, cycle, states, node);
@@ -100,8 +100,8 @@ fn drain(
     size: usize,
     waiting: usize,
 ) -> bool
-    requires { ⌜ Drain-asks (now table) (now prefix) (now cycle) (now work) states size waiting ⌝ }
-    ensures { λ r. ⌜ Drained (product (now (table .entry)) (now (prefix .entry)) (now (cycle .entry)))
+    requires { ⌜ Drain-asks width-16 (now table) (now prefix) (now cycle) (now work) states size waiting ⌝ }
+    ensures { λ r. ⌜ Drained (product-graph (now (table .entry)) (now (prefix .entry)) (now (cycle .entry)))
         (now (work .entry)) (now (work .exit)) waiting r ⌝ }
 {
     let mut count = waiting;
@@ -126,8 +126,8 @@ pub(crate) fn meets_grey(
     size: usize,
     node: usize,
 ) -> bool
-    requires { ⌜ Meets-asks (now table) (now prefix) (now cycle) (now work) states size node ⌝ }
-    ensures { λ r. ⌜ Inner-says (product (now (table .entry)) (now (prefix .entry)) (now (cycle .entry))) node
+    requires { ⌜ Meets-asks width-16 (now table) (now prefix) (now cycle) (now work) states size node ⌝ }
+    ensures { λ r. ⌜ Inner-says (product-graph (now (table .entry)) (now (prefix .entry)) (now (cycle .entry))) node
         (now (work .entry)) (now (work .exit)) r ⌝ }
 {
     let waiting = spread_node(table, prefix, cycle, work, states, size, node, 0);

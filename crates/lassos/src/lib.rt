@@ -12,13 +12,13 @@ use tables::letters_of;
 use tables::states_of;
 use tables::table_refusal;
 ghost use mathlib.Core.Path.{_≡_};
-ghost use Prim.Native.Nat.{_≤_, _<_};
+ghost use Prim.Native.Nat.{_^_, _<_};
 ghost use lib.ListN.{length};
 ghost use Rattle.automata.specs.Decision.{takes?};
 ghost use Rattle.automata.specs.Lasso.{all-below};
-ghost use Rattle.tables.specs.Table.{meaning};
-ghost use Rattle.lassos.specs.Decision.{Lasso-says, Takes-asks};
-ghost use Rattle.lassos.specs.Refusals.{parts-refusal, lasso-refusal};
+ghost use Rattle.tables.specs.Table.{wide-range, meaning, table-refusal};
+ghost use Rattle.lassos.specs.Decision.{decision, Lasso-says, Takes-asks};
+ghost use Rattle.lassos.specs.Refusals.{parts-refusal};
 
 // The letters that a prefix may have, and a loop.
 pub const PART_LETTERS: usize = 4096;
@@ -47,7 +47,7 @@ fn letters_below(part: &[u8], k: usize) -> bool
 
 // The first of refusals 13 to 16 that a lasso meets for a table of n states and k letters and so many work words, or zero.
 pub fn parts_refusal(n: usize, k: usize, prefix: &[u8], cycle: &[u8], work: usize) -> u32
-    requires { ⌜ n < 65536 ⌝ }
+    requires { ⌜ n < 2 ^ 32 ⌝ }
     ensures { λ r. ⌜ r ≡ parts-refusal n k (now (prefix .entry)) (now (cycle .entry)) work ⌝ }
 {
     if cycle.len() == 0 {
@@ -71,20 +71,9 @@ pub fn parts_refusal(n: usize, k: usize, prefix: &[u8], cycle: &[u8], work: usiz
     0
 }
 
-// The first refusal that a decision meets, or zero: first the table's, then the lasso's.
-fn lasso_refusal(table: &[u16], prefix: &[u8], cycle: &[u8], work: usize) -> u32
-    ensures { λ r. ⌜ r ≡ lasso-refusal (now (table .entry)) (now (prefix .entry)) (now (cycle .entry)) work ⌝ }
-{
-    let refusal = table_refusal(table, WIDE_STATES, WIDE_RECORDS);
-    if refusal != 0 {
-        return refusal;
-    }
-    parts_refusal(states_of(table), letters_of(table), prefix, cycle, work)
-}
-
 // Whether a table takes a lasso, none of which is refused. The search asks for white nodes only, so nothing but their colours is cleared.
 fn takes(table: &[u16], prefix: &[u8], cycle: &[u8], work: &mut [u32]) -> bool
-    requires { ⌜ Takes-asks (now table) (now prefix) (now cycle) (now work) ⌝ }
+    requires { ⌜ Takes-asks wide-range (now table) (now prefix) (now cycle) (now work) ⌝ }
     ensures { λ r. ⌜ r ≡ takes? (meaning (now (table .entry))) (now (prefix .entry)) (now (cycle .entry)) ⌝ }
 {
     let states = states_of(table);
@@ -93,20 +82,34 @@ fn takes(table: &[u16], prefix: &[u8], cycle: &[u8], work: &mut [u32]) -> bool
     search(table, prefix, cycle, work, states, size)
 }
 
+// Decides whether a table takes a lasso, where the table has passed its check already: many lassos on one table need one check. Nothing is
+// asked of the work words, and they are not cleared afterwards.
+pub fn decide_checked(table: &[u16], prefix: &[u8], cycle: &[u8], work: &mut [u32]) -> Decision
+    requires { ⌜ table-refusal wide-range (now table) ≡ 0 ⌝ }
+    ensures { λ d. ⌜ d ≡ decision wide-range (now (table .entry)) (now (prefix .entry)) (now (cycle .entry)) (length (now (work .entry))) ⌝ }
+{
+    let states = states_of(table);
+    let letters = letters_of(table);
+    let refusal = parts_refusal(states, letters, prefix, cycle, work.len());
+    if refusal != 0 {
+        return Decision::Refused(refusal);
+    }
+    if takes(table, prefix, cycle, work) {
+        return Decision::Taken;
+    }
+    Decision::NotTaken
+}
+
 // Decides whether a table takes a lasso. Nothing is asked of the work words at entry, and they are all zero afterwards.
 pub fn decide_lasso(table: &[u16], prefix: &[u8], cycle: &[u8], work: &mut [u32]) -> Decision
-    ensures { λ r. ⌜ Lasso-says (now (table .entry)) (now (prefix .entry)) (now (cycle .entry)) r (now (work .entry)) (now (work .exit)) ⌝ }
+    ensures { λ d. ⌜ Lasso-says wide-range (now (table .entry)) (now (prefix .entry)) (now (cycle .entry)) d (now (work .entry)) (now (work .exit)) ⌝ }
 {
-    let count = work.len();
-    let refusal = lasso_refusal(table, prefix, cycle, count);
+    let refusal = table_refusal(table, WIDE_STATES, WIDE_RECORDS);
     if refusal != 0 {
         clear32(work);
         return Decision::Refused(refusal);
     }
-    let taken = takes(table, prefix, cycle, work);
+    let decision = decide_checked(table, prefix, cycle, work);
     clear32(work);
-    if taken {
-        return Decision::Taken;
-    }
-    Decision::NotTaken
+    decision
 }

@@ -11,9 +11,9 @@ use tables::next_of;
 use tables::target_of;
 ghost use mathlib.Core.Path.{_≡_};
 ghost use lib.ListN.{length};
-ghost use Rattle.lassos.specs.Product.{product};
+ghost use Rattle.lassos.specs.Product.{product-graph};
 ghost use Rattle.lassos.specs.Search.{entered};
-ghost use Rattle.lassos.specs.Steps.{Chain-asks, Edge-asks, white-edge, Next-white, Enter-asks, Top-asks, Descended, Meets-asks, Finished, Explore-asks, Explored, Try-asks, Tried, Searched};
+ghost use Rattle.lassos.specs.Steps.{width-16, Chain-asks, Edge-asks, white-edge, Next-white, Enter-asks, Top-asks, Descended, Meets-asks, Finished, Search-asks, Explored, Try-asks, Try-says, Searched};
 
 // Whether a record is an edge on the letter to a white node.
 fn leads_to_white(
@@ -24,7 +24,7 @@ fn leads_to_white(
     base: usize,
     at: usize,
 ) -> bool
-    requires { ⌜ Edge-asks (now table) states (length (now work)) base at ⌝ }
+    requires { ⌜ Edge-asks width-16 (now table) states (length (now work)) base at ⌝ }
     ensures { λ r. ⌜ r ≡ white-edge (now (table .entry)) (now (work .entry)) letter base at ⌝ }
 {
     if letter_of(table, states, at) != letter {
@@ -42,7 +42,7 @@ fn next_white(
     base: usize,
     first: usize,
 ) -> usize
-    requires { ⌜ Chain-asks (now table) states (length (now work)) base first ⌝ }
+    requires { ⌜ Chain-asks width-16 (now table) states (length (now work)) base first ⌝ }
     ensures { λ r. ⌜ Next-white (now (table .entry)) (now (work .entry)) letter base first r ⌝ }
 {
     let mut at = first;
@@ -57,7 +57,7 @@ fn next_white(
 
 // A white node turns grey and lies on the stack; its cursor stands at its first record.
 fn enter(work: &mut [u32], size: usize, node: usize, first: usize, depth: usize)
-    requires { ⌜ Enter-asks (now work) size node first depth ⌝ }
+    requires { ⌜ Enter-asks (width-16 .bits) (now work) size node first depth ⌝ }
     ensures { λ _. ⌜ now (work .exit) ≡ entered size (now (work .entry)) node first depth ⌝ }
 {
     raise(work, node, 1);
@@ -76,8 +76,8 @@ fn descend(
     node: usize,
     depth: usize,
 ) -> bool
-    requires { ⌜ Top-asks (now table) (now prefix) (now cycle) (now work) states size node depth ⌝ }
-    ensures { λ r. ⌜ Descended (product (now (table .entry)) (now (prefix .entry)) (now (cycle .entry)))
+    requires { ⌜ Top-asks width-16 (now table) (now prefix) (now cycle) (now work) states size node depth ⌝ }
+    ensures { λ r. ⌜ Descended (product-graph (now (table .entry)) (now (prefix .entry)) (now (cycle .entry)))
         (now (work .entry)) (now (work .exit)) node depth r ⌝ }
 {
     let letter = node_letter(prefix, cycle, states, node);
@@ -104,8 +104,8 @@ fn finish(
     size: usize,
     node: usize,
 ) -> bool
-    requires { ⌜ Meets-asks (now table) (now prefix) (now cycle) (now work) states size node ⌝ }
-    ensures { λ r. ⌜ Finished (product (now (table .entry)) (now (prefix .entry)) (now (cycle .entry))) node
+    requires { ⌜ Meets-asks width-16 (now table) (now prefix) (now cycle) (now work) states size node ⌝ }
+    ensures { λ r. ⌜ Finished (product-graph (now (table .entry)) (now (prefix .entry)) (now (cycle .entry))) node
         (now (work .entry)) (now (work .exit)) r ⌝ }
 {
     if flags_of(table, node % states) < 2 {
@@ -128,8 +128,8 @@ fn explore(
     states: usize,
     size: usize,
 ) -> bool
-    requires { ⌜ Explore-asks (now table) (now prefix) (now cycle) (now work) states size 1 ⌝ }
-    ensures { λ r. ⌜ Explored (product (now (table .entry)) (now (prefix .entry)) (now (cycle .entry)))
+    requires { ⌜ Search-asks width-16 (now table) (now prefix) (now cycle) (now work) states size 1 ⌝ }
+    ensures { λ r. ⌜ Explored (product-graph (now (table .entry)) (now (prefix .entry)) (now (cycle .entry)))
         (now (work .entry)) (now (work .exit)) r ⌝ }
 {
     let mut depth: usize = 1;
@@ -158,8 +158,8 @@ fn try_state(
     size: usize,
     state: usize,
 ) -> bool
-    requires { ⌜ Try-asks (now table) (now prefix) (now cycle) (now work) states size state ⌝ }
-    ensures { λ r. ⌜ Tried (product (now (table .entry)) (now (prefix .entry)) (now (cycle .entry)))
+    requires { ⌜ Try-asks width-16 (now table) (now prefix) (now cycle) (now work) states size state ⌝ }
+    ensures { λ r. ⌜ Try-says (product-graph (now (table .entry)) (now (prefix .entry)) (now (cycle .entry)))
         (now (work .entry)) (now (work .exit)) state r ⌝ }
 {
     if flags_of(table, state) % 2 != 1 {
@@ -181,8 +181,8 @@ pub(crate) fn search(
     states: usize,
     size: usize,
 ) -> bool
-    requires { ⌜ Explore-asks (now table) (now prefix) (now cycle) (now work) states size 0 ⌝ }
-    ensures { λ r. ⌜ Searched (product (now (table .entry)) (now (prefix .entry)) (now (cycle .entry))) r ⌝ }
+    requires { ⌜ Search-asks width-16 (now table) (now prefix) (now cycle) (now work) states size 0 ⌝ }
+    ensures { λ r. ⌜ Searched (product-graph (now (table .entry)) (now (prefix .entry)) (now (cycle .entry))) r ⌝ }
 {
     let mut state: usize = 0;
     while state < states {

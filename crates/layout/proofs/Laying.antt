@@ -21,7 +21,7 @@ counts-set n k m (x ∷ y ∷ []) l = absurd (omega arith)
 counts-set n k m (x ∷ y ∷ z ∷ w) l = refl
 
 module _
-    (n k m : ℕ) (w u v : List ℕ) (ask : Lay-out-asks w n k m) (same-u : length u ≡ length w) (same-v : length v ≡ length u)
+    {bits : ℕ} (n k m : ℕ) (w u v : List ℕ) (ask : Lay-out-asks bits w n k m) (same-u : length u ≡ length w) (same-v : length v ≡ length u)
     (up : Moved n m w u) (clear : Cleared n u v) where
   -- a word of a triple, where it stands after moving and clearing
   moved-word : (p q : ℕ) → p ≡ 2 * n + q → 3 ≤ q → q < 3 + 3 * m → getD v p 0 ≡ getD w q 0
@@ -33,7 +33,7 @@ module _
   cleared-word : (i : ℕ) → i < 2 * n → (p : ℕ) → p ≡ 3 + i → getD v p 0 ≡ 0
   cleared-word i l p e = rw e (clear .cleared i l)
 
-  pub laid-links : Link-asks v n m
+  pub laid-links : Link-asks bits v n m
   laid-links =
       let room = ask .room in
       record {

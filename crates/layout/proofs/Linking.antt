@@ -124,12 +124,12 @@ stays x y {b} e =
     elim (either (eqb x 0)) [ inl z ↦ let o = eqb-eq x 0 z in rw (z, e) o | inr z ↦ rw z ]
 
 -- EVERY EDGE IN TURN
-module _ (n m r : ℕ) (w v : List ℕ) (ask : Link-asks w n m) (size : length v ≡ length w) (h : Linked n m r w v) (l : r < m) where
+module _ {bits : ℕ} (n m r : ℕ) (w v : List ℕ) (ask : Link-asks bits w n m) (size : length v ≡ length w) (h : Linked n m r w v) (l : r < m) where
   -- sources not yet reached are as they were
   waits : (e : ℕ) → r ≤ e → getD v (5 + 2 * n + 3 * e) 0 ≡ getD w (5 + 2 * n + 3 * e) 0
   waits e i = h .others (5 + 2 * n + 3 * e) (λ q a b. omega arith) (λ d a b. omega arith)
 
-  link-asks-one : Link-one-asks v n m r
+  link-asks-one : Link-one-asks bits v n m r
   link-asks-one =
       let room = ask .room in
       let at = waits r (omega arith) in
@@ -229,7 +229,7 @@ pub record Linking (n m r : ℕ) (w v : List ℕ) : Type 0 where
   pub size : length v ≡ length w
   pub linked : Linked n m r w v
 
-pub linking-start : {n m : ℕ} {w : List ℕ} → Link-asks w n m → Linking n m 0 w w
+pub linking-start : {bits n m : ℕ} {w : List ℕ} → Link-asks bits w n m → Linking n m 0 w w
 unfolding moved-edges triples-of first-record
 linking-start ask =
     record {
@@ -243,13 +243,13 @@ linking-start ask =
           };
     }
 
-pub linking-asks : {n m r : ℕ} {w v : List ℕ} → Link-asks w n m → Linking n m r w v → r < m → Link-one-asks v n m r
-linking-asks {n} {m} {r} {w} {v} ask h l = link-asks-one n m r w v ask (h .size) (h .linked) l
+pub linking-asks : {bits n m r : ℕ} {w v : List ℕ} → Link-asks bits w n m → Linking n m r w v → r < m → Link-one-asks bits v n m r
+linking-asks {n = n} {m = m} {r = r} {w = w} {v = v} ask h l = link-asks-one n m r w v ask (h .size) (h .linked) l
 
 pub linking-turn :
-    {n m r : ℕ} {w v u : List ℕ} → Link-asks w n m → Linking n m r w v → r < m → u ≡ linked-one n m r v →
+    {bits n m r : ℕ} {w v u : List ℕ} → Link-asks bits w n m → Linking n m r w v → r < m → u ≡ linked-one n m r v →
     Linking n m (r + 1) w u
-linking-turn {n} {m} {r} {w} {v} ask h l e =
+linking-turn {n = n} {m = m} {r = r} {w = w} {v = v} ask h l e =
     rw e
     (record {
       done = omega arith;

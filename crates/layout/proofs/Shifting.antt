@@ -11,7 +11,7 @@ use lib.Seq.{getD-set-same, getD-set-other}
 use Rattle.basics.specs.Buffers.{zeros}
 use Rattle.basics.proofs.Booleans.{either, eqb-eq, eqb-ne}
 use Rattle.basics.proofs.Clears.{part-cleared, part-others}
-use Rattle.layout.specs.Steps.{Room, Moved, Cleared}
+use Rattle.layout.specs.Steps.{Table-room, Moved, Cleared}
 
 -- while the words are moved, from the last to the first: those from i on have been
 pub record Moving (n m i : ℕ) (w v : List ℕ) : Type 0 where
@@ -32,9 +32,9 @@ move-start n m w =
     }
 
 pub move-turn :
-    {n m i : ℕ} {w v : List ℕ} → Room w n m → Moving n m i w v → 0 < i →
+    {bits n m i : ℕ} {w v : List ℕ} → Table-room bits w n m → Moving n m i w v → 0 < i →
     Moving n m (i - 1) w (set v (3 + 2 * n + (i - 1)) (getD v (3 + (i - 1)) 0))
-move-turn {n} {m} {i} {w} {v} r h l =
+move-turn {n = n} {m = m} {i = i} {w = w} {v = v} r h l =
     let k = i - 1 in
     let x = getD v (3 + k) 0 in
     let room = r .room in
@@ -61,9 +61,9 @@ move-end h l = record { moved = λ i b. h .moved i (omega arith) b; beyond = h .
 
 -- the state words are cleared as one part of the words
 pub states-cleared :
-    {n : ℕ} {w part : List ℕ} → Room w n 0 → part ≡ zeros (take (3 + 2 * n - 3) (drop 3 w)) →
+    {bits n : ℕ} {w part : List ℕ} → Table-room bits w n 0 → part ≡ zeros (take (3 + 2 * n - 3) (drop 3 w)) →
     Cleared n w (putMid 3 (3 + 2 * n - 3) w part)
-states-cleared {n} {w} {part} r clear =
+states-cleared {n = n} {w = w} {part = part} r clear =
     let room = r .room in
     let order : 3 ≤ 3 + 2 * n = omega arith in
     let inside : 3 + 2 * n ≤ length w = omega arith in

@@ -3,7 +3,7 @@ use mathlib.Core.Path.{_≡_}
 use mathlib.Core.Bool.{Bool, true, false, cond}
 use mathlib.Core.List.{List}
 use mathlib.Core.Logic.{_⊎_, inl, inr}
-use Prim.Native.Nat.{ℕ, suc, _+_, _≤_, _<_}
+use Prim.Native.Nat.{ℕ, suc, _+_, _^_, _≤_, _<_}
 use native.Mathlib.Omega.{arith}
 use lib.Dec.{eqb}
 use lib.ListN.{length, getD}
@@ -11,7 +11,7 @@ use Rattle.basics.proofs.Bounded.{count-same}
 use Rattle.basics.proofs.Upward.{from-one}
 use Rattle.automata.specs.Automaton.{Automaton}
 use Rattle.automata.specs.System.{Edge}
-use Rattle.tables.specs.Table.{Limits, head-of, letter-of, target-of, next-of, named, table-refusal}
+use Rattle.tables.specs.Table.{most-letters, Limits, Range-fits, head-of, letter-of, target-of, next-of, named, table-refusal}
 use Rattle.tables.proofs.Laws.{Valid, valid-passes, words-fit}
 use Rattle.layout.specs.Chained.{first-record, next-record, flags-word, chained-words}
 use Rattle.layout.specs.Orderly.{Orderly}
@@ -63,7 +63,7 @@ module _ (l : Limits) (a : Automaton) (es : List Edge) (o : Orderly a es) where
       rw (chained-n a es, chained-m a es, heads, nexts) (named-once o r m)
 
   pub chained-is-valid :
-      1 ≤ a .states → a .states ≤ l .states → 1 ≤ a .letters → a .letters ≤ 16 → length es ≤ l .records →
+      1 ≤ a .states → a .states ≤ l .states → 1 ≤ a .letters → a .letters ≤ most-letters → length es ≤ l .records →
       Valid l (chained-words a es)
   chained-is-valid n₁ n₂ k₁ k₂ m₁ =
       let t = chained-words a es in
@@ -95,11 +95,11 @@ module _ (l : Limits) (a : Automaton) (es : List Edge) (o : Orderly a es) where
 
   -- THE WORDS ARE A TABLE: no refusal of 2 to 9 holds of them
   pub chained-valid :
-      1 ≤ a .states → a .states ≤ l .states → 1 ≤ a .letters → a .letters ≤ 16 → length es ≤ l .records →
+      1 ≤ a .states → a .states ≤ l .states → 1 ≤ a .letters → a .letters ≤ most-letters → length es ≤ l .records →
       table-refusal l (chained-words a es) ≡ 0
   chained-valid n₁ n₂ k₁ k₂ m₁ = valid-passes l (chained-words a es) (chained-is-valid n₁ n₂ k₁ k₂ m₁)
 
   pub chained-fits :
-      1 ≤ a .states → a .states ≤ l .states → 1 ≤ a .letters → a .letters ≤ 16 → length es ≤ l .records →
-      l .states ≤ 65535 → l .records ≤ 65535 → (i : ℕ) → getD (chained-words a es) i 0 < 65536
+      1 ≤ a .states → a .states ≤ l .states → 1 ≤ a .letters → a .letters ≤ most-letters → length es ≤ l .records →
+      {bits : ℕ} → Range-fits bits l → (i : ℕ) → getD (chained-words a es) i 0 < 2 ^ bits
   chained-fits n₁ n₂ k₁ k₂ m₁ = words-fit (chained-is-valid n₁ n₂ k₁ k₂ m₁)

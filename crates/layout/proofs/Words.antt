@@ -7,7 +7,7 @@ use native.Mathlib.Omega.{arith}
 use lib.ListN.{length, getD, length-append, List·getD-append}
 use lib.Seq.{getD-append-add}
 use Rattle.basics.specs.Rows.{rows}
-use Rattle.basics.proofs.Rows.{rows-length, rows-at, rows-same}
+use Rattle.basics.proofs.Rows.{rows-length, rows-at}
 use Rattle.automata.specs.Automaton.{Automaton}
 use Rattle.automata.specs.System.{Edge, edge-at}
 use Rattle.tables.specs.Table.{n-of, k-of, m-of, flags-of, head-of, record-at, letter-of, target-of, next-of}
@@ -102,12 +102,3 @@ module _ (a : Automaton) (es : List Edge) where
       let p = record-place r in
       let at : record-at (chained-words a es) (suc r) + 2 ≡ 3 + (2 * a .states + (3 * r + 2)) = omega arith in
       rw at (record-word r 2 l (omega arith))
-
--- the words depend on an automaton only by its counts and its flags
-pub chained-same :
-    (a b : Automaton) (es : List Edge) → a .states ≡ b .states → a .letters ≡ b .letters →
-    ((i : ℕ) → i < b .states → flags-word a i ≡ flags-word b i) → chained-words a es ≡ chained-words b es
-unfolding chained-words state-row
-chained-same a b es n k h =
-    let heads = rows-same (b .states) (state-row a es) (state-row b es) (λ i l. let e = h i l in cc) in
-    cc

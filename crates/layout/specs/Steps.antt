@@ -6,19 +6,20 @@ use Prim.Native.Nat.{ℕ, suc, _+_, _*_, _≤_, _<_}
 use lib.Dec.{ltb, eqb}
 use lib.ListN.{length, getD, drop, set}
 use Rattle.automata.specs.System.{Edge}
+use Rattle.tables.specs.Table.{largest-word}
 use Rattle.layout.specs.Chained.{first-record, next-record}
 use Rattle.layout.specs.Triples.{triples-of}
 
--- the words of a table with so many states and records fit, and its numbers fit 16 bits
-pub record Room (w : List ℕ) (states edges : ℕ) : Type 0 where
+-- the words of a table with so many states and records are there, and its counts fit words of so many bits
+pub record Table-room (bits : ℕ) (w : List ℕ) (states edges : ℕ) : Type 0 where
   pub room : 3 + 2 * states + 3 * edges ≤ length w
-  pub states-fit : states ≤ 65535
-  pub edges-fit : edges ≤ 65535
+  pub states-fit : states ≤ largest-word bits
+  pub edges-fit : edges ≤ largest-word bits
 
 -- edges stand in the words as triples, their sources are states, and beyond the table's words all is zero
-pub record Lay-out-asks (w : List ℕ) (states letters edges : ℕ) : Type 0 where
-  pub room : Room w states edges
-  pub letters-fit : letters ≤ 65535
+pub record Lay-out-asks (bits : ℕ) (w : List ℕ) (states letters edges : ℕ) : Type 0 where
+  pub room : Table-room bits w states edges
+  pub letters-fit : letters ≤ largest-word bits
   pub source : (e : ℕ) → e < edges → getD w (5 + 3 * e) 0 < states
   pub beyond : (i : ℕ) → 3 + 2 * states + 3 * edges ≤ i → getD w i 0 ≡ 0
 
@@ -46,14 +47,14 @@ unfoldable pub moved-edges : (w : List ℕ) → (states count : ℕ) → List Ed
 moved-edges w n m = triples-of (drop (2 * n) w) m
 
 -- the sources of edges behind the state words are states, and no state has a head
-pub record Link-asks (w : List ℕ) (states edges : ℕ) : Type 0 where
-  pub room : Room w states edges
+pub record Link-asks (bits : ℕ) (w : List ℕ) (states edges : ℕ) : Type 0 where
+  pub room : Table-room bits w states edges
   pub source : (e : ℕ) → e < edges → getD w (5 + 2 * states + 3 * e) 0 < states
   pub empty : (q : ℕ) → q < states → getD w (4 + 2 * q) 0 ≡ 0
 
 -- the same of one edge
-pub record Link-one-asks (w : List ℕ) (states edges r : ℕ) : Type 0 where
-  pub room : Room w states edges
+pub record Link-one-asks (bits : ℕ) (w : List ℕ) (states edges r : ℕ) : Type 0 where
+  pub room : Table-room bits w states edges
   pub inside : r < edges
   pub source : getD w (5 + 2 * states + 3 * r) 0 < states
 
@@ -72,12 +73,12 @@ pub record Linked (states edges count : ℕ) (w v : List ℕ) : Type 0 where
       (i : ℕ) → ((q : ℕ) → q < states → i ≡ 4 + 2 * q → ⊥) → ((r : ℕ) → r < count → i ≡ 5 + 2 * states + 3 * r → ⊥) →
       getD v i 0 ≡ getD w i 0
 
--- three words that fit 16 bits
-pub record Counts-ask (w : List ℕ) (states letters edges : ℕ) : Type 0 where
+-- three words that fit so many bits
+pub record Counts-ask (bits : ℕ) (w : List ℕ) (states letters edges : ℕ) : Type 0 where
   pub room : 3 ≤ length w
-  pub states-fit : states ≤ 65535
-  pub letters-fit : letters ≤ 65535
-  pub edges-fit : edges ≤ 65535
+  pub states-fit : states ≤ largest-word bits
+  pub letters-fit : letters ≤ largest-word bits
+  pub edges-fit : edges ≤ largest-word bits
 
 -- the three counts before all else
 unfoldable pub with-counts : (states letters edges : ℕ) → (w : List ℕ) → List ℕ

@@ -7,7 +7,7 @@ use lib.Dec.{leb}
 use lib.ListN.{getD}
 use Rattle.basics.proofs.Booleans.{and-make, and-l, and-r, and-false-l, and-false-r, leb-le, le-leb, gt-leb, lt-ltb, ge-ltb}
 use Rattle.tables.specs.Access.{Word}
-use Rattle.tables.specs.Table.{n-of, m-of, head-of, record-at, letter-of, target-of, next-of}
+use Rattle.tables.specs.Table.{word-bits, n-of, m-of, head-of, record-at, letter-of, target-of, next-of}
 use Rattle.reader.specs.declared.Reading.the-variants.{Edge, End}
 use Rattle.reader.specs.Chain.{is-record, either-reading, reading-at, record-after, first-record}
 
@@ -43,15 +43,15 @@ first-head t q l = rw (lt-ltb l) refl
 
 -- AS THE CODE READS THEM: n and m are the words that say how many states and records there are, p is where a record's words begin,
 -- and c, q and x are words of a record or of a state
-pub read-record : (t : List ℕ) (r : ℕ) {m : ℕ} → Word m (m-of t) → 1 ≤ r → r ≤ m → is-record t r ≡ true
+pub read-record : (t : List ℕ) (r : ℕ) {m : ℕ} → Word word-bits m (m-of t) → 1 ≤ r → r ≤ m → is-record t r ≡ true
 read-record t r w low high = record-yes t r low (rw (w .is) at high)
 
-pub read-high : (t : List ℕ) (r : ℕ) {m : ℕ} → Word m (m-of t) → m < r → is-record t r ≡ false
+pub read-high : (t : List ℕ) (r : ℕ) {m : ℕ} → Word word-bits m (m-of t) → m < r → is-record t r ≡ false
 unfolding is-record
 read-high t r w high = and-false-r (leb 1 r) (gt-leb (rw (w .is) at high))
 
 pub read-edge :
-    (t : List ℕ) (r : ℕ) {p c q : ℕ} → is-record t r ≡ true → p ≡ record-at t r → Word c (getD t p 0) → Word q (getD t (p + 1) 0) →
+    (t : List ℕ) (r : ℕ) {p c q : ℕ} → is-record t r ≡ true → p ≡ record-at t r → Word word-bits c (getD t p 0) → Word word-bits q (getD t (p + 1) 0) →
     Edge c q ≡ reading-at t r
 unfolding reading-at either-reading letter-of target-of
 read-edge t r e place c q = rw (e, c .is, q .is, place) refl
@@ -61,14 +61,14 @@ unfolding reading-at either-reading
 read-end t r e = rw e refl
 
 pub read-next :
-    (t : List ℕ) (r : ℕ) {p x : ℕ} → is-record t r ≡ true → p ≡ record-at t r → Word x (getD t (p + 2) 0) → x ≡ record-after t r
+    (t : List ℕ) (r : ℕ) {p x : ℕ} → is-record t r ≡ true → p ≡ record-at t r → Word word-bits x (getD t (p + 2) 0) → x ≡ record-after t r
 unfolding next-of
 read-next t r e place x = x .is ∙ rw place (sym (after-record t r e))
 
-pub read-head : (t : List ℕ) (q : ℕ) {n x : ℕ} → Word n (n-of t) → q < n → Word x (getD t (4 + 2 * q) 0) → x ≡ first-record t q
+pub read-head : (t : List ℕ) (q : ℕ) {n x : ℕ} → Word word-bits n (n-of t) → q < n → Word word-bits x (getD t (4 + 2 * q) 0) → x ≡ first-record t q
 unfolding head-of
 read-head t q w l x = x .is ∙ sym (first-head t q (rw (w .is) at l))
 
-pub read-none : (t : List ℕ) (q : ℕ) {n : ℕ} → Word n (n-of t) → n ≤ q → 0 ≡ first-record t q
+pub read-none : (t : List ℕ) (q : ℕ) {n : ℕ} → Word word-bits n (n-of t) → n ≤ q → 0 ≡ first-record t q
 unfolding first-record
 read-none t q w l = rw (ge-ltb (rw (w .is) at l)) refl

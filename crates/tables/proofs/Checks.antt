@@ -1,18 +1,13 @@
 -- What one turn of each check reads decides the definition's test of that state or record. Assumes nothing.
 use mathlib.Core.Path.{_≡_, sym, _∙_}
-use mathlib.Core.Bool.{Bool, true, false, _&&_, _||_, not}
+use mathlib.Core.Bool.{Bool, true, false, _||_, not}
 use mathlib.Core.List.{List}
 use Prim.Native.Nat.{ℕ, suc, _+_, _≤_, _<_}
 use native.Mathlib.Numerals.{add-one}
-use lib.Dec.{ltb, leb, eqb}
+use lib.Dec.{ltb, eqb}
 use Rattle.basics.proofs.Booleans.{and-make, and-l, leb-le, and-false-l, and-false-r, true-not, false-not, le-leb, gt-leb, eq-eqb, ne-eqb}
 use Rattle.basics.proofs.Scans.{scan-fails, read-lt, read-ge}
-use Rattle.tables.specs.Marks.{next-good}
-use Rattle.tables.specs.Table.{n-of, k-of, m-of, letter-of, target-of, next-of, records-good}
-
--- the test of record i + 1 in refusal 8
-abbrev pub record-good : List ℕ → ℕ → Bool
-record-good t i = ltb (letter-of t (suc i)) (k-of t) && ltb (target-of t (suc i)) (n-of t)
+use Rattle.tables.specs.Table.{n-of, k-of, m-of, letter-of, target-of, next-of, record-good, records-good, leads-on, next-good}
 
 module _ (t : List ℕ) (i : ℕ) {n k a : ℕ} (pn : n ≡ n-of t) (pk : k ≡ k-of t) (pa : a ≡ letter-of t (i + 1)) where
   pub letter-bad : i < m-of t → k ≤ a → false ≡ records-good t
@@ -32,25 +27,25 @@ module _ (t : List ℕ) (i : ℕ) {n k a : ℕ} (pn : n ≡ n-of t) (pk : k ≡ 
 
 -- the test of a next, answered for what was read
 module _ (t : List ℕ) (i : ℕ) {m a : ℕ} {b : Bool} (pm : m ≡ m-of t) (pa : a ≡ next-of t (i + 1)) where
-  next-read : b ≡ (leb a m && (eqb a 0 || ltb (i + 1) a)) → b ≡ next-good t i
+  next-read : b ≡ leads-on m (i + 1) a → b ≡ next-good t i
   next-read e = e ∙ rw (pm, pa, add-one i)
 
-  pub next-fails : b ≡ (leb a m && (eqb a 0 || ltb (i + 1) a)) → not b ≡ true → next-good t i ≡ false
+  pub next-fails : b ≡ leads-on m (i + 1) a → not b ≡ true → next-good t i ≡ false
   next-fails e h = sym (next-read e) ∙ true-not b h
 
-  pub next-passes : b ≡ (leb a m && (eqb a 0 || ltb (i + 1) a)) → not b ≡ false → next-good t i ≡ true
+  pub next-passes : b ≡ leads-on m (i + 1) a → not b ≡ false → next-good t i ≡ true
   next-passes e h = sym (next-read e) ∙ false-not b h
 
-  pub next-small : b ≡ (leb a m && (eqb a 0 || ltb (i + 1) a)) → not b ≡ false → a ≤ m-of t
+  pub next-small : b ≡ leads-on m (i + 1) a → not b ≡ false → a ≤ m-of t
   next-small e h = rw (← pm) (leb-le a m (and-l (eqb a 0 || ltb (i + 1) a) (sym e ∙ false-not b h)))
 
 -- the three ways out of the test of one next
 module _ {next m : ℕ} (number : ℕ) where
-  pub next-far : m < next → false ≡ (leb next m && (eqb next 0 || ltb number next))
+  pub next-far : m < next → false ≡ leads-on m number next
   next-far l = sym (and-false-l (eqb next 0 || ltb number next) (gt-leb l))
 
-  pub next-none : next ≤ m → next ≡ 0 → true ≡ (leb next m && (eqb next 0 || ltb number next))
+  pub next-none : next ≤ m → next ≡ 0 → true ≡ leads-on m number next
   next-none l z = let a = le-leb l in let b = eq-eqb z in cc
 
-  pub next-link : next ≤ m → (next ≡ 0 → ⊥) → ltb number next ≡ (leb next m && (eqb next 0 || ltb number next))
+  pub next-link : next ≤ m → (next ≡ 0 → ⊥) → ltb number next ≡ leads-on m number next
   next-link l z = let a = le-leb l in let b = ne-eqb next 0 z in cc

@@ -1,28 +1,30 @@
--- Laws of chained tables: what refusals 2 to 9 leave is a valid table, and back; its words fit 16 bits; a pattern is a wide table; its meaning is
+-- Laws of chained tables: what refusals 2 to 9 leave is a valid table, and back; its numbers fit their words; a pattern is a wide table; its meaning is
 -- closed; its chains rise, so that the fuel of a walk does not matter. Assumes nothing.
 use mathlib.Core.Path.{_≡_, refl, sym, _∙_}
 use mathlib.Core.Bool.{Bool, true, false, _&&_, _||_, not}
 use mathlib.Core.List.{List}
 use mathlib.Core.Logic.{_⊎_, inl, inr}
-use Prim.Native.Nat.{ℕ, zero, suc, _+_, _*_, _-_, _/_, _%_, _≤_, _<_}
+use Prim.Native.Nat.{ℕ, zero, suc, _+_, _*_, _-_, _/_, _%_, _^_, _≤_, _<_}
 use native.Mathlib.Omega.{arith}
 use lib.Dec.{ltb, leb, eqb}
 use lib.ListN.{length, getD, List·getD-eq-default}
+use lib.Pow.{pow-pos}
 use Rattle.basics.specs.Bounded.{each}
+use Rattle.basics.specs.Buffers.{or-else}
 use Rattle.basics.proofs.Booleans.{either, clash, and-l, and-r, and-make, or-l, or-r, or-true, true-not, false-not, eqb-eq, eq-eqb, eqb-ne, ne-eqb, ltb-lt, ltb-ge, lt-ltb, ge-ltb, leb-le, le-leb}
 use Rattle.basics.proofs.Bounded.{each-all, each-make}
-use Rattle.basics.proofs.Refusing.{passed}
+use Rattle.basics.proofs.Refusing.{passed, or-else-none}
 use Rattle.basics.proofs.Upward.{from-one}
 use Rattle.automata.specs.Automaton.{Closed}
 use Rattle.tables.specs.Access.{State-asks, Record-asks}
-use Rattle.tables.specs.Table.{Limits, pattern-range, wide-range, n-of, k-of, m-of, flags-of, head-of, record-at, letter-of, target-of, next-of, is-initial, chain-has, edge, meaning, flags-good, records-good, named, heads-good, nexts-good, chains-good, table-refusal}
+use Rattle.tables.specs.Table.{word-bits, most-letters, Limits, Range-fits, pattern-range, wide-range, n-of, k-of, m-of, flags-of, head-of, record-at, letter-of, target-of, next-of, is-initial, chain-has, edge, meaning, sizes-refusal, flag-good, flags-good, records-good, named, head-good, heads-good, leads-on, nexts-good, chains-good, table-refusal}
 
 -- VALID TABLES: the plain facts behind refusals 2 to 9
 pub record Valid (r : Limits) (t : List ℕ) : Type 0 where
   pub states-from : 1 ≤ n-of t
   pub states-to : n-of t ≤ r .states
   pub letters-from : 1 ≤ k-of t
-  pub letters-to : k-of t ≤ 16
+  pub letters-to : k-of t ≤ most-letters
   pub records-to : m-of t ≤ r .records
   pub whole : length t ≡ 3 + 2 * n-of t + 3 * m-of t
   pub flags : (q : ℕ) → q < n-of t → flags-of t q ≤ 3
@@ -53,7 +55,7 @@ test-rises x y (inr l) = or-r (eqb y 0) (lt-ltb l)
 record Passed (r : Limits) (t : List ℕ) : Type 0 where
   two : ltb (length t) 3 ≡ false
   three : (leb 1 (n-of t) && leb (n-of t) (r .states)) ≡ true
-  four : (leb 1 (k-of t) && leb (k-of t) 16) ≡ true
+  four : (leb 1 (k-of t) && leb (k-of t) most-letters) ≡ true
   five : ltb (r .records) (m-of t) ≡ false
   six : eqb (length t) (3 + 2 * n-of t + 3 * m-of t) ≡ true
   seven : flags-good t ≡ true
@@ -64,12 +66,13 @@ module _ (r : Limits) (t : List ℕ) where
   split : table-refusal r t ≡ 0 → Passed r t
   unfolding table-refusal
   split h =
-      let a = passed _ 1 _ h in
+      let (sizes, words) = or-else-none (sizes-refusal r t) _ h in
+      let a = passed _ 1 _ sizes in
       let b = passed _ 2 _ (a .1) in
       let c = passed _ 3 _ (b .1) in
       let d = passed _ 4 _ (c .1) in
       let e = passed _ 5 _ (d .1) in
-      let f = passed _ 6 _ (e .1) in
+      let f = passed _ 6 _ words in
       let g = passed _ 7 _ (f .1) in
       let i = passed _ 8 _ (g .1) in
       record {
@@ -84,7 +87,7 @@ module _ (r : Limits) (t : List ℕ) where
       }
 
   join : Passed r t → table-refusal r t ≡ 0
-  unfolding table-refusal
+  unfolding table-refusal or-else
   join p = cc
 
   pub valid : table-refusal r t ≡ 0 → Valid r t
@@ -96,19 +99,19 @@ module _ (r : Limits) (t : List ℕ) where
       let nexts : nexts-good t ≡ true = and-l (each (m-of t) (λ i. eqb (named t (suc i)) 1)) after in
       let edges = each-record (m-of t) (λ x. ltb (letter-of t x) (k-of t) && ltb (target-of t x) (n-of t)) (p .eight) in
       let links =
-      each-record (m-of t) (λ x. leb (next-of t x) (m-of t) && (eqb (next-of t x) 0 || ltb x (next-of t x))) nexts in
+      each-record (m-of t) (λ x. leads-on (m-of t) x (next-of t x)) nexts in
       let names = each-record (m-of t) (λ x. eqb (named t x) 1) (and-r (nexts-good t) after) in
       record {
         states-from = leb-le 1 (n-of t) (and-l (leb (n-of t) (r .states)) (p .three));
         states-to = leb-le (n-of t) (r .states) (and-r (leb 1 (n-of t)) (p .three));
-        letters-from = leb-le 1 (k-of t) (and-l (leb (k-of t) 16) (p .four));
-        letters-to = leb-le (k-of t) 16 (and-r (leb 1 (k-of t)) (p .four));
+        letters-from = leb-le 1 (k-of t) (and-l (leb (k-of t) most-letters) (p .four));
+        letters-to = leb-le (k-of t) most-letters (and-r (leb 1 (k-of t)) (p .four));
         records-to = ltb-ge (r .records) (m-of t) (p .five);
         whole = eqb-eq (length t) (3 + 2 * n-of t + 3 * m-of t) (p .six);
-        flags = λ q l. leb-le (flags-of t q) 3 (each-all (n-of t) (λ q. leb (flags-of t q) 3) (p .seven) q l);
+        flags = λ q l. leb-le (flags-of t q) 3 (each-all (n-of t) (flag-good t) (p .seven) q l);
         letter = λ x o l. ltb-lt (letter-of t x) (k-of t) (and-l (ltb (target-of t x) (n-of t)) (edges x o l));
         target = λ x o l. ltb-lt (target-of t x) (n-of t) (and-r (ltb (letter-of t x) (k-of t)) (edges x o l));
-        head = λ q l. leb-le (head-of t q) (m-of t) (each-all (n-of t) (λ q. leb (head-of t q) (m-of t)) heads q l);
+        head = λ q l. leb-le (head-of t q) (m-of t) (each-all (n-of t) (head-good t) heads q l);
         next = λ x o l. leb-le (next-of t x) (m-of t) (and-l (eqb (next-of t x) 0 || ltb x (next-of t x)) (links x o l));
         rises = λ x o l. rises-test x (next-of t x) (and-r (leb (next-of t x) (m-of t)) (links x o l));
         once = λ x o l. eqb-eq (named t x) 1 (names x o l);
@@ -124,15 +127,15 @@ module _ (r : Limits) (t : List ℕ) where
         four = and-make (le-leb (v .letters-from)) (le-leb (v .letters-to));
         five = ge-ltb (v .records-to);
         six = eq-eqb (v .whole);
-        seven = each-make (n-of t) (λ q. leb (flags-of t q) 3) (λ q l. le-leb (v .flags q l));
+        seven = each-make (n-of t) (flag-good t) (λ q l. le-leb (v .flags q l));
         eight =
             record-each (m-of t) (λ x. ltb (letter-of t x) (k-of t) && ltb (target-of t x) (n-of t))
             (λ x o l. and-make (lt-ltb (v .letter x o l)) (lt-ltb (v .target x o l)));
         nine =
             and-make
-            (each-make (n-of t) (λ q. leb (head-of t q) (m-of t)) (λ q l. le-leb (v .head q l)))
+            (each-make (n-of t) (head-good t) (λ q l. le-leb (v .head q l)))
             (and-make
-            (record-each (m-of t) (λ x. leb (next-of t x) (m-of t) && (eqb (next-of t x) 0 || ltb x (next-of t x)))
+            (record-each (m-of t) (λ x. leads-on (m-of t) x (next-of t x))
             (λ x o l. and-make (le-leb (v .next x o l)) (test-rises x (next-of t x) (v .rises x o l))))
             (record-each (m-of t) (λ x. eqb (named t x) 1) (λ x o l. eq-eqb (v .once x o l))));
       })
@@ -170,6 +173,11 @@ pub pattern-is-wide : (t : List ℕ) → table-refusal pattern-range t ≡ 0 →
 unfolding pattern-range wide-range
 pattern-is-wide t = passes-wider pattern-range wide-range t (omega arith) (omega arith)
 
+-- the numbers of a wide table fit its words
+pub wide-fits : Range-fits word-bits wide-range
+unfolding wide-range
+wide-fits = record { states-fit = omega arith; records-fit = omega arith; letters-fit = omega arith }
+
 -- what reading a state or a record of a table that passes asks
 module _ (r : Limits) (t : List ℕ) (passes : table-refusal r t ≡ 0) where
   pub state-asked : {q : ℕ} → q < n-of t → State-asks t q
@@ -187,13 +195,13 @@ chain-ends zero t c q = refl
 chain-ends (suc f) t c q = refl
 
 module _ {r : Limits} {t : List ℕ} (v : Valid r t) where
-  -- every word fits 16 bits
-  pub words-fit : r .states ≤ 65535 → r .records ≤ 65535 → (i : ℕ) → getD t i 0 < 65536
+  -- no word is above a limit that the numbers of the range and of the letters keep to
+  words-to : {limit : ℕ} → r .states ≤ limit → r .records ≤ limit → most-letters ≤ limit → (i : ℕ) → getD t i 0 ≤ limit
   unfolding n-of k-of m-of flags-of head-of record-at letter-of target-of next-of
-  words-fit ls lr zero = omega arith
-  words-fit ls lr (suc zero) = omega arith
-  words-fit ls lr (suc (suc zero)) = omega arith
-  words-fit ls lr (suc (suc (suc j))) =
+  words-to {limit} ls lr lk zero = omega arith
+  words-to {limit} ls lr lk (suc zero) = omega arith
+  words-to {limit} ls lr lk (suc (suc zero)) = omega arith
+  words-to {limit} ls lr lk (suc (suc (suc j))) =
       elim (either (ltb j (2 * n-of t))) [
         | inl a ↦ state-fits j (ltb-lt j (2 * n-of t) a) (either (eqb (j % 2) 0))
         | inr a ↦
@@ -210,7 +218,7 @@ module _ {r : Limits} {t : List ℕ} (v : Valid r t) where
       ]
     where
       record-fits :
-          (x : ℕ) → 1 ≤ x → x ≤ m-of t → (i : ℕ) → record-at t x ≤ i → i ≤ record-at t x + 2 → getD t i 0 < 65536
+          (x : ℕ) → 1 ≤ x → x ≤ m-of t → (i : ℕ) → record-at t x ≤ i → i ≤ record-at t x + 2 → getD t i 0 ≤ limit
       record-fits x o l i low high =
           let a = v .letter x o l in
           let b = v .target x o l in
@@ -228,7 +236,7 @@ module _ {r : Limits} {t : List ℕ} (v : Valid r t) where
           ]
 
       state-fits :
-          (j : ℕ) → j < 2 * n-of t → (eqb (j % 2) 0 ≡ true) ⊎ (eqb (j % 2) 0 ≡ false) → getD t (suc (suc (suc j))) 0 < 65536
+          (j : ℕ) → j < 2 * n-of t → (eqb (j % 2) 0 ≡ true) ⊎ (eqb (j % 2) 0 ≡ false) → getD t (suc (suc (suc j))) 0 ≤ limit
       state-fits j l (inl e) =
           let even = eqb-eq (j % 2) 0 e in
           let h = v .flags (j / 2) (omega arith) in
@@ -237,6 +245,12 @@ module _ {r : Limits} {t : List ℕ} (v : Valid r t) where
           let odd = eqb-ne (j % 2) 0 e in
           let h = v .head (j / 2) (omega arith) in
           let at : suc (suc (suc j)) ≡ 4 + 2 * (j / 2) = omega arith in rw at (omega arith)
+
+  -- every word fits so many bits, where the numbers of the range do
+  pub words-fit : {bits : ℕ} → Range-fits bits r → (i : ℕ) → getD t i 0 < 2 ^ bits
+  words-fit {bits} f i =
+      let h = words-to (f .states-fit) (f .records-fit) (f .letters-fit) i in
+      let some = pow-pos bits in omega arith
 
   -- CHAINS. A record is followed by none or by a later one
   pub next-later : (x : ℕ) → 1 ≤ x → x ≤ m-of t → (next-of t x ≡ 0) ⊎ ((x < next-of t x) × (next-of t x ≤ m-of t))

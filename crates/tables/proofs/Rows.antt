@@ -7,11 +7,10 @@ use native.Mathlib.Omega.{arith}
 use lib.Dec.{eqb}
 use lib.ListN.{length, getD}
 use Rattle.basics.specs.Bounded.{each, count}
+use Rattle.basics.specs.Buffers.{or-else}
 use Rattle.basics.proofs.Booleans.{and-l, and-r, eqb-eq}
 use Rattle.tables.specs.Rows.{Row, pattern, wide, pattern-A, pattern-B, no-initial, forked, doubled, table-rows}
-use Rattle.tables.specs.Sizes.{sizes-refusal}
-use Rattle.tables.specs.Table.{Limits, pattern-range, wide-range, n-of, k-of, m-of, flags-of, head-of, record-at, letter-of, target-of, next-of, flags-good, records-good, named, heads-good, nexts-good, chains-good, table-refusal}
-use Rattle.tables.proofs.Refusals.{table-by-parts}
+use Rattle.tables.specs.Table.{Limits, pattern-range, wide-range, n-of, k-of, m-of, flags-of, head-of, record-at, letter-of, target-of, next-of, sizes-refusal, flags-good, records-good, named, heads-good, nexts-good, chains-good, table-refusal}
 
 -- the refusal, computed in order: a table that meets 2 to 6 is not looked at further
 in-order : Limits → List ℕ → ℕ
@@ -26,8 +25,8 @@ lazily true x y = refl
 lazily false x y = refl
 
 in-order-right : (r : Limits) (t : List ℕ) → in-order r t ≡ table-refusal r t
-unfolding in-order
-in-order-right r t = lazily (eqb (sizes-refusal r t) 0) _ _ ∙ sym (table-by-parts r t)
+unfolding in-order table-refusal or-else
+in-order-right r t = lazily (eqb (sizes-refusal r t) 0) _ _
 
 holds : Row → Bool
 holds row = eqb (in-order (row .range) (row .words)) (row .answer)
@@ -44,7 +43,7 @@ all-hold-each (row ∷ others) none h (suc i) l = all-hold-each others none (and
 
 -- the one computation
 table-rows-hold : all-hold table-rows ≡ true
-unfolding all-hold holds in-order table-rows pattern wide pattern-A pattern-B no-initial forked doubled pattern-range wide-range sizes-refusal n-of k-of m-of flags-of head-of record-at letter-of target-of next-of flags-good records-good named heads-good nexts-good chains-good each count
+unfolding all-hold holds in-order table-rows pattern wide pattern-A pattern-B no-initial forked doubled pattern-range wide-range n-of k-of m-of flags-of head-of record-at letter-of target-of next-of flags-good records-good named heads-good nexts-good chains-good each count
 table-rows-hold = refl
 
 -- every row is right

@@ -3,12 +3,12 @@ use mathlib.Core.Path.{_≡_}
 use mathlib.Core.List.{List}
 use Prim.Native.Nat.{ℕ, _+_, _*_, _≤_, _<_}
 use lib.ListN.{length}
-use Rattle.tables.specs.Table.{Limits, n-of, m-of}
+use Rattle.tables.specs.Table.{largest-word, Limits, n-of, m-of}
 
--- the answer is this word of the table, and it has 16 bits
-pub record Word (answer word : ℕ) : Type 0 where
+-- the answer is this word of the table, of so many bits
+pub record Word (bits answer word : ℕ) : Type 0 where
   pub is : answer ≡ word
-  pub small : answer < 65536
+  pub small : answer ≤ largest-word bits
 
 -- all the words that n and m call for are there
 abbrev pub Sized : (table : List ℕ) → Type 0

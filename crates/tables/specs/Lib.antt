@@ -1,5 +1,4 @@
 pub mod Access
 pub mod Marks
 pub mod Rows
-pub mod Sizes
 pub mod Table

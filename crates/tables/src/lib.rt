@@ -1,13 +1,10 @@
 // The chained table of document 01: a lent slice of 16-bit words.
 ghost use mathlib.Core.Path.{_≡_};
-ghost use mathlib.Core.Bool.{_&&_, _||_};
-ghost use Prim.Native.Nat.{_≤_, _<_};
-ghost use lib.Dec.{eqb, leb, ltb};
+ghost use Prim.Native.Nat.{_≤_};
 ghost use lib.ListN.{getD, length};
 ghost use Rattle.tables.specs.Access.{Word, Sized, State-asks, Record-asks, limits};
-ghost use Rattle.tables.specs.Marks.{Mark, Heads-named, Nexts-named};
-ghost use Rattle.tables.specs.Sizes.{sizes-refusal};
-ghost use Rattle.tables.specs.Table.{n-of, k-of, m-of, flags-of, head-of, letter-of, target-of, next-of, flags-good, records-good, chains-good, table-refusal};
+ghost use Rattle.tables.specs.Marks.{mark-words, Mark-asks, Mark, Heads-named, Nexts-named};
+ghost use Rattle.tables.specs.Table.{word-bits, n-of, k-of, m-of, flags-of, head-of, letter-of, target-of, next-of, sizes-refusal, flags-good, records-good, leads-on, chains-good, table-refusal};
 
 // THE LIMITS of document 01's tables.
 
@@ -27,11 +24,14 @@ pub const WIDE_STATES: usize = WORD_MOST;
 
 pub const WIDE_RECORDS: usize = WORD_MOST;
 
+// The words that hold a bit for each record.
+const MARK_WORDS: usize = (WORD_MOST + 1) / 32;
+
 // READING WORDS. Every reading answers a number wide enough to index with.
 
 // A word of the table; zero past its end.
 pub fn word(table: &[u16], i: usize) -> usize
-    ensures { λ r. ⌜ Word r (getD (now (table .entry)) i 0) ⌝ }
+    ensures { λ r. ⌜ Word word-bits r (getD (now (table .entry)) i 0) ⌝ }
 {
     if i < table.len() {
         table[i] as usize
@@ -42,21 +42,21 @@ pub fn word(table: &[u16], i: usize) -> usize
 
 // n: how many states the table has.
 pub fn states_of(table: &[u16]) -> usize
-    ensures { λ r. ⌜ Word r (n-of (now (table .entry))) ⌝ }
+    ensures { λ r. ⌜ Word word-bits r (n-of (now (table .entry))) ⌝ }
 {
     word(table, 0)
 }
 
 // k: how many letters.
 pub fn letters_of(table: &[u16]) -> usize
-    ensures { λ r. ⌜ Word r (k-of (now (table .entry))) ⌝ }
+    ensures { λ r. ⌜ Word word-bits r (k-of (now (table .entry))) ⌝ }
 {
     word(table, 1)
 }
 
 // m: how many records.
 pub fn records_of(table: &[u16]) -> usize
-    ensures { λ r. ⌜ Word r (m-of (now (table .entry))) ⌝ }
+    ensures { λ r. ⌜ Word word-bits r (m-of (now (table .entry))) ⌝ }
 {
     word(table, 2)
 }
@@ -64,7 +64,7 @@ pub fn records_of(table: &[u16]) -> usize
 // The flags of a state: 1 initial, 2 accepting, 3 both.
 pub fn flags_of(table: &[u16], state: usize) -> usize
     requires { ⌜ State-asks (now table) state ⌝ }
-    ensures { λ r. ⌜ Word r (flags-of (now (table .entry)) state) ⌝ }
+    ensures { λ r. ⌜ Word word-bits r (flags-of (now (table .entry)) state) ⌝ }
 {
     table[3 + 2 * state] as usize
 }
@@ -72,7 +72,7 @@ pub fn flags_of(table: &[u16], state: usize) -> usize
 // The first record of a state's chain; zero where it has none.
 pub fn head_of(table: &[u16], state: usize) -> usize
     requires { ⌜ State-asks (now table) state ⌝ }
-    ensures { λ r. ⌜ Word r (head-of (now (table .entry)) state) ⌝ }
+    ensures { λ r. ⌜ Word word-bits r (head-of (now (table .entry)) state) ⌝ }
 {
     table[4 + 2 * state] as usize
 }
@@ -80,7 +80,7 @@ pub fn head_of(table: &[u16], state: usize) -> usize
 // The letter of a record. The state count is handed on, so that a walk along a chain reads it once.
 pub fn letter_of(table: &[u16], states: usize, number: usize) -> usize
     requires { ⌜ Record-asks (now table) states number ⌝ }
-    ensures { λ r. ⌜ Word r (letter-of (now (table .entry)) number) ⌝ }
+    ensures { λ r. ⌜ Word word-bits r (letter-of (now (table .entry)) number) ⌝ }
 {
     table[3 + 2 * states + 3 * (number - 1)] as usize
 }
@@ -88,7 +88,7 @@ pub fn letter_of(table: &[u16], states: usize, number: usize) -> usize
 // The state that a record's edge leads to.
 pub fn target_of(table: &[u16], states: usize, number: usize) -> usize
     requires { ⌜ Record-asks (now table) states number ⌝ }
-    ensures { λ r. ⌜ Word r (target-of (now (table .entry)) number) ⌝ }
+    ensures { λ r. ⌜ Word word-bits r (target-of (now (table .entry)) number) ⌝ }
 {
     table[3 + 2 * states + 3 * (number - 1) + 1] as usize
 }
@@ -96,7 +96,7 @@ pub fn target_of(table: &[u16], states: usize, number: usize) -> usize
 // The record after this one in its chain; zero ends the chain.
 pub fn next_of(table: &[u16], states: usize, number: usize) -> usize
     requires { ⌜ Record-asks (now table) states number ⌝ }
-    ensures { λ r. ⌜ Word r (next-of (now (table .entry)) number) ⌝ }
+    ensures { λ r. ⌜ Word word-bits r (next-of (now (table .entry)) number) ⌝ }
 {
     table[3 + 2 * states + 3 * (number - 1) + 2] as usize
 }
@@ -142,7 +142,7 @@ fn records_good(table: &[u16]) -> bool
 
 // A next of record `number`, with m records in all: zero ends the chain, and a link leads forward.
 fn next_good(next: usize, number: usize, m: usize) -> bool
-    ensures { λ r. ⌜ r ≡ (leb next m && (eqb next 0 || ltb number next)) ⌝ }
+    ensures { λ r. ⌜ r ≡ leads-on m number next ⌝ }
 {
     if next > m {
         return false;
@@ -156,17 +156,17 @@ fn next_good(next: usize, number: usize, m: usize) -> bool
 // Marks the record that a link names, and answers how many that are: one, and none for zero. Two where it was marked already. Records
 // that follow each other have their bits in different words, so that no store waits for the one before it.
 fn mark(seen: &mut [u32], link: usize) -> usize
-    requires { ⌜ (2048 ≤ length (now seen)) × (link < 65536) ⌝ }
-    ensures { λ r. ⌜ Mark link (now (seen .entry)) (now (seen .exit)) r ⌝ }
+    requires { ⌜ Mark-asks mark-words link (now seen) ⌝ }
+    ensures { λ r. ⌜ Mark mark-words link (now (seen .entry)) (now (seen .exit)) r ⌝ }
 {
     if link == 0 {
         return 0;
     }
-    let word = seen[link % 2048];
-    if (word >> (link / 2048)) % 2 != 0 {
+    let word = seen[link % MARK_WORDS];
+    if (word >> (link / MARK_WORDS)) % 2 != 0 {
         return 2;
     }
-    seen[link % 2048] = word + (1 << (link / 2048));
+    seen[link % MARK_WORDS] = word + (1 << (link / MARK_WORDS));
     1
 }
 
@@ -174,8 +174,8 @@ fn mark(seen: &mut [u32], link: usize) -> usize
 // names a record a second time.
 fn name_heads(table: &[u16], seen: &mut [u32]) -> usize
     requires { ⌜ Sized (now table) ⌝ }
-    requires { ⌜ 2048 ≤ length (now seen) ⌝ }
-    ensures { λ r. ⌜ Heads-named (now (table .entry)) (now (seen .entry)) (now (seen .exit)) r ⌝ }
+    requires { ⌜ mark-words ≤ length (now seen) ⌝ }
+    ensures { λ r. ⌜ Heads-named mark-words (now (table .entry)) (now (seen .entry)) (now (seen .exit)) r ⌝ }
 {
     let n = states_of(table);
     let m = records_of(table);
@@ -199,8 +199,8 @@ fn name_heads(table: &[u16], seen: &mut [u32]) -> usize
 // 9, nexts: each is zero or the number of a later record. Answers as for the heads.
 fn name_nexts(table: &[u16], seen: &mut [u32]) -> usize
     requires { ⌜ Sized (now table) ⌝ }
-    requires { ⌜ 2048 ≤ length (now seen) ⌝ }
-    ensures { λ r. ⌜ Nexts-named (now (table .entry)) (now (seen .entry)) (now (seen .exit)) r ⌝ }
+    requires { ⌜ mark-words ≤ length (now seen) ⌝ }
+    ensures { λ r. ⌜ Nexts-named mark-words (now (table .entry)) (now (seen .entry)) (now (seen .exit)) r ⌝ }
 {
     let n = states_of(table);
     let m = records_of(table);
@@ -228,7 +228,7 @@ fn chains_good(table: &[u16]) -> bool
     ensures { λ r. ⌜ r ≡ chains-good (now (table .entry)) ⌝ }
 {
     let m = records_of(table);
-    let mut seen = [0u32; 2048];
+    let mut seen = [0u32; MARK_WORDS];
     let heads = name_heads(table, &mut seen);
     if heads > m {
         return false;

@@ -65,26 +65,26 @@ lasso-number n k u v w lasso met =
     ]
 
 -- WHAT IS NOT REFUSED: a valid wide table, and a lasso over its letters
-module _ (t u v : List ℕ) (work : ℕ) (none : lasso-refusal t u v work ≡ 0) where
+module _ (t u v : List ℕ) (work : ℕ) (none : lasso-refusal wide-range t u v work ≡ 0) where
   accepted-table : table-refusal wide-range t ≡ 0
-  accepted-table = accepted t u v work none .valid
+  accepted-table = accepted wide-range t u v work none .valid
 
   accepted-lasso : Lasso (k-of t) u v
   unfolding lasso-refusal
   accepted-lasso =
       let parts = or-else-none (table-refusal wide-range t) (parts-refusal (n-of t) (k-of t) u v work) none .1 in
-      parts-lasso (n-of t) (k-of t) u v work parts (accepted t u v work none .endless)
+      parts-lasso (n-of t) (k-of t) u v work parts (accepted wide-range t u v work none .endless)
 
   accepted-closed : Closed (meaning t)
   accepted-closed = meaning-closed (valid wide-range t accepted-table)
 
-module _ {t u v : List ℕ} {d : Decision} {w w-now : List ℕ} (says : Lasso-says t u v d w w-now) where
-  not-refused : Not-refused d → lasso-refusal t u v (length w) ≡ 0
+module _ {t u v : List ℕ} {d : Decision} {w w-now : List ℕ} (says : Lasso-says wide-range t u v d w w-now) where
+  not-refused : Not-refused d → lasso-refusal wide-range t u v (length w) ≡ 0
   unfolding decision
-  not-refused h = number-zero (lasso-refusal t u v (length w)) (takes? (meaning t) u v) (rw (says .answer) at h)
+  not-refused h = number-zero (lasso-refusal wide-range t u v (length w)) (takes? (meaning t) u v) (rw (says .answer) at h)
 
   -- where nothing is refused: taken where the table has an accepting run, and not taken where it has none
-  module _ (none : lasso-refusal t u v (length w) ≡ 0) where
+  module _ (none : lasso-refusal wide-range t u v (length w) ≡ 0) where
     accepted-taken : Takes (meaning t) (letter-at u v) → d ≡ Taken
     unfolding decision as-decision
     accepted-taken takes =
@@ -107,10 +107,10 @@ module _ {t u v : List ℕ} {d : Decision} {w w-now : List ℕ} (says : Lasso-sa
   says-not h = accepted-not (not-refused h)
 
   -- a refusal is the number that is met
-  refused-number : (number : ℕ) → d ≡ Refused number → (lasso-refusal t u v (length w) ≡ number) × (1 ≤ number)
+  refused-number : (number : ℕ) → d ≡ Refused number → (lasso-refusal wide-range t u v (length w) ≡ number) × (1 ≤ number)
   refused-number number h = answers.says-refused (rw h at says)
 
-  number-refused : (number : ℕ) → lasso-refusal t u v (length w) ≡ number → 1 ≤ number → d ≡ Refused number
+  number-refused : (number : ℕ) → lasso-refusal wide-range t u v (length w) ≡ number → 1 ≤ number → d ≡ Refused number
   unfolding decision
   number-refused number same some =
       says .answer ∙ (let r = refused-by number (takes? (meaning t) u v) some in cc)
@@ -122,7 +122,7 @@ module _ {t u v : List ℕ} {d : Decision} {w w-now : List ℕ} (says : Lasso-sa
   unfolding lasso-refusal or-else
   says-refused table lasso number h =
       let (same, some) = refused-number number h in
-      let e : lasso-refusal t u v (length w) ≡ parts-refusal (n-of t) (k-of t) u v (length w) = rw table in
+      let e : lasso-refusal wide-range t u v (length w) ≡ parts-refusal (n-of t) (k-of t) u v (length w) = rw table in
       rw (sym same ∙ e) (lasso-number (n-of t) (k-of t) u v (length w) lasso (λ z. let none = e ∙ z in omega arith))
 
 -- THE SECOND DEMAND, of lassos

@@ -10,7 +10,7 @@ use Rattle.automata.specs.Automaton.{Run, Takes, Single-run}
 use Rattle.automata.specs.Lasso.{letter-at, Lasso}
 use Rattle.automata.specs.System.{numbered}
 use Rattle.tables.specs.Table.{k-of, meaning, wide-range}
-use Rattle.tables.proofs.Laws.{valid, words-fit}
+use Rattle.tables.proofs.Laws.{valid, words-fit, wide-fits}
 use Rattle.ncsb.specs.Successors.{ncsb, accepting}
 use Rattle.ncsb.proofs.Initials.{initials-right}
 use Rattle.ncsb.proofs.Reached.{reached-fine}
@@ -43,7 +43,7 @@ reached-exactly t passed =
 
 -- THE SECOND DEMAND: an accepted build leaves exactly the reachable NCSB complement, every state, edge and mark and no other
 pub second-demand : Second-demand
-unfolding Second-demand wide-range
+unfolding Second-demand
 second-demand t r before after says accepted =
     let passed = build-passed says accepted in
     let used = build-used says accepted in
@@ -55,7 +55,7 @@ second-demand t r before after says accepted =
       table = used;
       valid = rw used table;
       means = rw used (words-mean t passed);
-      fit = rw used (λ i l. words-fit (valid wide-range (complement-words t) table) (omega arith) (omega arith) i);
+      fit = rw used (λ i l. words-fit (valid wide-range (complement-words t) table) wide-fits i);
       records = build-sets says accepted;
     }
 
@@ -87,8 +87,8 @@ module _ (t : List ℕ) (passed : check-refusal t ≡ 0) (fits : Fits t) (u v : 
   over-complement = rw (words-mean t passed .letters) lasso
 
   decisions :
-      Parted (meaning t) (meaning c) word → (d e : Decision) (w w-now z z-now : List ℕ) → Lasso-says t u v d w w-now →
-      Lasso-says c u v e z z-now → Not-refused d → Not-refused e →
+      Parted (meaning t) (meaning c) word → (d e : Decision) (w w-now z z-now : List ℕ) → Lasso-says wide-range t u v d w w-now →
+      Lasso-says wide-range c u v e z z-now → Not-refused d → Not-refused e →
       (Takes (meaning t) word × (d ≡ Taken) × (e ≡ NotTaken)) ⊎ (Takes (meaning c) word × (d ≡ NotTaken) × (e ≡ Taken))
   decisions (inl (taken, none)) d e w w-now z z-now says other h k =
       inl
@@ -99,7 +99,7 @@ module _ (t : List ℕ) (passed : check-refusal t ≡ 0) (fits : Fits t) (u v : 
       (taken, says-not says h none, says-taken other k taken)
 
   refusals :
-      (d : Decision) (w w-now : List ℕ) (number : ℕ) → Lasso-says t u v d w w-now ⊎ Lasso-says c u v d w w-now →
+      (d : Decision) (w w-now : List ℕ) (number : ℕ) → Lasso-says wide-range t u v d w w-now ⊎ Lasso-says wide-range c u v d w w-now →
       d ≡ Refused number → (number ≡ 14) ⊎ (number ≡ 16)
   refusals d w w-now number (inl says) h = says-refused says (checked-wide t passed) lasso number h
   refusals d w w-now number (inr says) h = says-refused says (words-valid t passed fits) over-complement number h

@@ -12,6 +12,7 @@ use Rattle.patterns.specs.Check.{check-refusal, as-checked}
 use Rattle.patterns.specs.declared.Checked.the-variants.{Passed}
 use Rattle.complement.specs.Build.{Lent, Build-says}
 use Rattle.complement.proofs.Second.{build-passed}
+use Rattle.tables.specs.Table.{wide-range}
 use Rattle.lassos.specs.Decision.{Lasso-says}
 use Rattle.tubochre.specs.Calls.{Decided-built, Trial-says}
 use Rattle.tubochre.specs.Demand.{Third-demand}
@@ -24,7 +25,7 @@ module _
     {r : Trial}
     (check : r .checked ≡ as-checked (check-refusal t))
     (build : Build-says t (r .counts) before after)
-    (pattern : Lasso-says t u v (r .pattern) w between)
+    (pattern : Lasso-says wide-range t u v (r .pattern) w between)
     (built : Decided-built (r .counts) (after .words) u v (r .complement) between w-now)
   where
     same-work : length between ≡ length w

@@ -5,7 +5,7 @@ use Prim.Native.Nat.{ℕ, _≤_}
 use lib.ListN.{length}
 use Rattle.basics.specs.Buffers.{zeros}
 use Rattle.automata.specs.Lasso.{Lasso}
-use Rattle.tables.specs.Table.{k-of}
+use Rattle.tables.specs.Table.{wide-range, k-of}
 use Rattle.patterns.specs.Check.{check-refusal, as-checked}
 use Rattle.complement.specs.Build.{Lent, Build-says, used, words-needed}
 use Rattle.complement.specs.declared.Counts.{Counts}
@@ -24,7 +24,7 @@ as-answer (Refused r) = record { number = r; taken = 0 }
 
 -- what the lasso call answers and leaves
 pub record Lasso-answers (t u v : List ℕ) (r : Answer) (w w-now : List ℕ) : Type 0 where
-  pub answer : r ≡ as-answer (decision t u v (length w))
+  pub answer : r ≡ as-answer (decision wide-range t u v (length w))
   pub work : w-now ≡ zeros w
 
 -- deciding on what a build left: its words hold the used part
@@ -33,7 +33,7 @@ pub record Used-inside (r : Counts) (o : List ℕ) : Type 0 where
 
 -- the complement is decided where it was built; else the build's refusal is the answer, and the work words are not touched
 pub record Decided-built (r : Counts) (o u v : List ℕ) (d : Decision) (w w-now : List ℕ) : Type 0 where
-  pub built : r .number ≡ 0 → d ≡ decision (used r o) u v (length w)
+  pub built : r .number ≡ 0 → d ≡ decision wide-range (used r o) u v (length w)
   pub unbuilt : (r .number ≡ 0 → ⊥) → d ≡ Refused (r .number)
   pub work : r .number ≡ 0 → w-now ≡ zeros w
   pub kept : (r .number ≡ 0 → ⊥) → w-now ≡ w
@@ -42,9 +42,9 @@ pub record Decided-built (r : Counts) (o u v : List ℕ) (d : Decision) (w w-now
 pub record Trial-says (t u v : List ℕ) (r : Trial) (before after : Lent) (w w-now : List ℕ) : Type 0 where
   pub check : r .checked ≡ as-checked (check-refusal t)
   pub build : Build-says t (r .counts) before after
-  pub pattern : r .pattern ≡ decision t u v (length w)
+  pub pattern : r .pattern ≡ decision wide-range t u v (length w)
   -- the complement is decided where it was built, and else carries the build's refusal
-  pub complement : r .counts .number ≡ 0 → r .complement ≡ decision (used (r .counts) (after .words)) u v (length w)
+  pub complement : r .counts .number ≡ 0 → r .complement ≡ decision wide-range (used (r .counts) (after .words)) u v (length w)
   pub unbuilt : (r .counts .number ≡ 0 → ⊥) → r .complement ≡ Refused (r .counts .number)
   pub work : w-now ≡ zeros w
   -- the third demand

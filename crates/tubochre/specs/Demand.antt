@@ -90,16 +90,16 @@ Refused-builds =
 -- an infinite run over it passes accepting states without end
 pub record Decided-exactly (t u v : List ℕ) (d : Decision) (work : ℕ) : Type 0 where
   -- a refusal is the first of 2 to 9 and 13 to 16 that is met, and nothing else is refused
-  pub refused : (number : ℕ) → (d ≡ Refused number) ↔ ((lasso-refusal t u v work ≡ number) × (1 ≤ number))
+  pub refused : (number : ℕ) → (d ≡ Refused number) ↔ ((lasso-refusal wide-range t u v work ≡ number) × (1 ≤ number))
   -- where none is met, the table is a valid wide one and the lasso is over its letters
-  pub over : lasso-refusal t u v work ≡ 0 → (table-refusal wide-range t ≡ 0) × Lasso (k-of t) u v
+  pub over : lasso-refusal wide-range t u v work ≡ 0 → (table-refusal wide-range t ≡ 0) × Lasso (k-of t) u v
   -- taken exactly if there is an accepting run, and not taken exactly if there is none
-  pub taken : (d ≡ Taken) ↔ ((lasso-refusal t u v work ≡ 0) × Takes (meaning t) (letter-at u v))
-  pub not-taken : (d ≡ NotTaken) ↔ ((lasso-refusal t u v work ≡ 0) × (Takes (meaning t) (letter-at u v) → ⊥))
+  pub taken : (d ≡ Taken) ↔ ((lasso-refusal wide-range t u v work ≡ 0) × Takes (meaning t) (letter-at u v))
+  pub not-taken : (d ≡ NotTaken) ↔ ((lasso-refusal wide-range t u v work ≡ 0) × (Takes (meaning t) (letter-at u v) → ⊥))
 
 unfoldable pub Lasso-demand : Type 0
 Lasso-demand =
-    (t u v : List ℕ) (d : Decision) (w w-now : List ℕ) → Lasso-says t u v d w w-now → Decided-exactly t u v d (length w)
+    (t u v : List ℕ) (d : Decision) (w w-now : List ℕ) → Lasso-says wide-range t u v d w w-now → Decided-exactly t u v d (length w)
 
 -- THE THIRD DEMAND. A decision that does not refuse
 unfoldable pub Not-refused : Decision → Type 0
@@ -116,11 +116,11 @@ pub record Compared (t c u v : List ℕ) (states : ℕ) : Type 0 where
   pub tables : (table-refusal wide-range t ≡ 0) × (table-refusal wide-range c ≡ 0)
   -- only for a part of the lasso that is too long, or for too few work words
   pub refusals :
-      (d : Decision) (w w-now : List ℕ) (number : ℕ) → Lasso-says t u v d w w-now ⊎ Lasso-says c u v d w w-now →
+      (d : Decision) (w w-now : List ℕ) (number : ℕ) → Lasso-says wide-range t u v d w w-now ⊎ Lasso-says wide-range c u v d w w-now →
       d ≡ Refused number → (number ≡ 14) ⊎ (number ≡ 16)
   -- two decisions that do not refuse answer taken for exactly the one that takes it
   pub decisions :
-      (d e : Decision) (w w-now z z-now : List ℕ) → Lasso-says t u v d w w-now → Lasso-says c u v e z z-now →
+      (d e : Decision) (w w-now z z-now : List ℕ) → Lasso-says wide-range t u v d w w-now → Lasso-says wide-range c u v e z z-now →
       Not-refused d → Not-refused e →
       (Takes (meaning t) (letter-at u v) × (d ≡ Taken) × (e ≡ NotTaken))
       ⊎ (Takes (meaning c) (letter-at u v) × (d ≡ NotTaken) × (e ≡ Taken))

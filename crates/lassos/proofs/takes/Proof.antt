@@ -4,7 +4,7 @@ use borrow.Author.Needs.{needs}
 use mathlib.Core.Path.{sym}
 use native.Mathlib.Omega.{arith}
 use lib.Seq.{length-take-le}
-use Rattle.lassos.proofs.Decides.{size-fits, colours-inside, takes-explore, takes-end}
+use Rattle.lassos.proofs.Decides.{width-16-fits, size-fits, colours-inside, takes-explore, takes-end}
 use Rattle.lassos.proofs.takes.Statement.{statement}
 use Rattle.lassos.proofs.takes.Tie as tie
 
@@ -25,13 +25,13 @@ add-size : tie.Need-add-size
 add-size c = search needs
 
 mul-size : tie.Need-mul-size
-mul-size c = record { fits = size-fits (start c .pre) (c .states-of .ensures .is) }
+mul-size c = record { fits = size-fits width-16-fits (start c .pre) (c .states-of .ensures .is) }
 
 add-clear32 : tie.Need-add-clear32
 add-clear32 c = omega (arith, mul-size c)
 
 slice-relend-prefix-clear32 : tie.Need-slice-relend-prefix-clear32
-slice-relend-prefix-clear32 c = omega (arith, colours-inside (start c .pre) (c .states-of .ensures .is))
+slice-relend-prefix-clear32 c = omega (arith, colours-inside width-16-fits (start c .pre) (c .states-of .ensures .is))
 
 slice-aggregate-clear32 : tie.Need-slice-aggregate-clear32
 slice-aggregate-clear32 c = sym (length-take-le _ _ (slice-relend-prefix-clear32 (c .before)))
@@ -41,14 +41,14 @@ clear32-requires c κs = search needs
 
 search-requires : tie.Need-search-requires
 search-requires c κs =
-    let known = counted (cleared c) in takes-explore (start known .pre) (known .states-of .ensures .is) (cleared c .clear32 .ensures)
+    let known = counted (cleared c) in takes-explore width-16-fits (start known .pre) (known .states-of .ensures .is) (cleared c .clear32 .ensures)
 
 same-length : tie.Need-same-length
 same-length c = search needs
 
 returns : tie.Need-returns
 returns c =
-    let searched = c .before .before in takes-end (start (counted (cleared (searched .before))) .pre) (searched .search .ensures)
+    let searched = c .before .before in takes-end width-16-fits (start (counted (cleared (searched .before))) .pre) (searched .search .ensures)
 
 pub takes-spec : {M : Type 1} → statement M
 takes-spec =

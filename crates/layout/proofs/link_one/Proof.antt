@@ -8,6 +8,13 @@ use Rattle.layout.proofs.Linking.{behind-small, link-one-is}
 use Rattle.layout.proofs.link_one.Statement.{statement}
 use Rattle.layout.proofs.link_one.Tie as tie
 
+-- PLACES: where the function begins, where the next is known, and where it is stored and the head set
+abbrev start : tie.After-next-number → tie.Start
+start c = c .before .before .before .before
+
+abbrev next-known : tie.After-set-head → tie.After-next-number
+next-known c = c .before .before
+
 mul-place : tie.Need-mul-place
 mul-place c = search needs
 
@@ -34,8 +41,8 @@ next-number-requires c κs = search needs
 
 cast-words : tie.Need-cast-words
 cast-words c =
-    let start = c .before .before .before .before in
-    let small = behind-small (start .args .states) (start .args .edges) (start .args .r) (now (start .args .words)) in
+    let at = start c in
+    let small = behind-small (at .args .states) (at .args .edges) (at .args .r) (now (at .args .words)) in
     let is = c .next-number .ensures in record { fits = omega arith }
 
 mul-words : tie.Need-mul-words
@@ -61,12 +68,12 @@ same-length c = c .before .before .set-head .kept .0 ∙ simp length-set
 
 returns : tie.Need-returns
 returns c =
-    let start = c .before .before .before .before .before .before .before .before in
-    link-one-is (start .args .states) (start .args .edges) (start .args .r) (now (start .args .words))
-    (c .before .before .before .before .next-number .result)
-    (c .before .before .set-head .last .0)
-    (c .before .before .before .before .next-number .ensures)
-    (c .before .before .set-head .ensures)
+    let head = c .before .before in
+    let next = next-known head in
+    let at = start next in
+    link-one-is (at .args .states) (at .args .edges) (at .args .r) (now (at .args .words)) (next .next-number .result) (head .set-head .last .0)
+    (next .next-number .ensures)
+    (head .set-head .ensures)
 
 pub link-one-spec : {M : Type 1} → statement M
 link-one-spec =

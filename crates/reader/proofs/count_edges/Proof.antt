@@ -49,7 +49,7 @@ use denote.Triple.Walked.{says, Stays, stay-none, stay-none-slice, walkOf, goes-
 use denote.Exit.{yes}
 use denote.Triple.Clauses.{ensured, lasts}
 use Rattle.tables.specs.Access.{Word}
-use Rattle.tables.specs.Table.{m-of}
+use Rattle.tables.specs.Table.{word-bits, m-of}
 use Rattle.tables.proofs.records_of as records
 use Rattle.tables.proofs.records_of.Symbol as records-def
 use Rattle.tables.proofs.records_of.Symbol.{name as #tables·records-of}
@@ -168,8 +168,8 @@ module _ {M : Type 1} (𝓤 : URA M) (H : Heap 𝓤) (A : Atoms 𝓤) (W : Given
   goes-records : ent 𝓤 (⋆ 𝓤 H A (‵ Own ∷ Token ∷ [])) (Records 𝓤 H A mem run .pre to-records)
   goes-records = qed W (‵ Own ∷ Token ∷ []) ∵ nothing ! $ move ! (1 ∷ 0 ∷ []) $ fjoin ! $ move ! (1 ∷ 0 ∷ []) $ join ! $ frame ! $ done !
 
-  records-said : (r : ℕ) → ent 𝓤 (ensured 𝓤 H A records.ended (records.clauses 𝓤 H A mem run) (κ, tt) (s, tt) tt r) (fact 𝓤 (Word r (m-of (now s))))
-  records-said r = exE 𝓤 _ (λ ws. snd∗ 𝓤 (sem 𝓤 H A (lasts records.ended (κ, tt) (s, tt) ws)) (fact 𝓤 (Word r (m-of (now s)))))
+  records-said : (r : ℕ) → ent 𝓤 (ensured 𝓤 H A records.ended (records.clauses 𝓤 H A mem run) (κ, tt) (s, tt) tt r) (fact 𝓤 (Word word-bits r (m-of (now s))))
+  records-said r = exE 𝓤 _ (λ ws. snd∗ 𝓤 (sem 𝓤 H A (lasts records.ended (κ, tt) (s, tt) ws)) (fact 𝓤 (Word word-bits r (m-of (now s)))))
 
   abbrev to-new : New 𝓤 H A mem run .Ghost
   to-new = (((κ, tt), (q, tt), tt, (s, (n, tt)), at), tt)
@@ -226,7 +226,7 @@ module _ {M : Type 1} (𝓤 : URA M) (H : Heap 𝓤) (A : Atoms 𝓤) (W : Given
 
   -- THE LOOP
   -- a test's answer, as what the definitions say
-  met : (w : Turn κ s n) {m : ℕ} {e : Reading} {b : Bool} → Word m (m-of (now s)) → Read (w .d) e → b ≡ goes-on e (w .i) m → b ≡ goes-on (reading-at (now s) (w .d .number)) (w .i) (m-of (now s))
+  met : (w : Turn κ s n) {m : ℕ} {e : Reading} {b : Bool} → Word word-bits m (m-of (now s)) → Read (w .d) e → b ≡ goes-on e (w .i) m → b ≡ goes-on (reading-at (now s) (w .d .number)) (w .i) (m-of (now s))
   met w m-is e-is b-is = rw (e-is, w .same, m-is .is) at b-is
 
   -- the turn after this one
@@ -251,7 +251,7 @@ module _ {M : Type 1} (𝓤 : URA M) (H : Heap 𝓤) (A : Atoms 𝓤) (W : Given
     Nearer-wf : WellFounded Nearer
     Nearer-wf = InvImage·wf (λ (w : Turn κ s n). m - w .i) (Nat·lt-wfRel .wf)
 
-  module _ (𝓣 : Tables 𝓤 H) (fm : FmC 𝓤 H (W .laws) (𝓣 .C)) (known-edge : Triple 𝓤 (𝓣 .C #reader·edge) (Edge 𝓤 H A mem run)) (known-goes : Triple 𝓤 (𝓣 .C #reader·goes-on) (Goes 𝓤 H A mem run)) (known-next : Triple 𝓤 (𝓣 .C #reader·next) (Next 𝓤 H A mem run)) (m : ℕ) (m-is : Word m (m-of (now s))) (l₀ l₁ l₂ l₃ l₄ l₅ l₆ l₇ l₈ l₉ : ℕ) where
+  module _ (𝓣 : Tables 𝓤 H) (fm : FmC 𝓤 H (W .laws) (𝓣 .C)) (known-edge : Triple 𝓤 (𝓣 .C #reader·edge) (Edge 𝓤 H A mem run)) (known-goes : Triple 𝓤 (𝓣 .C #reader·goes-on) (Goes 𝓤 H A mem run)) (known-next : Triple 𝓤 (𝓣 .C #reader·next) (Next 𝓤 H A mem run)) (m : ℕ) (m-is : Word word-bits m (m-of (now s))) (l₀ l₁ l₂ l₃ l₄ l₅ l₆ l₇ l₈ l₉ : ℕ) where
     abbrev C : Calls 𝓤 H
     C = 𝓣 .C
 
@@ -382,7 +382,7 @@ module _ {M : Type 1} (𝓤 : URA M) (H : Heap 𝓤) (A : Atoms 𝓤) (W : Given
       use1 W (‵ Own ⊛ ‵ Own) (shr-slice-copy 𝓤 H A W (named 0) κ u16 .twice s (v ∷ [])) $ split ! $ move ! (0 ∷ 2 ∷ []) $ use2 W (raw (Records 𝓤 H A mem run .pre to-records)) goes-records $
       calls-at ! fm (Records 𝓤 H A mem run) known-records to-records (and-then ! (load ! (from ! (stop !)) (look ! 18 refl)) (no-more !)) (λ u₃.
       use1 W (later (some (λ (m : ℕ). (Token ⊛ ‵ (usize .own m (u₃ ∷ []))) ⊛ raw (ensured 𝓤 H A records.ended (records.clauses 𝓤 H A mem run) (κ, tt) (s, tt) tt m)))) (id⊢ 𝓤 _) $ await ! tt $ pick ! (λ m.
-      split ! $ move ! (1 ∷ []) $ use1 W (raw (fact 𝓤 (Word m (m-of (now s))))) (records-said m) $ heard ! (Word m (m-of (now s))) (λ m-is. split ! $ move ! (1 ∷ []) $
+      split ! $ move ! (1 ∷ []) $ use1 W (raw (fact 𝓤 (Word word-bits m (m-of (now s))))) (records-said m) $ heard ! (Word word-bits m (m-of (now s))) (λ m-is. split ! $ move ! (1 ∷ []) $
       peeks ! usize (Is usize) (shows 𝓤 H A usize) m (u₃ ∷ []) (λ is₃.
       land ! (from ! (stop !)) (init ! 15 refl (uint-lawful 𝓤 H A W w64 .typed m _ is₃ .0)) $ rewrite ! 15 (λ (x : Val). ‵ (fat fullShare word l₃ 0 x)) (ap only (is₃ .0)) refl $ drop ! $
       move ! (1 ∷ []) $ makes 𝓣 fm known-edge known-goes known-next m m-is l₀ l₁ l₂ l₃ l₄ l₅ l₆ l₇ l₈ l₉ known-new))))))))))))))

@@ -2,9 +2,20 @@
 use borrow.Author.Needs.{needs}
 use native.Mathlib.Omega.{arith}
 use denote.Ref.{now}
+use Rattle.tables.specs.Marks.{mark-words}
 use Rattle.tables.proofs.Marking.{names-few, heads-fail, chains-answer}
 use Rattle.tables.proofs.chains_good.Statement.{statement}
 use Rattle.tables.proofs.chains_good.Tie as tie
+
+-- PLACES: where the function begins, where the records are counted, and where the heads are named
+abbrev start : tie.After-records-of → tie.Start
+start c = c .before .before
+
+abbrev counted : tie.After-name-heads → tie.After-records-of
+counted c = c .before .before
+
+abbrev heads-named : tie.Else1 → tie.After-name-heads
+heads-named c = c .before .before
 
 records-of-requires : tie.Need-records-of-requires
 records-of-requires c κs = search needs
@@ -16,7 +27,9 @@ name-heads-requires : tie.Need-name-heads-requires
 name-heads-requires c κs = search needs
 
 returns : tie.Need-returns
-returns c = heads-fail (now (c .before .before .before .before .before .before .args .table)) 2048 (c .before .before .name-heads .ensures) (omega arith)
+returns c =
+    let named = c .before .before in
+    heads-fail (now (start (counted named) .args .table)) mark-words mark-words (named .name-heads .ensures) (omega arith)
 
 slice-aggregate-name-nexts : tie.Need-slice-aggregate-name-nexts
 slice-aggregate-name-nexts c = search needs
@@ -29,8 +42,12 @@ add-result c = let few = names-few (c .before .name-nexts .ensures) in omega ari
 
 returns-2 : tie.Need-returns-2
 returns-2 c =
-    chains-answer (now (c .before .before .before .before .before .before .before .before .before .args .table)) 2048 (c .before .before .before .before .before .before .before .records-of .ensures .is) (c .before .before .before .before .before .name-heads .ensures)
-    (c .before .before .before .if1 .left) (c .before .name-nexts .ensures)
+    let within = c .before .before .before in
+    let named = heads-named within in
+    chains-answer (now (start (counted named) .args .table)) mark-words mark-words (counted named .records-of .ensures .is)
+    (named .name-heads .ensures)
+    (within .if1 .left)
+    (c .before .name-nexts .ensures)
 
 pub chains-good-spec : {M : Type 1} → statement M
 chains-good-spec =

@@ -4,17 +4,23 @@ use native.Mathlib.Omega.{arith}
 use Prim.Native.Nat.{_-_}
 use mathlib.Core.Path.{refl}
 use denote.Ref.{now}
-use lib.Dec.{leb}
 use Rattle.basics.proofs.Scans.{Scan, scan-start, scan-more, scan-done, scan-fails, read-le, read-gt}
-use Rattle.tables.specs.Table.{n-of, flags-of, flags-good}
+use Rattle.tables.specs.Table.{n-of, flag-good, flags-good}
 use Rattle.tables.proofs.flags_good.Statement.{statement}
 use Rattle.tables.proofs.flags_good.Tie as tie
 
 abbrev Inv-loop : tie.InvT-loop
-Inv-loop table n q₀ q = Scan (λ p. leb (flags-of table p) 3) (n-of table) q
+Inv-loop table n q₀ q = Scan (flag-good table) (n-of table) q
 
 abbrev μ-loop : tie.MeasureT-loop
 μ-loop table n q₀ q = n - q
+
+-- PLACES: where the function begins, and a turn
+abbrev start : tie.At-loop Inv-loop μ-loop → tie.Start Inv-loop μ-loop
+start c = c .before .before .before
+
+abbrev turn : tie.After-flags-of Inv-loop μ-loop → tie.At-loop Inv-loop μ-loop
+turn c = c .before .before
 
 states-of-requires : tie.Need-states-of-requires Inv-loop μ-loop
 states-of-requires c κs = search needs
@@ -28,8 +34,9 @@ flags-of-requires c κs = record { inside = omega arith; sized = omega arith }
 returns : tie.Need-returns Inv-loop μ-loop
 unfolding flags-good
 returns c =
-    scan-fails (λ p. leb (flags-of (now (c .before .before .before .before .before .before .args .table)) p) 3) _ (c .before .before .before .loop .q)
-    (omega arith) (read-gt (c .before .flags-of .ensures .is) refl (c .if1 .taken))
+    let at = turn (c .before) in
+    scan-fails (flag-good (now (start at .args .table))) _ (at .loop .q) (omega arith)
+    (read-gt (c .before .flags-of .ensures .is) refl (c .if1 .taken))
 
 add-q : tie.Need-add-q Inv-loop μ-loop
 add-q c = omega arith
@@ -38,7 +45,8 @@ loop-less : tie.Need-loop-less Inv-loop μ-loop
 loop-less c = omega arith
 
 loop-again : tie.Need-loop-again Inv-loop μ-loop
-loop-again c = scan-more (c .before .before .before .loop .inv) (omega arith) (read-le (c .before .flags-of .ensures .is) refl (c .if1 .left))
+loop-again c =
+    scan-more (turn (c .before) .loop .inv) (omega arith) (read-le (c .before .flags-of .ensures .is) refl (c .if1 .left))
 
 returns-2 : tie.Need-returns-2 Inv-loop μ-loop
 unfolding flags-good

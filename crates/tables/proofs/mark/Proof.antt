@@ -3,11 +3,17 @@ use borrow.Author.Needs.{needs}
 use mathlib.Core.Path.{refl}
 use Prim.Native.Nat.{_%_}
 use native.Mathlib.Omega.{arith}
-use denote.Ref.{now}
-use Rattle.tables.specs.Marks.{nothing, first, again}
+use Rattle.tables.specs.Marks.{mark-words, nothing, first, again}
 use Rattle.tables.proofs.Marking.{bit-clear, bit-set, bit-fits, bit-raised}
 use Rattle.tables.proofs.mark.Statement.{statement}
 use Rattle.tables.proofs.mark.Tie as tie
+
+-- where the function begins, seen from a record that was named already and from one that was not
+abbrev start : tie.Then2 → tie.Start
+start c = c .before .before .before
+
+abbrev fresh : tie.Else2 → tie.Start
+fresh c = c .before .before .before
 
 returns : tie.Need-returns
 returns c = nothing (c .if1 .taken) refl
@@ -25,7 +31,7 @@ shr-if2 : tie.Need-shr-if2
 shr-if2 c = search needs
 
 returns-2 : tie.Need-returns-2
-returns-2 c = again (omega arith) (bit-set _ _ (c .before .before .before .pre .1) (c .if2 .taken)) refl
+returns-2 c = again (omega arith) (bit-set (start c .pre) (c .if2 .taken)) refl
 
 cast-seen : tie.Need-cast-seen
 cast-seen c = search needs
@@ -35,9 +41,7 @@ shl-seen c = search needs
 
 add-seen : tie.Need-add-seen
 add-seen c =
-    let seen = now (c .before .before .before .args .seen) in
-    let link = c .before .before .before .args .link in
-    record { fits = bit-fits seen link (c .before .before .before .pre .1) (c .before .slice-known .given (link % 2048) .fits) (c .if2 .left) }
+    record { fits = bit-fits (fresh c .pre) (c .before .slice-known .given (fresh c .args .link % mark-words) .fits) (c .if2 .left) }
 
 mul-seen : tie.Need-mul-seen
 mul-seen c = search needs
@@ -49,7 +53,7 @@ same-length : tie.Need-same-length
 same-length c = search needs
 
 returns-3 : tie.Need-returns-3
-returns-3 c = first (omega arith) (bit-clear _ _ (c .before .before .before .pre .1) (c .if2 .left)) (bit-raised _ _ (c .before .before .before .pre .1))
+returns-3 c = first (omega arith) (bit-clear (fresh c .pre) (c .if2 .left)) (bit-raised (fresh c .pre))
 
 pub mark-spec : {M : Type 1} → statement M
 mark-spec =

@@ -4,8 +4,8 @@ use native.Mathlib.Omega.{arith}
 use Prim.Native.Nat.{_-_}
 use denote.Ref.{now}
 use Rattle.basics.proofs.Scans.{Scan, scan-start, scan-more, scan-done}
-use Rattle.tables.specs.Table.{m-of, records-good}
-use Rattle.tables.proofs.Checks.{record-good, letter-bad, target-bad, record-passes}
+use Rattle.tables.specs.Table.{m-of, record-good, records-good}
+use Rattle.tables.proofs.Checks.{letter-bad, target-bad, record-passes}
 use Rattle.tables.proofs.records_good.Statement.{statement}
 use Rattle.tables.proofs.records_good.Tie as tie
 
@@ -14,6 +14,19 @@ Inv-loop table n k m i₀ i = Scan (record-good table) (m-of table) i
 
 abbrev μ-loop : tie.MeasureT-loop
 μ-loop table n k m i₀ i = m - i
+
+-- PLACES: where the function begins, where the counts are known, a turn, a letter that was read, and one that is in range
+abbrev start : tie.After-letters-of Inv-loop μ-loop → tie.Start Inv-loop μ-loop
+start c = c .before .before .before
+
+abbrev counted : tie.At-loop Inv-loop μ-loop → tie.After-letters-of Inv-loop μ-loop
+counted c = c .before .before
+
+abbrev turn : tie.After-letter-of Inv-loop μ-loop → tie.At-loop Inv-loop μ-loop
+turn c = c .before .before
+
+abbrev in-range : tie.After-target-of Inv-loop μ-loop → tie.Else1 Inv-loop μ-loop
+in-range c = c .before
 
 states-of-requires : tie.Need-states-of-requires Inv-loop μ-loop
 states-of-requires c κs = search needs
@@ -31,23 +44,45 @@ add-letter-of : tie.Need-add-letter-of Inv-loop μ-loop
 add-letter-of c = omega arith
 
 letter-of-requires : tie.Need-letter-of-requires Inv-loop μ-loop
-letter-of-requires c κs = record { counted = c .before .before .before .before .states-of .ensures .is; from-one = omega arith; number-to = omega arith; sized = omega arith }
+letter-of-requires c κs =
+    record {
+      counted = counted (c .before) .before .states-of .ensures .is;
+      from-one = omega arith;
+      number-to = omega arith;
+      sized = omega arith;
+    }
 
 returns : tie.Need-returns Inv-loop μ-loop
 returns c =
-    letter-bad (now (c .before .before .before .before .before .before .before .before .args .table)) (c .before .before .before .loop .i) (c .before .before .before .before .before .before .states-of .ensures .is) (c .before .before .before .before .before .letters-of .ensures .is)
-    (c .before .letter-of .ensures .is) (omega arith) (c .if1 .taken)
+    let at = turn (c .before) in
+    let counts = counted at in
+    letter-bad (now (start counts .args .table)) (at .loop .i) (counts .before .states-of .ensures .is) (counts .letters-of .ensures .is)
+    (c .before .letter-of .ensures .is)
+    (omega arith)
+    (c .if1 .taken)
 
 add-target-of : tie.Need-add-target-of Inv-loop μ-loop
 add-target-of c = omega arith
 
 target-of-requires : tie.Need-target-of-requires Inv-loop μ-loop
-target-of-requires c κs = record { counted = c .before .before .before .before .before .before .states-of .ensures .is; from-one = omega arith; number-to = omega arith; sized = omega arith }
+target-of-requires c κs =
+    record {
+      counted = counted (turn (c .before)) .before .states-of .ensures .is;
+      from-one = omega arith;
+      number-to = omega arith;
+      sized = omega arith;
+    }
 
 returns-2 : tie.Need-returns-2 Inv-loop μ-loop
 returns-2 c =
-    target-bad (now (c .before .before .before .before .before .before .before .before .before .before .args .table)) (c .before .before .before .before .before .loop .i) (c .before .before .before .before .before .before .before .before .states-of .ensures .is) (c .before .before .before .before .before .before .before .letters-of .ensures .is)
-    (c .before .before .before .letter-of .ensures .is) (omega arith) (c .before .target-of .ensures .is) (c .if2 .taken)
+    let letter = in-range (c .before) .before in
+    let at = turn letter in
+    let counts = counted at in
+    target-bad (now (start counts .args .table)) (at .loop .i) (counts .before .states-of .ensures .is) (counts .letters-of .ensures .is)
+    (letter .letter-of .ensures .is)
+    (omega arith)
+    (c .before .target-of .ensures .is)
+    (c .if2 .taken)
 
 add-i : tie.Need-add-i Inv-loop μ-loop
 add-i c = omega arith
@@ -57,9 +92,15 @@ loop-less c = omega arith
 
 loop-again : tie.Need-loop-again Inv-loop μ-loop
 loop-again c =
-    scan-more (c .before .before .before .before .before .loop .inv) (omega arith)
-    (record-passes (now (c .before .before .before .before .before .before .before .before .before .before .args .table)) (c .before .before .before .before .before .loop .i) (c .before .before .before .before .before .before .before .before .states-of .ensures .is) (c .before .before .before .before .before .before .before .letters-of .ensures .is)
-    (c .before .before .before .letter-of .ensures .is) (c .before .before .if1 .left) (c .before .target-of .ensures .is) (c .if2 .left))
+    let letter = in-range (c .before) .before in
+    let at = turn letter in
+    let counts = counted at in
+    scan-more (at .loop .inv) (omega arith)
+    (record-passes (now (start counts .args .table)) (at .loop .i) (counts .before .states-of .ensures .is) (counts .letters-of .ensures .is)
+    (letter .letter-of .ensures .is)
+    (in-range (c .before) .if1 .left)
+    (c .before .target-of .ensures .is)
+    (c .if2 .left))
 
 returns-3 : tie.Need-returns-3 Inv-loop μ-loop
 unfolding records-good

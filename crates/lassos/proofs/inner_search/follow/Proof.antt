@@ -5,6 +5,10 @@ use Rattle.lassos.proofs.Follows.{follow-record, follow-word, follow-ra
 use Rattle.lassos.proofs.inner_search.follow.Statement.{statement}
 use Rattle.lassos.proofs.inner_search.follow.Tie as tie
 
+-- where the function begins
+abbrev start : tie.After-target-of → tie.Start
+start c = c .before .before .before .before .before
+
 letter-of-requires : tie.Need-letter-of-requires
 letter-of-requires c κs = follow-record (c .before .before .pre)
 
@@ -18,8 +22,7 @@ add-node : tie.Need-add-node
 add-node c = search needs
 
 colour-of-requires : tie.Need-colour-of-requires
-colour-of-requires c κs =
-    follow-word (c .before .before .before .before .before .before .pre) (c .before .target-of .ensures .is)
+colour-of-requires c κs = follow-word (start (c .before) .pre) (c .before .target-of .ensures .is)
 
 add-result : tie.Need-add-result
 add-result c = search needs
@@ -40,7 +43,7 @@ raise-requires : tie.Need-raise-requires
 raise-requires c κs =
     let seen = c .before .before .before in
     let at = seen .before .before in
-    follow-raise (at .before .before .before .before .before .pre) (at .target-of .ensures .is) (seen .colour-of .ensures)
+    follow-raise (start at .pre) (at .target-of .ensures .is) (seen .colour-of .ensures)
     (c .before .if3 .taken)
 
 -- where a black target turned red
@@ -72,7 +75,7 @@ mul-work-2 c = search needs
 slice-write-work : tie.Need-slice-write-work
 slice-write-work c =
     let room =
-    follow-wait (at c .before .before .before .before .before .pre) (at c .target-of .ensures .is) (seen c .colour-of .ensures)
+    follow-wait (start (at c) .pre) (at c .target-of .ensures .is) (seen c .colour-of .ensures)
     (black c .if3 .taken) in
     omega (arith, room, risen c .raise .kept .0)
 

@@ -5,6 +5,10 @@ use Rattle.lassos.proofs.Drains.{meets-asks, meets-at-once, meets-drain
 use Rattle.lassos.proofs.inner_search.meets_grey.Statement.{statement}
 use Rattle.lassos.proofs.inner_search.meets_grey.Tie as tie
 
+-- where the function begins
+abbrev start : tie.After-spread-node → tie.Start
+start c = let lent = c .before .before in lent .before .before .before .before
+
 spread-node-requires : tie.Need-spread-node-requires
 spread-node-requires c κs = meets-asks (c .before .before .before .before .before .pre)
 
@@ -14,12 +18,12 @@ same-length c = search needs
 returns : tie.Need-returns
 returns c =
     let after = c .before .before .before in
-    meets-at-once (after .before .before .before .before .before .before .pre) (after .spread-node .ensures) (c .if1 .taken)
+    meets-at-once (start after .pre) (after .spread-node .ensures) (c .if1 .taken)
 
 drain-requires : tie.Need-drain-requires
 drain-requires c κs =
     let after = c .before .before .before .before in
-    meets-drain (after .before .before .before .before .before .before .pre) (after .spread-node .ensures)
+    meets-drain (start after .pre) (after .spread-node .ensures)
     (c .before .if1 .left)
     (after .spread-node .kept .1 .1 .1 .0)
 
@@ -30,7 +34,7 @@ returns-2 : tie.Need-returns-2
 returns-2 c =
     let drained = c .before .before in
     let after = drained .before .before .before .before .before in
-    meets-end (after .before .before .before .before .before .before .pre) (after .spread-node .ensures)
+    meets-end (start after .pre) (after .spread-node .ensures)
     (drained .before .before .if1 .left)
     (after .spread-node .kept .1 .1 .1 .0)
     (drained .drain .ensures)

@@ -3,6 +3,7 @@
 use mathlib.Core.Path.{_∙_}
 use Rattle.tables.specs.Table.{m-of}
 use Rattle.tables.proofs.Chains.{left}
+use Rattle.lassos.specs.Steps.{width-16}
 use Rattle.lassos.proofs.Chains.{next-less}
 use Rattle.lassos.proofs.Follows.{Spreading, spreading-start, spreading-follow, spreading-record, spreading-met, spreading-turn, spreading-end}
 use Rattle.lassos.proofs.inner_search.spread.Statement.{statement}
@@ -10,10 +11,14 @@ use Rattle.lassos.proofs.inner_search.spread.Tie as tie
 
 abbrev Inv-loop : tie.InvT-loop
 Inv-loop table work₀ states size letter base first waiting at₀ count₀ work at count =
-    Spreading table work₀ states size letter base first waiting work at count
+    Spreading width-16 table work₀ states size letter base first waiting work at count
 
 abbrev μ-loop : tie.MeasureT-loop
 μ-loop table work₀ states size letter base first waiting at₀ count₀ work at count = left (m-of table) at
+
+-- the turn, seen from where its edge was followed
+abbrev turn : tie.Else1 Inv-loop μ-loop → tie.In-loop Inv-loop μ-loop
+turn c = c .before .before .before .before .before
 
 loop-holds : tie.Need-loop-holds Inv-loop μ-loop
 loop-holds c = spreading-start _ (c .before .before .pre)
@@ -33,12 +38,12 @@ returns c =
 
 next-of-requires : tie.Need-next-of-requires Inv-loop μ-loop
 next-of-requires c κs =
-    let at = c .before .before .before .before .before in
+    let at = turn c in
     spreading-record (at .before .loop .inv) (at .loop-test .taken)
 
 loop-less : tie.Need-loop-less Inv-loop μ-loop
 loop-less c =
-    let at = c .before .before .before .before .before .before in
+    let at = turn (c .before) in
     next-less (at .before .loop .inv .chain) (at .loop-test .taken) _ (c .next-of .ensures .is)
 
 loop-again : tie.Need-loop-again Inv-loop μ-loop

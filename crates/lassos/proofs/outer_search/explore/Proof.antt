@@ -6,13 +6,14 @@ use native.Mathlib.Omega.{arith}
 use denote.Ref.{now}
 use lib.ListN.{getD}
 use Rattle.lassos.specs.Search.{whites}
+use Rattle.lassos.specs.Steps.{width-16}
 use Rattle.lassos.proofs.Explores.{Exploring, exploring-start, exploring-below, exploring-small, exploring-top, exploring-deeper, deeper-less, exploring-end, Finishing, finishing-start, finishing-same, finishing-asks, finishing-found, finishing-left, finishing-less}
 use Rattle.lassos.proofs.outer_search.explore.Statement.{statement}
 use Rattle.lassos.proofs.outer_search.explore.Tie as tie
 
 abbrev Inv-loop : tie.InvT-loop
 Inv-loop table prefix cycle work₀ states size depth₀ work depth =
-    Exploring table prefix cycle work₀ states size work depth
+    Exploring width-16 table prefix cycle work₀ states size work depth
 
 abbrev μ-loop : tie.MeasureT-loop
 μ-loop table prefix cycle work₀ states size depth₀ work depth = 2 * whites size work + depth
@@ -67,16 +68,19 @@ module _ (c : tie.Else1 Inv-loop μ-loop) where
   abbrev after : tie.After-descend Inv-loop μ-loop
   after = c .before .before .before
 
+  abbrev at : tie.At-loop Inv-loop μ-loop
+  at = turn after .before
+
   abbrev begun : tie.Start Inv-loop μ-loop
-  begun = turn after .before .before .before .before .before .before
+  begun = at .before .before .before .before .before
 
   finishing :
-      Finishing (now (begun .args .table)) (now (begun .args .prefix)) (now (begun .args .cycle)) (now (begun .args .work))
+      Finishing width-16 (now (begun .args .table)) (now (begun .args .prefix)) (now (begun .args .cycle)) (now (begun .args .work))
       (begun .args .states) (begun .args .size) (after .descend .last .1 .1 .1 .0)
-      (getD (turn after .before .loop .work) (begun .args .size + (turn after .before .loop .depth - 1)) 0)
-      (turn after .before .loop .depth)
+      (getD (at .loop .work) (begun .args .size + (at .loop .depth - 1)) 0)
+      (at .loop .depth)
   finishing =
-      finishing-start (turn after .before .loop .inv) (turn after .loop-test .taken) refl (after .descend .ensures)
+      finishing-start (at .loop .inv) (turn after .loop-test .taken) refl (after .descend .ensures)
       (c .if1 .left)
 
 finish-requires : tie.Need-finish-requires Inv-loop μ-loop

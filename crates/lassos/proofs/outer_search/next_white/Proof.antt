@@ -2,12 +2,13 @@
 -- The measure is how many records can follow. Assumes nothing.
 use Rattle.tables.specs.Table.{m-of}
 use Rattle.tables.proofs.Chains.{left}
+use Rattle.lassos.specs.Steps.{width-16}
 use Rattle.lassos.proofs.Chains.{next-less, Walked, walked-start, walked-edge, walked-record, walked-turn, walked-found, walked-none}
 use Rattle.lassos.proofs.outer_search.next_white.Statement.{statement}
 use Rattle.lassos.proofs.outer_search.next_white.Tie as tie
 
 abbrev Inv-loop : tie.InvT-loop
-Inv-loop table work states letter base first at₀ at = Walked table work states letter base first at
+Inv-loop table work states letter base first at₀ at = Walked width-16 table work states letter base first at
 
 abbrev μ-loop : tie.MeasureT-loop
 μ-loop table work states letter base first at₀ at = left (m-of table) at

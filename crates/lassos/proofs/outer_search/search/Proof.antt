@@ -3,13 +3,14 @@
 use mathlib.Core.Path.{_∙_}
 use Prim.Native.Nat.{_-_}
 use native.Mathlib.Omega.{arith}
+use Rattle.lassos.specs.Steps.{width-16}
 use Rattle.lassos.proofs.Explores.{Trying, trying-start, trying-asks, trying-found, trying-turn, trying-end}
 use Rattle.lassos.proofs.outer_search.search.Statement.{statement}
 use Rattle.lassos.proofs.outer_search.search.Tie as tie
 
 abbrev Inv-loop : tie.InvT-loop
 Inv-loop table prefix cycle work₀ states size state₀ work state =
-    Trying table prefix cycle work₀ states size work state
+    Trying width-16 table prefix cycle work₀ states size work state
 
 abbrev μ-loop : tie.MeasureT-loop
 μ-loop table prefix cycle work₀ states size state₀ work state = states - state
