@@ -7,7 +7,6 @@ use native.Mathlib.Omega.{arith}
 use lib.Dec.{eqb}
 use Rattle.basics.specs.Buffers.{or-else}
 use Rattle.basics.proofs.Booleans.{eq-eqb, ne-eqb}
-use Rattle.tables.specs.Access.{limits}
 use Rattle.tables.specs.Table.{pattern-range, table-refusal, meaning}
 use Rattle.patterns.specs.Check.{check-refusal, as-checked, as-reading, reading, masks-read}
 use Rattle.patterns.specs.Masks.{masks-of}
@@ -34,14 +33,13 @@ as-passed zero shape none = refl
 as-passed (suc r) shape none = absurd (omega arith)
 
 -- what refusals 2 to 9 say
-module _ (t : List ℕ) (number : ℕ) (told : number ≡ table-refusal (limits 32 4096) t) where
+module _ (t : List ℕ) (number : ℕ) (told : number ≡ table-refusal pattern-range t) where
   -- one of them is met, and is the check's
   first-met : (number ≡ 0 → ⊥) → eqb (table-refusal pattern-range t) 0 ≡ false
-  unfolding pattern-range
   first-met met = ne-eqb (table-refusal pattern-range t) 0 (λ z. met (told ∙ z))
 
   pub table-refused : (number ≡ 0 → ⊥) → read.Refused number ≡ reading t
-  unfolding reading check-refusal or-else pattern-range
+  unfolding reading check-refusal or-else
   table-refused met =
       let e = first-met met in
       let same : number ≡ check-refusal t = rw e told in
@@ -53,7 +51,6 @@ module _ (t : List ℕ) (number : ℕ) (told : number ≡ table-refusal (limits 
 
   -- none is
   pub table-passed : number ≡ 0 → table-refusal pattern-range t ≡ 0
-  unfolding pattern-range
   table-passed none = sym told ∙ none
 
   pub asks-shape : number ≡ 0 → (masks : List (List ℕ)) → masks ≡ masks-of (moves (meaning t)) → Shape-asks t masks

@@ -17,6 +17,7 @@ use Rattle.sets.proofs.Members.{set-of-lt}
 use Rattle.tables.specs.Access.{State-asks}
 use Rattle.tables.specs.Table.{pattern-range, table-refusal, n-of, flags-of, is-initial, is-accepting, meaning}
 use Rattle.tables.proofs.Laws.{valid, pattern-few, state-asked}
+use Rattle.patterns.specs.Masks.{mask-rows}
 use Rattle.patterns.specs.Pattern.{initial-states, accepting-states}
 
 -- the set so far is that of the states below `state` of which the test holds
@@ -31,7 +32,7 @@ module _ (f : ℕ → Bool) (n : ℕ) where
 
   -- one state more: 1 where the test holds, and 0 where it does not, goes to the state's place
   pub gathered-turn :
-      (set state bit : ℕ) → state < n → n ≤ 32 → bit ≡ cond (f state) 1 0 → Gathered f n set state →
+      (set state bit : ℕ) → state < n → n ≤ mask-rows → bit ≡ cond (f state) 1 0 → Gathered f n set state →
       Gathered f n (bitOr set (bit * 2 ^ state % 2 ^ 32)) (state + 1)
   unfolding set-of
   gathered-turn set state bit l few e g = record { inside = omega arith; so-far = go (either (f state)) }
@@ -60,7 +61,7 @@ module _ (f : ℕ → Bool) (n : ℕ) where
 
 -- the states of a pattern
 module _ (t : List ℕ) (pattern : table-refusal pattern-range t ≡ 0) (states state : ℕ) (counted : states ≡ n-of t) where
-  pub gathered-small : state < states → state < 32
+  pub gathered-small : state < states → state < mask-rows
   gathered-small l = let n = pattern-few t pattern in omega arith
 
   pub gathered-reads : state < states → State-asks t state

@@ -22,15 +22,15 @@ use Rattle.tables.specs.Table.{pattern-range, n-of, m-of, head-of, letter-of, t
 use Rattle.tables.proofs.Chains.{left, left-less}
 use Rattle.tables.proofs.Laws.{Valid, valid, pattern-few, state-asked, record-asked, chain-ends, chain-step, meaning-closed}
 use Rattle.patterns.specs.Pattern.{targets-of, moves}
-use Rattle.patterns.specs.Masks.{row-of, Row-asks}
+use Rattle.patterns.specs.Masks.{mask-rows, mask-letters, row-of, Row-asks}
 use Rattle.patterns.proofs.Split.{has-targets}
 
 -- the sets so far, with what the chain from record `at` on still has, are the state's edges
 pub record Walked (t : List ℕ) (state : ℕ) (row : List ℕ) (at : ℕ) : Type 0 where
-  pub whole : length row ≡ 16
+  pub whole : length row ≡ mask-letters
   pub link : at ≤ m-of t
   pub small : (c : ℕ) → getD row c 0 < 2 ^ n-of t
-  pub rest : (c q : ℕ) → c < 16 → (has (getD row c 0) q || chain-has (m-of t) t at c q) ≡ edge t state c q
+  pub rest : (c q : ℕ) → c < mask-letters → (has (getD row c 0) q || chain-has (m-of t) t at c q) ≡ edge t state c q
 
 module _ (t : List ℕ) (states s : ℕ) (asks : Row-asks t states s) where
   v : Valid pattern-range t
@@ -46,20 +46,20 @@ module _ (t : List ℕ) (states s : ℕ) (asks : Row-asks t states s) where
   pub walk-record : (row : List ℕ) (at : ℕ) → (at ≡ 0 → ⊥) → Walked t s row at → Record-asks t states at
   walk-record row at some w = record-asked pattern-range t (asks .pattern) (asks .counted) (omega arith) (w .link)
 
-  pub walk-letter : (row : List ℕ) (at l : ℕ) → (at ≡ 0 → ⊥) → Walked t s row at → l ≡ letter-of t at → l < 16
+  pub walk-letter : (row : List ℕ) (at l : ℕ) → (at ≡ 0 → ⊥) → Walked t s row at → l ≡ letter-of t at → l < mask-letters
   walk-letter row at l some w e = let a = v .letter at (omega arith) (w .link) in let k = v .letters-to in omega arith
 
-  pub walk-target : (row : List ℕ) (at q : ℕ) → (at ≡ 0 → ⊥) → Walked t s row at → q ≡ target-of t at → q < 32
+  pub walk-target : (row : List ℕ) (at q : ℕ) → (at ≡ 0 → ⊥) → Walked t s row at → q ≡ target-of t at → q < mask-rows
   walk-target row at q some w e = let a = v .target at (omega arith) (w .link) in let n = pattern-few t (asks .pattern) in omega arith
 
-  pub walk-start : (at : ℕ) → at ≡ head-of t s → Walked t s (replicate 16 0) at
+  pub walk-start : (at : ℕ) → at ≡ head-of t s → Walked t s (replicate mask-letters 0) at
   unfolding edge
   walk-start at e =
       record {
-        whole = length-replicate {A = ℕ} 16 0;
+        whole = length-replicate {A = ℕ} mask-letters 0;
         link = let h = v .head s inside in omega arith;
-        small = λ c. rw (zeros-at 16 c) (pow-pos (n-of t));
-        rest = λ c q l. rw (zeros-at 16 c, has-zero q, e);
+        small = λ c. rw (zeros-at mask-letters c) (pow-pos (n-of t));
+        rest = λ c q l. rw (zeros-at mask-letters c, has-zero q, e);
       }
 
   -- one record read: its edge is in the sets, and the rest of the chain is left
@@ -104,7 +104,7 @@ module _ (t : List ℕ) (states s : ℕ) (asks : Row-asks t states s) where
       small c (inr e) = rw (others c e) (w .small c)
 
       rest :
-          (c r : ℕ) → c < 16 → (eqb c l ≡ true) ⊎ (eqb c l ≡ false) →
+          (c r : ℕ) → c < mask-letters → (eqb c l ≡ true) ⊎ (eqb c l ≡ false) →
           (has (getD (set row l (bitOr (getD row l 0) (1 * 2 ^ q % 2 ^ 32))) c 0) r || chain-has (m-of t) t x c r) ≡ edge t s c r
       rest c r below (inl e) =
           let before = w .rest c r below in
@@ -129,12 +129,12 @@ module _ (t : List ℕ) (states s : ℕ) (asks : Row-asks t states s) where
   pub walk-end : (row : List ℕ) (at : ℕ) → at ≡ 0 → Walked t s row at → row ≡ row-of (moves (meaning t)) s
   unfolding row-of moves targets-of meaning
   walk-end row at none w =
-      ext-getD 0 row (tabulate 16 (targets-of (meaning t) s)) (w .whole ∙ sym (tabulate-length 16 (targets-of (meaning t) s)))
+      ext-getD 0 row (tabulate mask-letters (targets-of (meaning t) s)) (w .whole ∙ sym (tabulate-length mask-letters (targets-of (meaning t) s)))
       (λ c l.
-      let below : c < 16 = let e = w .whole in omega arith in
-      set-at c below ∙ sym (tabulate-at 16 (targets-of (meaning t) s) c 0 below))
+      let below : c < mask-letters = let e = w .whole in omega arith in
+      set-at c below ∙ sym (tabulate-at mask-letters (targets-of (meaning t) s) c 0 below))
     where
-      set-at : (c : ℕ) → c < 16 → getD row c 0 ≡ targets-of (meaning t) s c
+      set-at : (c : ℕ) → c < mask-letters → getD row c 0 ≡ targets-of (meaning t) s c
       set-at c below =
           ext (n-of t) (getD row c 0) (targets-of (meaning t) s c) (w .small c) (set-of-lt (n-of t) (meaning t .edge s c))
           (λ q l.

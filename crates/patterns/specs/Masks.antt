@@ -10,18 +10,25 @@ use Rattle.sets.specs.Sets.{union}
 use Rattle.tables.specs.Table.{pattern-range, table-refusal, n-of}
 use Rattle.ncsb.specs.Moves.{Moves}
 
--- a state's targets for each of 16 letters; a letter that the pattern lacks has none
-unfoldable pub row-of : Moves → (state : ℕ) → List ℕ
-row-of d q = tabulate 16 (d .move q)
+-- its size: a row for each state that a pattern may have, and in each row a set for each letter that a table may have
+abbrev pub mask-rows : ℕ
+mask-rows = 32
 
--- the rows of 32 states; what is no state has no target
+abbrev pub mask-letters : ℕ
+mask-letters = 16
+
+-- a state's targets for each letter; a letter that the pattern lacks has none
+unfoldable pub row-of : Moves → (state : ℕ) → List ℕ
+row-of d q = tabulate mask-letters (d .move q)
+
+-- the rows of all states; what is no state has no target
 unfoldable pub masks-of : Moves → List (List ℕ)
-masks-of d = tabulate 32 (row-of d)
+masks-of d = tabulate mask-rows (row-of d)
 
 -- a set, joined with its targets on each letter
 unfoldable pub joined : (letters : ℕ) → (masks : List (List ℕ)) → (set : ℕ) → ℕ
 joined zero m s = s
-joined (suc c) m s = bitOr (joined c m s) (union 32 s (λ q. getD (getD m q []) c 0))
+joined (suc c) m s = bitOr (joined c m s) (union mask-rows s (λ q. getD (getD m q []) c 0))
 
 unfoldable pub joined-in : (rounds letters : ℕ) → (masks : List (List ℕ)) → (set : ℕ) → ℕ
 joined-in zero k m s = s

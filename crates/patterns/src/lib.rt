@@ -1,5 +1,7 @@
 // The pattern check: refusals 2 to 10, and what the construction reads of a pattern, spread out by state and by letter.
 use sets::targets;
+use tables::PATTERN_RECORDS;
+use tables::PATTERN_STATES;
 use tables::flags_of;
 use tables::head_of;
 use tables::letter_of;
@@ -14,7 +16,7 @@ ghost use Prim.Native.Nat.{_≤_, _<_};
 ghost use Rattle.sets.specs.Sets.{has, Narrow};
 ghost use Rattle.tables.specs.Table.{pattern-range, table-refusal, meaning};
 ghost use Rattle.patterns.specs.Check.{check-refusal, as-checked, reading, masks-read};
-ghost use Rattle.patterns.specs.Masks.{row-of, masks-of, joined, joined-in, Row-asks};
+ghost use Rattle.patterns.specs.Masks.{mask-rows, mask-letters, row-of, masks-of, joined, joined-in, Row-asks};
 ghost use Rattle.patterns.specs.Pattern.{initial-states, accepting-states, moves};
 ghost use Rattle.patterns.specs.Shape.{shape-of, row-forked, forked, Shape-asks, Small-shape};
 
@@ -59,7 +61,7 @@ fn row_of(table: &[u16], states: usize, state: usize) -> [u32; 16]
 }
 
 // The rows of all states. Each chain is walked once; every later test and step reads these sets alone.
-pub fn masks_of(table: &[u16]) -> [[u32; 16]; 32]
+fn masks_of(table: &[u16]) -> [[u32; 16]; 32]
     requires { ⌜ table-refusal pattern-range (now table) ≡ 0 ⌝ }
     ensures { λ r. ⌜ r ≡ masks-of (moves (meaning (now (table .entry)))) ⌝ }
 {
@@ -132,14 +134,14 @@ fn closure(masks: [[u32; 16]; 32], letters: usize, rounds: usize, set: u32) -> u
 }
 
 // All that the step reads beside the masks. Q2 is what the accepting states reach in n rounds.
-pub fn shape_of(table: &[u16], masks: [[u32; 16]; 32]) -> Shape
-    requires { ⌜ Shape-asks (now table) masks ⌝ }
+fn shape_of(table: &[u16], masks: &[[u32; 16]; 32]) -> Shape
+    requires { ⌜ Shape-asks (now table) (now masks) ⌝ }
     ensures { λ r. ⌜ r ≡ shape-of (moves (meaning (now (table .entry)))) ⌝ }
 {
     let states = states_of(table);
     let letters = letters_of(table);
     let flagged = flagged_states(table);
-    let inner = closure(masks, letters, states, flagged.accepting);
+    let inner = closure(*masks, letters, states, flagged.accepting);
     Shape {
         states,
         letters,
@@ -153,7 +155,7 @@ pub fn shape_of(table: &[u16], masks: [[u32; 16]; 32]) -> Shape
 
 // Some letter has two targets in a state's row.
 fn row_forks(row: [u32; 16], letters: usize) -> bool
-    requires { ⌜ letters ≤ 16 ⌝ }
+    requires { ⌜ letters ≤ mask-letters ⌝ }
     ensures { λ r. ⌜ r ≡ row-forked letters row ⌝ }
 {
     let mut letter = 0;
@@ -168,7 +170,7 @@ fn row_forks(row: [u32; 16], letters: usize) -> bool
 
 // A state with this row forks: it is in Q2, and some letter has two targets.
 fn state_forks(row: [u32; 16], shape: Shape, state: usize) -> bool
-    requires { ⌜ Small-shape shape × (state < 32) ⌝ }
+    requires { ⌜ Small-shape shape × (state < mask-rows) ⌝ }
     ensures { λ r. ⌜ r ≡ (has (shape .inner) state && row-forked (shape .letters) row) ⌝ }
 {
     if (shape.inner >> state) % 2 == 0 {
@@ -178,9 +180,9 @@ fn state_forks(row: [u32; 16], shape: Shape, state: usize) -> bool
 }
 
 // Some state of Q2 has two targets on one letter: the pattern is not semi-deterministic.
-pub fn some_fork(masks: [[u32; 16]; 32], shape: Shape) -> bool
+fn some_fork(masks: &[[u32; 16]; 32], shape: Shape) -> bool
     requires { ⌜ Small-shape shape ⌝ }
-    ensures { λ r. ⌜ r ≡ forked masks shape ⌝ }
+    ensures { λ r. ⌜ r ≡ forked (now (masks .entry)) shape ⌝ }
 {
     let states = shape.states;
     let mut state = 0;
@@ -201,13 +203,13 @@ pub fn read_pattern(table: &[u16], masks: &mut [[u32; 16]; 32]) -> Reading
     ensures told { λ r. ⌜ r ≡ reading (now (table .entry)) ⌝ }
     ensures spread { λ _. ⌜ now (masks .exit) ≡ masks-read (now (table .entry)) (now (masks .entry)) ⌝ }
 {
-    let refusal = table_refusal(table, 32, 4096);
+    let refusal = table_refusal(table, PATTERN_STATES, PATTERN_RECORDS);
     if refusal != 0 {
         return Reading::Refused(refusal);
     }
     *masks = masks_of(table);
-    let shape = shape_of(table, *masks);
-    if some_fork(*masks, shape) {
+    let shape = shape_of(table, masks);
+    if some_fork(masks, shape) {
         return Reading::Refused(10);
     }
     Reading::Pattern(shape)

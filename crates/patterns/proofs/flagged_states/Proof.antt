@@ -3,6 +3,7 @@
 use Prim.Native.Nat.{_-_, _<_}
 use native.Mathlib.Omega.{arith}
 use Rattle.tables.specs.Table.{meaning, n-of}
+use Rattle.patterns.specs.Masks.{mask-rows}
 use Rattle.patterns.proofs.Flags.{Gathered, gathered-start, gathered-small, gathered-reads, initial-turn, accepting-turn, initial-end, accepting-end}
 use Rattle.patterns.proofs.flagged_states.Statement.{statement}
 use Rattle.patterns.proofs.flagged_states.Tie as tie
@@ -19,7 +20,7 @@ module _ (c : tie.In-loop Inv-loop μ-loop) where
   abbrev counted : tie.After-states-of Inv-loop μ-loop
   counted = c .before .before
 
-  small : c .before .loop .state < 32
+  small : c .before .loop .state < mask-rows
   small = gathered-small _ (counted .before .before .pre) _ _ (counted .states-of .ensures .is) (c .loop-test .taken)
 
 states-of-requires : tie.Need-states-of-requires Inv-loop μ-loop

@@ -1,8 +1,6 @@
 -- `patterns::read_pattern` meets its contract: refusals 2 to 9 first, then the masks and the shape, then 10 where a fork is found.
 -- Assumes nothing.
-use mathlib.Core.Path.{_≡_}
-use Rattle.tables.specs.Access.{limits}
-use Rattle.tables.specs.Table.{table-refusal}
+use Rattle.tables.specs.Table.{pattern-range}
 use Rattle.patterns.proofs.Answers.{table-refused, masks-kept, table-passed, asks-shape, asks-small, masks-spread, fork-refused, even-passed}
 use Rattle.patterns.proofs.read_pattern.Statement.{statement}
 use Rattle.patterns.proofs.read_pattern.Tie as tie
@@ -11,26 +9,31 @@ table-refusal-requires : tie.Need-table-refusal-requires
 table-refusal-requires c κs = tt
 
 returns : tie.Need-returns
+unfolding pattern-range
 returns c =
     let told = c .before .table-refusal .ensures in
     (table-refused _ _ told (c .if1 .taken), masks-kept _ _ told (c .if1 .taken) _)
 
 masks-of-requires : tie.Need-masks-of-requires
+unfolding pattern-range
 masks-of-requires c κs = table-passed _ _ (c .before .table-refusal .ensures) (c .if1 .left)
 
 shape-of-requires : tie.Need-shape-of-requires
+unfolding pattern-range
 shape-of-requires c κs =
     let spread = c .before in
     let passed = spread .before in
     asks-shape _ _ (passed .before .table-refusal .ensures) (passed .if1 .left) _ (spread .masks-of .ensures)
 
 some-fork-requires : tie.Need-some-fork-requires
+unfolding pattern-range
 some-fork-requires c κs =
     let shaped = c .before in
     let passed = shaped .before .before .before in
     asks-small _ _ (passed .before .table-refusal .ensures) (passed .if1 .left) _ (shaped .shape-of .ensures)
 
 returns-2 : tie.Need-returns-2
+unfolding pattern-range
 returns-2 c =
     let searched = c .before in
     let shaped = searched .before .before in
@@ -43,6 +46,7 @@ returns-2 c =
     )
 
 returns-3 : tie.Need-returns-3
+unfolding pattern-range
 returns-3 c =
     let searched = c .before in
     let shaped = searched .before .before in

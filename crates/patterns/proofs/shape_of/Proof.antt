@@ -18,7 +18,7 @@ closure-requires c κs = tt
 returns : tie.Need-returns
 returns c =
     let closed = c .before in
-    let gathered = closed .before in
+    let gathered = closed .before .before in
     let counted = gathered .before in
     let start = counted .before .before .before in
     shape-right _ _ (start .pre) _ _ _ _ _

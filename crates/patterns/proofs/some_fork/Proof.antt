@@ -8,10 +8,18 @@ use Rattle.patterns.proofs.some_fork.Statement.{statement}
 use Rattle.patterns.proofs.some_fork.Tie as tie
 
 abbrev Inv-loop : tie.InvT-loop
-Inv-loop shape masks states state₀ state = None-below (state-forked masks shape) states state
+Inv-loop masks shape states state₀ state = None-below (state-forked masks shape) states state
 
 abbrev μ-loop : tie.MeasureT-loop
-μ-loop shape masks states state₀ state = states - state
+μ-loop masks shape states state₀ state = states - state
+
+-- what is known once a state was tested
+module _ (c : tie.After-state-forks Inv-loop μ-loop) where
+  abbrev turn : tie.In-loop Inv-loop μ-loop
+  turn = c .before .before
+
+  abbrev start : tie.Start Inv-loop μ-loop
+  start = turn .before .before
 
 loop-holds : tie.Need-loop-holds Inv-loop μ-loop
 loop-holds c = none-start _ _
@@ -19,27 +27,29 @@ loop-holds c = none-start _ _
 mul-state-forks : tie.Need-mul-state-forks Inv-loop μ-loop
 mul-state-forks c = omega (arith, c .before .before .pre .states)
 
-array-copy-out-state-forks : tie.Need-array-copy-out-state-forks Inv-loop μ-loop
-array-copy-out-state-forks c = omega (arith, c .before .before .pre .states)
+element-copy-out-state-forks : tie.Need-element-copy-out-state-forks Inv-loop μ-loop
+element-copy-out-state-forks c = omega (arith, c .before .before .pre .states)
 
 state-forks-requires : tie.Need-state-forks-requires Inv-loop μ-loop
-state-forks-requires c κs = (c .before .before .before .pre, omega (arith, c .before .before .before .pre .states))
+state-forks-requires c κs =
+    let start = c .before .before .before in (start .pre, omega (arith, start .pre .states))
 
 returns : tie.Need-returns Inv-loop μ-loop
 returns c =
-    sym
-    (states-hit _ _ _ _ (c .before .before .before .loop-test .taken) (c .before .state-forks .ensures) (c .if1 .taken))
+    let tested = c .before in
+    sym (states-hit _ _ _ _ (turn tested .loop-test .taken) (tested .state-forks .ensures) (c .if1 .taken))
 
 add-state : tie.Need-add-state Inv-loop μ-loop
-add-state c = omega (arith, c .before .before .before .before .before .pre .states)
+add-state c = omega (arith, start (c .before) .pre .states)
 
 loop-less : tie.Need-loop-less Inv-loop μ-loop
-loop-less c = omega (arith, c .before .before .before .loop-test .taken)
+loop-less c = omega (arith, turn (c .before) .loop-test .taken)
 
 loop-again : tie.Need-loop-again Inv-loop μ-loop
 loop-again c =
-    states-turn _ _ _ _ (c .before .before .before .loop-test .taken) (c .before .state-forks .ensures) (c .if1 .left)
-    (c .before .before .before .before .loop .inv)
+    let tested = c .before in
+    states-turn _ _ _ _ (turn tested .loop-test .taken) (tested .state-forks .ensures) (c .if1 .left)
+    (turn tested .before .loop .inv)
 
 returns-2 : tie.Need-returns-2 Inv-loop μ-loop
 returns-2 c = sym (states-end _ _ _ (c .loop-test .left) (c .before .loop .inv))
@@ -52,7 +62,7 @@ some-fork-spec =
     μ-loop
     loop-holds
     mul-state-forks
-    array-copy-out-state-forks
+    element-copy-out-state-forks
     state-forks-requires
     returns
     add-state
