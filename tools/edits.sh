@@ -87,6 +87,7 @@ edits() {
             }
             close(path)
             if (sentence == "") fault("its first line is not `breaks: SENTENCE`")
+            else if (sentence !~ /^[A-Z0-9`]/ || sentence !~ /([.]|…)$/) fault("what it breaks is no whole sentence")
             if (!pairs) fault("it has no `old:` and `new:` lines")
             if (!well_named()) fault("its name does not begin with that of a function or definition of src/ or specs/")
             gsub(/\|/, "\\|", sentence)
