@@ -18,9 +18,10 @@ use Rattle.patterns.specs.Pattern.{moves}
 use Rattle.patterns.specs.Shape.{shape-of}
 use Rattle.patterns.specs.declared.Shape.{Shape}
 use Rattle.record_words.specs.Record.{all-words, with-quadruple}
-use Rattle.complement.specs.Build.{Lent}
+use Rattle.complement.specs.Build.{Lent, Build-says}
 use Rattle.complement.specs.Complement.{complement}
 use Rattle.complement.specs.Records.{capacity, Looked-up}
+use Rattle.complement.specs.declared.Counts.{Counts}
 use Rattle.complement.specs.declared.explore.Progress.{Progress}
 
 -- a buffer that begins with these words, and is zero beyond them
@@ -122,13 +123,21 @@ pub record Read-off (table : List ℕ) (masks : List (List ℕ)) (shape : Shape)
   pub masked : masks ≡ masks-of (moves (meaning table))
   pub shaped : shape ≡ shape-of (moves (meaning table))
 
--- what exploring asks: masks and shape are read off a pattern, and the buffers are zero
-pub record Explore-asks (masks : List (List ℕ)) (shape : Shape) (l : Lent) : Type 0 where
+-- masks and shape of some pattern
+pub record Of-pattern (masks : List (List ℕ)) (shape : Shape) : Type 0 where
   pub table : List ℕ
   pub read-off : Read-off table masks shape
+
+-- what exploring asks: masks and shape are read off a pattern, and the buffers are zero
+pub record Explore-asks (masks : List (List ℕ)) (shape : Shape) (l : Lent) : Type 0 where
+  pub of-pattern : Of-pattern masks shape
   pub words-clear : Begins [] (l .words)
   pub sets-clear : Begins [] (l .sets)
 
 -- what exploring says: it ends with the complement of whatever pattern they are read off
 pub record Explored-to (masks : List (List ℕ)) (shape : Shape) (l : Lent) (p : Progress) : Type 0 where
   pub ends : (t : List ℕ) → Read-off t masks shape → Ends (complement t) l p
+
+-- what building says: it answers and leaves what is said of whatever pattern they are read off
+pub record Built-from (masks : List (List ℕ)) (shape : Shape) (r : Counts) (before after : Lent) : Type 0 where
+  pub says : (t : List ℕ) → Read-off t masks shape → Build-says t r before after

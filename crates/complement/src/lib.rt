@@ -1,15 +1,17 @@
 // The complement build: the reachable NCSB complement of a pattern, in lent buffers.
+use basics::clear16;
+use basics::clear32;
 use layout::lay_out;
-use patterns::check_refusal;
-use patterns::masks_of;
-use patterns::shape_of;
+use patterns::Reading;
+use patterns::Shape;
+use patterns::read_pattern;
 ghost use Prim.Native.Nat.{_≤_};
 ghost use mathlib.Core.Path.{_≡_};
 ghost use mathlib.Core.Bool.{_||_};
 ghost use lib.Dec.{ltb};
 ghost use Rattle.complement.specs.Build.{lent, words-needed, Build-says, Refused-with};
+ghost use Rattle.complement.specs.Found.{Of-pattern, Built-from};
 
-mod buffers;
 mod explore;
 mod flags;
 mod records;
@@ -26,8 +28,8 @@ pub struct Counts {
 fn refuse(number: u32, words: &mut [u16], sets: &mut [u32]) -> Counts
     ensures { λ r. ⌜ Refused-with number r (lent (now (words .entry)) (now (sets .entry))) (lent (now (words .exit)) (now (sets .exit))) ⌝ }
 {
-    buffers::clear_words(words);
-    buffers::clear_sets(sets);
+    clear16(words);
+    clear32(sets);
     Counts {
         number,
         states: 0,
@@ -46,18 +48,18 @@ fn too_long(words: usize, states: usize, edges: usize) -> bool
     3 + 2 * states + 3 * edges > words
 }
 
-// Builds the reachable complement of a pattern: its table in the words, its quadruples in the sets.
-pub fn build_complement(table: &[u16], words: &mut [u16], sets: &mut [u32]) -> Counts
-    ensures { λ r. ⌜ Build-says (now (table .entry)) r (lent (now (words .entry)) (now (sets .entry))) (lent (now (words .exit)) (now (sets .exit))) ⌝ }
+// Builds the complement of a pattern that was read: its table in the words, its quadruples in the sets.
+fn build_pattern(
+    masks: [[u32; 16]; 32],
+    shape: Shape,
+    words: &mut [u16],
+    sets: &mut [u32],
+) -> Counts
+    requires { ⌜ Of-pattern masks shape ⌝ }
+    ensures { λ r. ⌜ Built-from masks shape r (lent (now (words .entry)) (now (sets .entry))) (lent (now (words .exit)) (now (sets .exit))) ⌝ }
 {
-    let refusal = check_refusal(table);
-    if refusal != 0 {
-        return refuse(refusal, words, sets);
-    }
-    buffers::clear_words(words);
-    buffers::clear_sets(sets);
-    let masks = masks_of(table);
-    let shape = shape_of(table, masks);
+    clear16(words);
+    clear32(sets);
     let found = explore::explore(masks, shape, words, sets);
     if found.full {
         return refuse(11, words, sets);
@@ -73,5 +75,16 @@ pub fn build_complement(table: &[u16], words: &mut [u16], sets: &mut [u32]) -> C
         number: 0,
         states: states as u32,
         edges: edges as u32,
+    }
+}
+
+// Builds the reachable complement of a pattern in the lent buffers. The table is read once: what the check reads of it is what is built from.
+pub fn build_complement(table: &[u16], words: &mut [u16], sets: &mut [u32]) -> Counts
+    ensures { λ r. ⌜ Build-says (now (table .entry)) r (lent (now (words .entry)) (now (sets .entry))) (lent (now (words .exit)) (now (sets .exit))) ⌝ }
+{
+    let mut masks = [[0u32; 16]; 32];
+    match read_pattern(table, &mut masks) {
+        Reading::Refused(number) => refuse(number, words, sets),
+        Reading::Pattern(shape) => build_pattern(masks, shape, words, sets),
     }
 }

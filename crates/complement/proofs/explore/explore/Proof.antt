@@ -40,8 +40,8 @@ loop-holds c = (
 
 step-requires : tie.Need-step-requires Inv-loop μ-loop
 step-requires c κs =
-    let read = c .before .before .before .before .before .before .before .before .before .before .before .before .pre .read-off in
-    expand-asks (c .before .before .before .before .before .before .before .before .before .before .before .before .pre .table) (read .passed) (read .masked) (read .shaped) ((c .before .before .before .before .loop .inv .2) (c .before .before .before .before .before .before .before .before .before .before .before .before .pre .table) read) (c .before .before .if2 .taken)
+    let read = c .before .before .before .before .before .before .before .before .before .before .before .before .pre .of-pattern .read-off in
+    expand-asks (c .before .before .before .before .before .before .before .before .before .before .before .before .pre .of-pattern .table) (read .passed) (read .masked) (read .shaped) ((c .before .before .before .before .loop .inv .2) (c .before .before .before .before .before .before .before .before .before .before .before .before .pre .of-pattern .table) read) (c .before .before .if2 .taken)
 
 same-length-2 : tie.Need-same-length-2 Inv-loop μ-loop
 same-length-2 c = c .before .before .before .before .before .step .kept .1 .1 .0 ∙ (c .before .before .before .before .before .before .before .before .before .before .loop .inv .0)
@@ -59,12 +59,12 @@ returns-2 c =
 add-number : tie.Need-add-number Inv-loop μ-loop
 add-number c =
     let l = c .before .before .before .before .before .before .before .before .if2 .taken in
-    let m = explore-limit ((c .before .before .before .before .before .before .before .before .before .before .loop .inv .2) (c .before .before .before .before .before .before .before .before .before .before .before .before .before .before .before .before .before .before .pre .table) (c .before .before .before .before .before .before .before .before .before .before .before .before .before .before .before .before .before .before .pre .read-off)) in omega arith
+    let m = explore-limit ((c .before .before .before .before .before .before .before .before .before .before .loop .inv .2) (c .before .before .before .before .before .before .before .before .before .before .before .before .before .before .before .before .before .before .pre .of-pattern .table) (c .before .before .before .before .before .before .before .before .before .before .before .before .before .before .before .before .before .before .pre .of-pattern .read-off)) in omega arith
 
 loop-less : tie.Need-loop-less Inv-loop μ-loop
 loop-less c =
     let l = c .before .before .before .before .before .before .before .before .if2 .taken in
-    let m = explore-limit ((c .before .before .before .before .before .before .before .before .before .before .loop .inv .2) (c .before .before .before .before .before .before .before .before .before .before .before .before .before .before .before .before .before .before .pre .table) (c .before .before .before .before .before .before .before .before .before .before .before .before .before .before .before .before .before .before .pre .read-off)) in omega arith
+    let m = explore-limit ((c .before .before .before .before .before .before .before .before .before .before .loop .inv .2) (c .before .before .before .before .before .before .before .before .before .before .before .before .before .before .before .before .before .before .pre .of-pattern .table) (c .before .before .before .before .before .before .before .before .before .before .before .before .before .before .before .before .before .before .pre .of-pattern .read-off)) in omega arith
 
 loop-again : tie.Need-loop-again Inv-loop μ-loop
 loop-again c = (

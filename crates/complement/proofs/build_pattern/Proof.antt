@@ -1,0 +1,207 @@
+-- `build_pattern` answers and leaves what is said of whatever pattern masks and shape are read off: 11 where exploring found more states than
+-- fit, 12 where the table is too long, or the complement's table and sets. Assumes nothing.
+use mathlib.Core.Path.{_∙_}
+use mathlib.Core.List.{List}
+use Prim.Native.Nat.{ℕ}
+use native.Mathlib.Omega.{arith}
+use borrow.Author.Needs.{needs}
+use Rattle.complement.specs.Build.{Lent, lent}
+use Rattle.complement.specs.Complement.{complement}
+use Rattle.complement.specs.Found.{Shows, Read-off}
+use Rattle.complement.proofs.Answers.{refused-states, refused-edges}
+use Rattle.complement.proofs.Finishing.{states-limit, built-asks, built-counts, built-flags, built-says}
+use Rattle.complement.proofs.Reaching.{Same-sizes, ends-within}
+use Rattle.complement.proofs.Stored.{begins-zeros}
+use Rattle.complement.proofs.build_pattern.Statement.{statement}
+use Rattle.complement.proofs.build_pattern.Tie as tie
+
+-- THE PLACES
+-- both buffers are clear
+module _ (c : tie.After-clear32) where
+  abbrev words-cleared : tie.After-clear16
+  words-cleared = c .before .before .before .before
+
+  abbrev start : tie.Start
+  start = words-cleared .before .before .before .before
+
+  -- the buffers as they were lent
+  abbrev lends : Lent
+  lends = lent (start .args .words .now) (start .args .sets .now)
+
+-- exploring has ended
+module _ (c : tie.After-explore) where
+  abbrev cleared : tie.After-clear32
+  cleared = c .before .before .before .before .before
+
+  abbrev left : Lent
+  left = lent (c .explore .last .1 .1 .0) (c .explore .last .1 .1 .1 .0)
+
+  sizes : Same-sizes left (lends cleared)
+  sizes =
+      record {
+        words = c .explore .kept .1 .1 .0 ∙ words-cleared cleared .clear16 .kept .0;
+        sets = c .explore .kept .1 .1 .1 .0 ∙ cleared .clear32 .kept .0;
+      }
+
+-- the states fit
+module _ (c : tie.Else1) where
+  abbrev explored : tie.After-explore
+  explored = c .before .before .before .before .before
+
+  abbrev begun : tie.Start
+  begun = start (cleared explored)
+
+  shows :
+      (t : List ℕ) → Read-off t (begun .args .masks) (begun .args .shape) →
+      Shows (complement t) (left explored) (explored .explore .result)
+  shows t read = ends-within (c .if1 .left) (explored .explore .ensures .ends t read)
+
+-- the table is not too long
+module _ (c : tie.Else2) where
+  abbrev fitting : tie.Else1
+  fitting = c .before .before
+
+-- edges stand in chains
+module _ (c : tie.After-lay-out) where
+  abbrev short : tie.Else2
+  short = c .before .before
+
+-- the initial states are counted
+module _ (c : tie.After-initial-count) where
+  abbrev laid-out : tie.After-lay-out
+  laid-out = c .before .before .before .before .before
+
+-- THE NEEDS
+clear16-requires : tie.Need-clear16-requires
+clear16-requires c κs = search needs
+
+clear32-requires : tie.Need-clear32-requires
+clear32-requires c κs = search needs
+
+explore-requires : tie.Need-explore-requires
+explore-requires c κs =
+    let at = c .before .before .before .before in
+    record {
+      of-pattern = start at .pre;
+      words-clear = rw (words-cleared at .clear16 .ensures) (begins-zeros (start at .args .words .now));
+      sets-clear = rw (at .clear32 .ensures) (begins-zeros (start at .args .sets .now));
+    }
+
+refuse-requires : tie.Need-refuse-requires
+refuse-requires c κs = search needs
+
+same-length : tie.Need-same-length
+same-length c = search needs
+
+same-length-2 : tie.Need-same-length-2
+same-length-2 c = search needs
+
+returns : tie.Need-returns
+returns c =
+    let refused = c .before .before .before .before in
+    let full = refused .before .before .before in
+    let at = full .before .before .before .before .before in
+    record {
+      says = λ t read.
+          refused-states t (lends (cleared at)) (read .passed) (sizes at) (at .explore .ensures .ends t read) (full .if1 .taken)
+          (refused .refuse .ensures);
+    }
+
+too-long-requires : tie.Need-too-long-requires
+too-long-requires c κs = let of = begun c .pre in states-limit (of .read-off) (shows c (of .table) (of .read-off))
+
+refuse-requires-2 : tie.Need-refuse-requires-2
+refuse-requires-2 c κs = search needs
+
+same-length-3 : tie.Need-same-length-3
+same-length-3 c = search needs
+
+same-length-4 : tie.Need-same-length-4
+same-length-4 c = search needs
+
+returns-2 : tie.Need-returns-2
+returns-2 c =
+    let refused = c .before .before .before .before in
+    let long = refused .before .before .before in
+    let at = long .before .before in
+    record {
+      says = λ t read.
+          refused-edges t (lends (cleared (explored at))) (read .passed) (sizes (explored at))
+          (explored at .explore .ensures .ends t read) (at .if1 .left) (long .before .too-long .ensures) (long .if2 .taken)
+          (refused .refuse2 .ensures);
+    }
+
+lay-out-requires : tie.Need-lay-out-requires
+lay-out-requires c κs =
+    let at = c .before in
+    let of = begun (fitting at) .pre in
+    built-asks (of .read-off) (shows (fitting at) (of .table) (of .read-off)) (at .before .too-long .ensures) (at .if2 .left)
+
+initial-count-requires : tie.Need-initial-count-requires
+initial-count-requires c κs = search needs
+
+set-flags-requires : tie.Need-set-flags-requires
+set-flags-requires c κs =
+    let laid = laid-out c in
+    let at = short laid in
+    let of = begun (fitting at) .pre in
+    built-flags (of .read-off) (shows (fitting at) (of .table) (of .read-off)) (at .before .too-long .ensures) (at .if2 .left)
+    (laid .lay-out .ensures) (laid .lay-out .kept .0)
+
+cast-t34 : tie.Need-cast-t34
+cast-t34 c =
+    let at = short (laid-out (c .before .before .before)) in
+    let of = begun (fitting at) .pre in
+    let few = built-counts (of .read-off) (shows (fitting at) (of .table) (of .read-off)) (at .before .too-long .ensures) (at .if2 .left) .0 in
+    omega arith
+
+cast-t35 : tie.Need-cast-t35
+cast-t35 c =
+    let at = short (laid-out (c .before .before .before)) in
+    let of = begun (fitting at) .pre in
+    let few = built-counts (of .read-off) (shows (fitting at) (of .table) (of .read-off)) (at .before .too-long .ensures) (at .if2 .left) .1 in
+    omega arith
+
+same-length-5 : tie.Need-same-length-5
+same-length-5 c = search needs
+
+same-length-6 : tie.Need-same-length-6
+same-length-6 c = search needs
+
+returns-3 : tie.Need-returns-3
+returns-3 c =
+    let flagged = c .before .before in
+    let counted = flagged .before in
+    let laid = laid-out counted in
+    let at = short laid in
+    let from = explored (fitting at) in
+    record {
+      says = λ t read.
+          built-says read (shows (fitting at) t read) (at .before .too-long .ensures) (at .if2 .left) (laid .lay-out .ensures)
+          (laid .lay-out .kept .0) (lends (cleared from)) (sizes from) (counted .initial-count .ensures) (flagged .set-flags .ensures);
+    }
+
+pub build-pattern-spec : {M : Type 1} → statement M
+build-pattern-spec =
+    tie.close
+    (tie.spec
+    clear16-requires
+    clear32-requires
+    explore-requires
+    refuse-requires
+    same-length
+    same-length-2
+    returns
+    too-long-requires
+    refuse-requires-2
+    same-length-3
+    same-length-4
+    returns-2
+    lay-out-requires
+    initial-count-requires
+    set-flags-requires
+    cast-t34
+    cast-t35
+    same-length-5
+    same-length-6
+    returns-3)
