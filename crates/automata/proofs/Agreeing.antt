@@ -6,19 +6,19 @@ use native.Mathlib.Omega.{arith}
 use Rattle.automata.specs.System.{System, Built, number-of, with-state, add-edge, add-all, by-letters}
 
 module _ {X : Type 0} (s s′ : System X) (same : (x y : X) → s .same x y ≡ s′ .same x y) where
-  number-agrees : (x : X) (xs : List X) → number-of s x xs ≡ number-of s′ x xs
+  number-agrees : (x : X) (xs : List X) → number-of (s .same) x xs ≡ number-of (s′ .same) x xs
   unfolding number-of
   number-agrees x [] = refl
   number-agrees x (y ∷ ys) = rw (same x y, number-agrees x ys) refl
 
-  edge-agrees : (i c : ℕ) (y : X) (b : Built X) → add-edge s i c y b ≡ add-edge s′ i c y b
+  edge-agrees : (i c : ℕ) (y : X) (b : Built X) → add-edge (s .same) i c y b ≡ add-edge (s′ .same) i c y b
   unfolding add-edge with-state
   edge-agrees i c y b = rw (number-agrees y (b .states)) refl
 
-  all-agrees : (i c : ℕ) (ys : List X) (b : Built X) → add-all s i c ys b ≡ add-all s′ i c ys b
+  all-agrees : (i c : ℕ) (ys : List X) (b : Built X) → add-all (s .same) i c ys b ≡ add-all (s′ .same) i c ys b
   unfolding add-all
   all-agrees i c [] b = refl
-  all-agrees i c (y ∷ ys) b = rw (edge-agrees i c y b) (all-agrees i c ys (add-edge s′ i c y b))
+  all-agrees i c (y ∷ ys) b = rw (edge-agrees i c y b) (all-agrees i c ys (add-edge (s′ .same) i c y b))
 
   pub letters-agree :
       (limit i : ℕ) (x : X) → ((c : ℕ) → c < limit → s .nexts x c ≡ s′ .nexts x c) → (b : Built X) →

@@ -18,7 +18,7 @@ use Rattle.automata.proofs.Members.{with-states-prefix, with-states-lis
 
 -- every state of the second list is in the first
 pub record Covers {X : Type 0} (s : System X) (xs ys : List X) : Type 0 where
-  pub lists : (y : X) → Member y ys → number-of s y xs < length xs
+  pub lists : (y : X) → Member y ys → number-of (s .same) y xs < length xs
 
 -- the successors of the states with numbers below the limit are listed
 pub record Closed-below {X : Type 0} (s : System X) (limit : ℕ) (xs : List X) : Type 0 where
@@ -87,15 +87,15 @@ targets-snoc es e n m old grown new r l =
 
 module _ {X : Type 0} (s : System X) where
   covers-prefix : {xs all ys : List X} → Prefix xs all → Covers s xs ys → Covers s all ys
-  covers-prefix p h = record { lists = λ y m. listed-prefix s y p (h .lists y m) }
+  covers-prefix p h = record { lists = λ y m. listed-prefix (s .same) y p (h .lists y m) }
 
   -- THE CLOSED FORM OF THE EDGES stays when further states are appended
   edges-to-kept :
-      {xs all : List X} → Prefix xs all → (i c : ℕ) (ys : List X) → Covers s xs ys → edges-to s all i c ys ≡ edges-to s xs i c ys
+      {xs all : List X} → Prefix xs all → (i c : ℕ) (ys : List X) → Covers s xs ys → edges-to (s .same) all i c ys ≡ edges-to (s .same) xs i c ys
   unfolding edges-to
   edges-to-kept p i c [] h = refl
   edges-to-kept p i c (y ∷ ys) h =
-      rw (number-prefix s y p (h .lists y here), edges-to-kept p i c ys (record { lists = λ z m. h .lists z (there m) }))
+      rw (number-prefix (s .same) y p (h .lists y here), edges-to-kept p i c ys (record { lists = λ z m. h .lists z (there m) }))
 
   edges-on-kept :
       {xs all : List X} → Prefix xs all → (limit i : ℕ) (x : X) → ((c : ℕ) → c < limit → Covers s xs (s .nexts x c)) →
@@ -118,13 +118,13 @@ module _ {X : Type 0} (s : System X) where
       )
 
   -- A STEP OF EXPLORING keeps what was found, and goes on from there
-  add-all-states : (i c : ℕ) (ys : List X) (b : Built X) → add-all s i c ys b .states ≡ with-states s ys (b .states)
+  add-all-states : (i c : ℕ) (ys : List X) (b : Built X) → add-all (s .same) i c ys b .states ≡ with-states (s .same) ys (b .states)
   unfolding add-all with-states add-edge built
   add-all-states i c [] b = refl
-  add-all-states i c (y ∷ ys) b = add-all-states i c ys (add-edge s i c y b)
+  add-all-states i c (y ∷ ys) b = add-all-states i c ys (add-edge (s .same) i c y b)
 
-  pub add-all-prefix : (i c : ℕ) (ys : List X) (b : Built X) → Prefix (b .states) (add-all s i c ys b .states)
-  add-all-prefix i c ys b = rw (add-all-states i c ys b) (with-states-prefix s ys (b .states))
+  pub add-all-prefix : (i c : ℕ) (ys : List X) (b : Built X) → Prefix (b .states) (add-all (s .same) i c ys b .states)
+  add-all-prefix i c ys b = rw (add-all-states i c ys b) (with-states-prefix (s .same) ys (b .states))
 
   pub by-letters-prefix : (limit i : ℕ) (x : X) (b : Built X) → Prefix (b .states) (by-letters s limit i x b .states)
   unfolding by-letters
@@ -155,24 +155,24 @@ module _ {X : Type 0} (s : System X) where
   sound-at-most b m h most = most .bound (b .states) (h .distinct) (h .reached)
 
   module _ (decides : Decides s) where
-    add-all-covers : (i c : ℕ) (ys : List X) (b : Built X) → Covers s (add-all s i c ys b .states) ys
+    add-all-covers : (i c : ℕ) (ys : List X) (b : Built X) → Covers s (add-all (s .same) i c ys b .states) ys
     add-all-covers i c ys b =
         record { lists = λ y m. rw (add-all-states i c ys b) (with-states-listed s decides (b .states) m) }
 
     add-all-edges :
         (i c : ℕ) (ys : List X) (b : Built X) →
-        add-all s i c ys b .edges ≡ b .edges ++ edges-to s (add-all s i c ys b .states) i c ys
+        add-all (s .same) i c ys b .edges ≡ b .edges ++ edges-to (s .same) (add-all (s .same) i c ys b .states) i c ys
     unfolding add-all edges-to add-edge built
     add-all-edges i c [] b = sym (append-nil (b .edges))
     add-all-edges i c (y ∷ ys) b =
-        let b′ = add-edge s i c y b in
-        let n : number-of s y (add-all s i c ys b′ .states) ≡ number-of s y (b .states) =
-        number-prefix s y (add-all-prefix i c ys b′)
+        let b′ = add-edge (s .same) i c y b in
+        let n : number-of (s .same) y (add-all (s .same) i c ys b′ .states) ≡ number-of (s .same) y (b .states) =
+        number-prefix (s .same) y (add-all-prefix i c ys b′)
         (rw (with-number s decides y (b .states)) (with-listed s decides y (b .states)))
         ∙ with-number s decides y (b .states)
         in
         add-all-edges i c ys b′
-        ∙ append-snoc (b .edges) (an-edge i c (number-of s y (b .states))) (edges-to s (add-all s i c ys b′ .states) i c ys)
+        ∙ append-snoc (b .edges) (an-edge i c (number-of (s .same) y (b .states))) (edges-to (s .same) (add-all (s .same) i c ys b′ .states) i c ys)
         ∙ rw n refl
 
     by-letters-covers :
@@ -196,9 +196,9 @@ module _ {X : Type 0} (s : System X) where
     by-letters-edges zero i x b = sym (append-nil (b .edges))
     by-letters-edges (suc c) i x b =
         let before = by-letters s c i x b in
-        let all = add-all s i c (s .nexts x c) before .states in
+        let all = add-all (s .same) i c (s .nexts x c) before .states in
         let kept = edges-on-kept (add-all-prefix i c (s .nexts x c) before) c i x (by-letters-covers c i x b) in
-        let new = edges-to s all i c (s .nexts x c) in
+        let new = edges-to (s .same) all i c (s .nexts x c) in
         add-all-edges i c (s .nexts x c) before
         ∙ ap (λ (es : List Edge). es ++ new) (by-letters-edges c i x b)
         ∙ append-assoc (b .edges) (edges-on s (before .states) c i x) new
@@ -206,29 +206,29 @@ module _ {X : Type 0} (s : System X) where
 
     -- one edge more, to a reached state
     pub sound-edge :
-        (i c : ℕ) (y : X) (b : Built X) → Reached s y → Sound s b → Sound s (add-edge s i c y b)
+        (i c : ℕ) (y : X) (b : Built X) → Reached s y → Sound s b → Sound s (add-edge (s .same) i c y b)
     unfolding add-edge built an-edge
     sound-edge i c y b ry h =
         record {
-          first = prefix-then (h .first) (with-prefix s y (b .states));
+          first = prefix-then (h .first) (with-prefix (s .same) y (b .states));
           distinct = with-distinct s decides y (b .states) (h .distinct);
           reached = with-each s (λ x. Reached s x) y (b .states) (h .reached) ry;
           targets =
-              targets-snoc (b .edges) e (length (b .states)) (length (with-state s y (b .states))) (h .targets)
-              (prefix-length (with-prefix s y (b .states))) (with-listed s decides y (b .states));
+              targets-snoc (b .edges) e (length (b .states)) (length (with-state (s .same) y (b .states))) (h .targets)
+              (prefix-length (with-prefix (s .same) y (b .states))) (with-listed s decides y (b .states));
           discovery =
-              with-cases s (λ l. (k : ℕ) → length (s .starts) ≤ k → k < length l → First-edge (b .edges ++ (e ∷ [])) k) y (b .states)
+              with-cases (s .same) (λ l. (k : ℕ) → length (s .starts) ≤ k → k < length l → First-edge (b .edges ++ (e ∷ [])) k) y (b .states)
               (λ _. kept) new;
         }
       where
         e : Edge
-        e = an-edge i c (number-of s y (b .states))
+        e = an-edge i c (number-of (s .same) y (b .states))
 
         kept : (k : ℕ) → length (s .starts) ≤ k → k < length (b .states) → First-edge (b .edges ++ (e ∷ [])) k
         kept k m l = first-kept (b .edges) e k (h .discovery k m l)
 
         new :
-            number-of s y (b .states) ≡ length (b .states) → (k : ℕ) → length (s .starts) ≤ k →
+            number-of (s .same) y (b .states) ≡ length (b .states) → (k : ℕ) → length (s .starts) ≤ k →
             k < length (b .states ++ (y ∷ [])) → First-edge (b .edges ++ (e ∷ [])) k
         new q k m l =
             elim (either (ltb k (length (b .states)))) [
@@ -236,17 +236,17 @@ module _ {X : Type 0} (s : System X) where
               | inr d ↦
                   let g = ltb-ge k (length (b .states)) d in
                   let l′ : k < length (b .states) + 1 = rw length-append at l in
-                  let z : number-of s y (b .states) ≡ k = omega arith in
+                  let z : number-of (s .same) y (b .states) ≡ k = omega arith in
                   subst (λ (n : ℕ). First-edge (b .edges ++ (e ∷ [])) n) z
                   (first-new (b .edges) e (λ r m. rw q (h .targets r m)))
             ]
 
     pub sound-all :
-        (i c : ℕ) (ys : List X) (b : Built X) → ((y : X) → Member y ys → Reached s y) → Sound s b → Sound s (add-all s i c ys b)
+        (i c : ℕ) (ys : List X) (b : Built X) → ((y : X) → Member y ys → Reached s y) → Sound s b → Sound s (add-all (s .same) i c ys b)
     unfolding add-all
     sound-all i c [] b ry h = h
     sound-all i c (y ∷ ys) b ry h =
-        sound-all i c ys (add-edge s i c y b) (λ z m. ry z (there m)) (sound-edge i c y b (ry y here) h)
+        sound-all i c ys (add-edge (s .same) i c y b) (λ z m. ry z (there m)) (sound-edge i c y b (ry y here) h)
 
     pub sound-letters :
         (limit i : ℕ) (x : X) (b : Built X) → limit ≤ s .letters → Reached s x → Sound s b → Sound s (by-letters s limit i x b)
@@ -311,11 +311,11 @@ module _ {X : Type 0} (s : System X) where
         })
 
     -- THE END: once every listed state is handled, exactly the system was found
-    closed-found : (b : Built X) → Explored s (length (b .states)) b → (x : X) → Reached s x → number-of s x (b .states) < length (b .states)
-    closed-found b h x (at-start m) = listed-prefix s x (h .sound .first) (number-member s decides m)
+    closed-found : (b : Built X) → Explored s (length (b .states)) b → (x : X) → Reached s x → number-of (s .same) x (b .states) < length (b .states)
+    closed-found b h x (at-start m) = listed-prefix (s .same) x (h .sound .first) (number-member s decides m)
     closed-found b h y (onward {x = x} c r l m) =
         let n = closed-found b h x r in
-        h .closed .covers (number-of s x (b .states)) n c l .lists y (rw (number-found s decides x (b .states) n) m)
+        h .closed .covers (number-of (s .same) x (b .states)) n c l .lists y (rw (number-found s decides x (b .states) n) m)
 
     pub explored-exactly : (b : Built X) → Explored s (length (b .states)) b → Exactly s b
     explored-exactly b h =
@@ -323,7 +323,7 @@ module _ {X : Type 0} (s : System X) where
           reached = h .sound .reached;
           found =
               λ x r.
-              let n = closed-found b h x r in (number-of s x (b .states), n, number-found s decides x (b .states) n);
+              let n = closed-found b h x r in (number-of (s .same) x (b .states), n, number-found s decides x (b .states) n);
           once = distinct-once s decides (b .states) (h .sound .distinct);
           starts = prefix-take (h .sound .first);
           edges = h .edges;

@@ -1,12 +1,13 @@
 -- Exploring as its loops see it: what was found only grows, a successor is known or new, and what the loop over the states carries as its
 -- invariant, its turn and its end. Assumes nothing.
 use mathlib.Core.Path.{_≡_, refl, sym, _∙_}
+use mathlib.Core.Bool.{Bool}
 use mathlib.Core.List.{List, [], _∷_, _++_}
 use mathlib.Core.Logic.{inl, inr}
 use Prim.Native.Nat.{ℕ, zero, suc, _+_, _≤_, _<_}
 use native.Mathlib.Omega.{arith}
 use lib.Dec.{leb}
-use lib.ListN.{length, take}
+use lib.ListN.{length, getD, take}
 use lib.Seq.{take-suc}
 use Rattle.basics.proofs.Booleans.{either, leb-le, leb-gt}
 use Rattle.basics.proofs.Upward.{upward}
@@ -30,25 +31,52 @@ grows-then p q = record { states = prefix-then (p .states) (q .states); edges = 
 pub grows-states : {X : Type 0} {a b : Built X} → Grows a b → length (a .states) ≤ length (b .states)
 grows-states p = prefix-length (p .states)
 
-module _ {X : Type 0} (s : System X) where
-  pub grows-edge : (i c : ℕ) (y : X) (b : Built X) → Grows b (add-edge s i c y b)
+module _ {X : Type 0} (same : X → X → Bool) where
+  pub grows-edge : (i c : ℕ) (y : X) (b : Built X) → Grows b (add-edge same i c y b)
   unfolding add-edge built
   grows-edge i c y b =
       record {
-        states = with-prefix s y (b .states);
-        edges = prefix-append (b .edges) (an-edge i c (number-of s y (b .states)) ∷ []);
+        states = with-prefix same y (b .states);
+        edges = prefix-append (b .edges) (an-edge i c (number-of same y (b .states)) ∷ []);
       }
 
-  pub grows-all : (i c : ℕ) (ys : List X) (b : Built X) → Grows b (add-all s i c ys b)
+  pub grows-all : (i c : ℕ) (ys : List X) (b : Built X) → Grows b (add-all same i c ys b)
   unfolding add-all
   grows-all i c [] b = grows-self b
-  grows-all i c (y ∷ ys) b = grows-then (grows-edge i c y b) (grows-all i c ys (add-edge s i c y b))
+  grows-all i c (y ∷ ys) b = grows-then (grows-edge i c y b) (grows-all i c ys (add-edge same i c y b))
 
+  -- SUCCESSORS one by one: a known one and a new one
+  pub add-edge-known :
+      (i c : ℕ) (y : X) (b : Built X) → number-of same y (b .states) < length (b .states) →
+      add-edge same i c y b ≡ built (b .states) (b .edges ++ (an-edge i c (number-of same y (b .states)) ∷ []))
+  unfolding add-edge
+  add-edge-known i c y b l = rw (with-known same y (b .states) l)
+
+  pub add-edge-new :
+      (i c : ℕ) (y : X) (b : Built X) → number-of same y (b .states) ≡ length (b .states) →
+      add-edge same i c y b ≡ built (b .states ++ (y ∷ [])) (b .edges ++ (an-edge i c (length (b .states)) ∷ []))
+  unfolding add-edge
+  add-edge-new i c y b e = rw (with-new same y (b .states) (omega arith), e)
+
+  pub add-all-append :
+      (i c : ℕ) (ys zs : List X) (b : Built X) → add-all same i c (ys ++ zs) b ≡ add-all same i c zs (add-all same i c ys b)
+  unfolding add-all
+  add-all-append i c [] zs b = refl
+  add-all-append i c (y ∷ ys) zs b = add-all-append i c ys zs (add-edge same i c y b)
+
+  pub add-all-take :
+      (blank : X) (i c j : ℕ) (ys : List X) (b : Built X) → j < length ys →
+      add-all same i c (take (suc j) ys) b ≡ add-edge same i c (getD ys j blank) (add-all same i c (take j ys) b)
+  unfolding add-all
+  add-all-take blank i c j ys b l =
+      rw (take-suc ys j blank l) (add-all-append i c (take j ys) (getD ys j blank ∷ []) b)
+
+module _ {X : Type 0} (s : System X) where
   pub grows-letters : (c d i : ℕ) (x : X) (b : Built X) → c ≤ d → Grows (by-letters s c i x b) (by-letters s d i x b)
   unfolding by-letters
   grows-letters c d i x b l =
       upward (λ d. Grows (by-letters s c i x b) (by-letters s d i x b)) c (grows-self (by-letters s c i x b))
-      (λ d _ h. grows-then h (grows-all i d (s .nexts x d) (by-letters s d i x b))) d l
+      (λ d _ h. grows-then h (grows-all (s .same) i d (s .nexts x d) (by-letters s d i x b))) d l
 
   pub grows-expand : (i : ℕ) (b : Built X) → Grows b (expand s i b)
   unfolding expand by-letters
@@ -64,32 +92,6 @@ module _ {X : Type 0} (s : System X) where
             rw (explore-step s f i b (leb-gt (length (b .states)) i e))
             (grows-then (grows-expand i b) (grows-explore f (suc i) (expand s i b)))
       ]
-
-  -- SUCCESSORS one by one: a known one and a new one
-  pub add-edge-known :
-      (i c : ℕ) (y : X) (b : Built X) → number-of s y (b .states) < length (b .states) →
-      add-edge s i c y b ≡ built (b .states) (b .edges ++ (an-edge i c (number-of s y (b .states)) ∷ []))
-  unfolding add-edge
-  add-edge-known i c y b l = rw (with-known s y (b .states) l)
-
-  pub add-edge-new :
-      (i c : ℕ) (y : X) (b : Built X) → number-of s y (b .states) ≡ length (b .states) →
-      add-edge s i c y b ≡ built (b .states ++ (y ∷ [])) (b .edges ++ (an-edge i c (length (b .states)) ∷ []))
-  unfolding add-edge
-  add-edge-new i c y b e = rw (with-new s y (b .states) (omega arith), e)
-
-  pub add-all-append :
-      (i c : ℕ) (ys zs : List X) (b : Built X) → add-all s i c (ys ++ zs) b ≡ add-all s i c zs (add-all s i c ys b)
-  unfolding add-all
-  add-all-append i c [] zs b = refl
-  add-all-append i c (y ∷ ys) zs b = add-all-append i c ys zs (add-edge s i c y b)
-
-  pub add-all-take :
-      (i c j : ℕ) (ys : List X) (b : Built X) → j < length ys →
-      add-all s i c (take (suc j) ys) b ≡ add-edge s i c (state-at s ys j) (add-all s i c (take j ys) b)
-  unfolding state-at add-all
-  add-all-take i c j ys b l =
-      rw (take-suc ys j (s .blank) l) (add-all-append i c (take j ys) (state-at s ys j ∷ []) b)
 
 -- THE LOOP over the states: where it stands in exploring with this fuel before the state with number i, and what was found so far
 pub record At-state {X : Type 0} (s : System X) (fuel i : ℕ) (b : Built X) : Type 0 where

@@ -1,6 +1,6 @@
 -- Laws of lists of states: prefixes, members, the number of a state, and appending one that is new. Assumes nothing.
 use mathlib.Core.Path.{_≡_, refl, sym, _∙_, ap}
-use mathlib.Core.Bool.{true, false}
+use mathlib.Core.Bool.{Bool, true, false}
 use mathlib.Core.List.{List, [], _∷_, _++_, append-assoc, append-nil}
 use mathlib.Core.Logic.{inl, inr}
 use Prim.Native.Nat.{ℕ, zero, suc, _+_, _≤_, _<_}
@@ -56,10 +56,10 @@ module _ {X : Type 0} where
       let r = member-index blank m in (suc (r .0), (let l = r .1 in omega arith), r .2)
 
 -- THE NUMBER of the first state in a row that is the same
-module _ {X : Type 0} (s : System X) (x : X) where
+module _ {X : Type 0} (same : X → X → Bool) (x : X) where
   pub number-met :
-      (n r : ℕ) (f : ℕ → X) → r < n → ((i : ℕ) → i < r → s .same x (f i) ≡ false) → s .same x (f r) ≡ true →
-      number-of s x (tabulate n f) ≡ r
+      (n r : ℕ) (f : ℕ → X) → r < n → ((i : ℕ) → i < r → same x (f i) ≡ false) → same x (f r) ≡ true →
+      number-of same x (tabulate n f) ≡ r
   unfolding number-of tabulate
   number-met zero r f l before met = absurd (omega arith)
   number-met (suc n) zero f l before met = rw met refl
@@ -67,75 +67,76 @@ module _ {X : Type 0} (s : System X) (x : X) where
       rw (before 0 (omega arith))
       (ap suc (number-met n r (λ i. f (suc i)) (omega arith) (λ i m. before (suc i) (omega arith)) met))
 
-  pub number-missed : (n : ℕ) (f : ℕ → X) → ((i : ℕ) → i < n → s .same x (f i) ≡ false) → number-of s x (tabulate n f) ≡ n
+  pub number-missed : (n : ℕ) (f : ℕ → X) → ((i : ℕ) → i < n → same x (f i) ≡ false) → number-of same x (tabulate n f) ≡ n
   unfolding number-of tabulate
   number-missed zero f before = refl
   number-missed (suc n) f before =
       rw (before 0 (omega arith)) (ap suc (number-missed n (λ i. f (suc i)) (λ i m. before (suc i) (omega arith))))
 
-module _ {X : Type 0} (s : System X) where
+module _ {X : Type 0} (same : X → X → Bool) where
   -- THE NUMBER OF A STATE is below the length exactly if the state is listed
-  pub number-le : (x : X) (xs : List X) → number-of s x xs ≤ length xs
+  pub number-le : (x : X) (xs : List X) → number-of same x xs ≤ length xs
   unfolding number-of
   number-le x [] = omega arith
   number-le x (y ∷ ys) =
       let h = number-le x ys in
-      elim (either (s .same x y)) [ inl e ↦ rw e (omega arith) | inr e ↦ rw e (omega arith) ]
+      elim (either (same x y)) [ inl e ↦ rw e (omega arith) | inr e ↦ rw e (omega arith) ]
 
   -- a listed state keeps its number when the list goes on
-  pub number-kept : (x : X) (xs more : List X) → number-of s x xs < length xs → number-of s x (xs ++ more) ≡ number-of s x xs
+  pub number-kept : (x : X) (xs more : List X) → number-of same x xs < length xs → number-of same x (xs ++ more) ≡ number-of same x xs
   unfolding number-of
   number-kept x [] more l = absurd (omega arith)
   number-kept x (y ∷ ys) more l =
-      elim (either (s .same x y)) [
+      elim (either (same x y)) [
         | inl e ↦ rw e
         | inr e ↦
-            let l′ : suc (number-of s x ys) < suc (length ys) = rw e at l in
+            let l′ : suc (number-of same x ys) < suc (length ys) = rw e at l in
             rw (e, number-kept x ys more (omega arith))
       ]
 
-  pub member-at : (xs : List X) (i : ℕ) → i < length xs → Member (state-at s xs i) xs
-  unfolding state-at
-  member-at [] i l = absurd (omega arith)
-  member-at (x ∷ xs) zero l = here
-  member-at (x ∷ xs) (suc i) l = there (member-at xs i (omega arith))
-
   -- A STATE NOT MET BEFORE gets the next number
-  pub with-known : (x : X) (xs : List X) → number-of s x xs < length xs → with-state s x xs ≡ xs
+  pub with-known : (x : X) (xs : List X) → number-of same x xs < length xs → with-state same x xs ≡ xs
   unfolding with-state
   with-known x xs l = rw (lt-ltb l)
 
-  pub with-new : (x : X) (xs : List X) → length xs ≤ number-of s x xs → with-state s x xs ≡ xs ++ (x ∷ [])
+  pub with-new : (x : X) (xs : List X) → length xs ≤ number-of same x xs → with-state same x xs ≡ xs ++ (x ∷ [])
   unfolding with-state
   with-new x xs l = rw (ge-ltb l)
 
   -- known or new: what holds of both outcomes
   pub with-cases : (P : List X → Type 0) (x : X) (xs : List X) →
-      (number-of s x xs < length xs → P xs) → (number-of s x xs ≡ length xs → P (xs ++ (x ∷ []))) →
-      P (with-state s x xs)
+      (number-of same x xs < length xs → P xs) → (number-of same x xs ≡ length xs → P (xs ++ (x ∷ []))) →
+      P (with-state same x xs)
   with-cases P x xs known new =
-      elim (either (ltb (number-of s x xs) (length xs))) [
-        | inl e ↦ let l = ltb-lt (number-of s x xs) (length xs) e in rw (with-known x xs l) (known l)
+      elim (either (ltb (number-of same x xs) (length xs))) [
+        | inl e ↦ let l = ltb-lt (number-of same x xs) (length xs) e in rw (with-known x xs l) (known l)
         | inr e ↦
-            let g = ltb-ge (number-of s x xs) (length xs) e in
-            let h = number-le x xs in let q : number-of s x xs ≡ length xs = omega arith in
+            let g = ltb-ge (number-of same x xs) (length xs) e in
+            let h = number-le x xs in let q : number-of same x xs ≡ length xs = omega arith in
             rw (with-new x xs g) (new q)
       ]
 
-  pub with-prefix : (x : X) (xs : List X) → Prefix xs (with-state s x xs)
+  pub with-prefix : (x : X) (xs : List X) → Prefix xs (with-state same x xs)
   with-prefix x xs =
       with-cases (λ l. Prefix xs l) x xs (λ _. prefix-self xs) (λ _. prefix-append xs (x ∷ []))
 
-  pub with-states-prefix : (ys xs : List X) → Prefix xs (with-states s ys xs)
+  pub with-states-prefix : (ys xs : List X) → Prefix xs (with-states same ys xs)
   unfolding with-states
   with-states-prefix [] xs = prefix-self xs
-  with-states-prefix (y ∷ ys) xs = prefix-then (with-prefix y xs) (with-states-prefix ys (with-state s y xs))
+  with-states-prefix (y ∷ ys) xs = prefix-then (with-prefix y xs) (with-states-prefix ys (with-state same y xs))
 
-  pub number-prefix : (x : X) {xs ys : List X} → Prefix xs ys → number-of s x xs < length xs → number-of s x ys ≡ number-of s x xs
+  pub number-prefix : (x : X) {xs ys : List X} → Prefix xs ys → number-of same x xs < length xs → number-of same x ys ≡ number-of same x xs
   number-prefix x {xs} p l = rw (p .whole) (number-kept x xs (p .more) l)
 
-  pub listed-prefix : (x : X) {xs ys : List X} → Prefix xs ys → number-of s x xs < length xs → number-of s x ys < length ys
+  pub listed-prefix : (x : X) {xs ys : List X} → Prefix xs ys → number-of same x xs < length xs → number-of same x ys < length ys
   listed-prefix x {xs} p l = let h = prefix-length p in rw (number-prefix x p l) (omega arith)
+
+module _ {X : Type 0} (s : System X) where
+  pub member-at : (xs : List X) (i : ℕ) → i < length xs → Member (state-at s xs i) xs
+  unfolding state-at
+  member-at [] i l = absurd (omega arith)
+  member-at (x ∷ xs) zero l = here
+  member-at (x ∷ xs) (suc i) l = there (member-at xs i (omega arith))
 
   pub state-prefix : {xs ys : List X} → Prefix xs ys → (i : ℕ) → i < length xs → state-at s ys i ≡ state-at s xs i
   unfolding state-at
@@ -148,9 +149,9 @@ module _ {X : Type 0} (s : System X) where
   -- what holds of each listed state, holds of one more
   pub with-each :
       (P : X → Type 0) (x : X) (xs : List X) → ((i : ℕ) → i < length xs → P (state-at s xs i)) → P x →
-      (i : ℕ) → i < length (with-state s x xs) → P (state-at s (with-state s x xs) i)
+      (i : ℕ) → i < length (with-state (s .same) x xs) → P (state-at s (with-state (s .same) x xs) i)
   with-each P x xs all one =
-      with-cases (λ (l : List X). (i : ℕ) → i < length l → P (state-at s l i)) x xs (λ _. all) (λ _ i l. more i l)
+      with-cases (s .same) (λ (l : List X). (i : ℕ) → i < length l → P (state-at s l i)) x xs (λ _. all) (λ _ i l. more i l)
     where
       more : (i : ℕ) → i < length (xs ++ (x ∷ [])) → P (state-at s (xs ++ (x ∷ [])) i)
       more i l =
@@ -163,17 +164,17 @@ module _ {X : Type 0} (s : System X) where
           ]
 
   module _ (decides : Decides s) where
-    pub number-found : (x : X) (xs : List X) → number-of s x xs < length xs → state-at s xs (number-of s x xs) ≡ x
+    pub number-found : (x : X) (xs : List X) → number-of (s .same) x xs < length xs → state-at s xs (number-of (s .same) x xs) ≡ x
     unfolding number-of state-at
     number-found x [] l = absurd (omega arith)
     number-found x (y ∷ ys) l =
         elim (either (s .same x y)) [
           | inl e ↦ rw e (sym (decides .same-eq x y e))
           | inr e ↦
-              let l′ : suc (number-of s x ys) < suc (length ys) = rw e at l in rw e (number-found x ys (omega arith))
+              let l′ : suc (number-of (s .same) x ys) < suc (length ys) = rw e at l in rw e (number-found x ys (omega arith))
         ]
 
-    pub number-first : (xs : List X) (i : ℕ) → i < length xs → number-of s (state-at s xs i) xs ≤ i
+    pub number-first : (xs : List X) (i : ℕ) → i < length xs → number-of (s .same) (state-at s xs i) xs ≤ i
     unfolding number-of state-at
     number-first [] i l = absurd (omega arith)
     number-first (y ∷ ys) zero l = rw (decides .same-self y) (omega arith)
@@ -181,7 +182,7 @@ module _ {X : Type 0} (s : System X) where
         let h = number-first ys i (omega arith) in
         elim (either (s .same (getD ys i (s .blank)) y)) [ inl e ↦ rw e (omega arith) | inr e ↦ rw e (omega arith) ]
 
-    pub number-member : {x : X} {xs : List X} → Member x xs → number-of s x xs < length xs
+    pub number-member : {x : X} {xs : List X} → Member x xs → number-of (s .same) x xs < length xs
     unfolding number-of
     number-member {x} here = rw (decides .same-self x) (omega arith)
     number-member {x} (there {y = y} {ys = ys} m) =
@@ -189,9 +190,9 @@ module _ {X : Type 0} (s : System X) where
         elim (either (s .same x y)) [ inl e ↦ rw e (omega arith) | inr e ↦ rw e (omega arith) ]
 
     -- the numbers of listed states are their places, if none is listed twice
-    pub number-at : (xs : List X) → Distinct s xs → (i : ℕ) → i < length xs → number-of s (state-at s xs i) xs ≡ i
+    pub number-at : (xs : List X) → Distinct s xs → (i : ℕ) → i < length xs → number-of (s .same) (state-at s xs i) xs ≡ i
     number-at xs distinct i l =
-        let n = number-of s (state-at s xs i) xs in
+        let n = number-of (s .same) (state-at s xs i) xs in
         let h : n ≤ i = number-first xs i l in
         elim (either (ltb n i)) [
           | inl e ↦
@@ -202,10 +203,10 @@ module _ {X : Type 0} (s : System X) where
         ]
 
     pub number-none :
-        (x : X) (xs : List X) → ((i : ℕ) → i < length xs → state-at s xs i ≡ x → ⊥) → number-of s x xs ≡ length xs
+        (x : X) (xs : List X) → ((i : ℕ) → i < length xs → state-at s xs i ≡ x → ⊥) → number-of (s .same) x xs ≡ length xs
     number-none x xs none =
-        let n = number-of s x xs in
-        let h : n ≤ length xs = number-le x xs in
+        let n = number-of (s .same) x xs in
+        let h : n ≤ length xs = number-le (s .same) x xs in
         elim (either (ltb n (length xs))) [
           | inl e ↦ let l = ltb-lt n (length xs) e in absurd (none n l (number-found x xs l))
           | inr e ↦ let g = ltb-ge n (length xs) e in omega arith
@@ -214,32 +215,32 @@ module _ {X : Type 0} (s : System X) where
     pub distinct-once :
         (xs : List X) → Distinct s xs → (i j : ℕ) → i < length xs → j < length xs → state-at s xs i ≡ state-at s xs j → i ≡ j
     distinct-once xs distinct i j l m e =
-        sym (number-at xs distinct i l) ∙ ap (λ (x : X). number-of s x xs) e ∙ number-at xs distinct j m
+        sym (number-at xs distinct i l) ∙ ap (λ (x : X). number-of (s .same) x xs) e ∙ number-at xs distinct j m
 
-    number-snoc : (x : X) (xs : List X) → number-of s x xs ≡ length xs → number-of s x (xs ++ (x ∷ [])) ≡ length xs
+    number-snoc : (x : X) (xs : List X) → number-of (s .same) x xs ≡ length xs → number-of (s .same) x (xs ++ (x ∷ [])) ≡ length xs
     unfolding number-of
     number-snoc x [] e = rw (decides .same-self x)
     number-snoc x (y ∷ ys) e =
         elim (either (s .same x y)) [
           | inl q ↦ absurd (let z : 0 ≡ suc (length ys) = rw q at e in omega arith)
           | inr q ↦
-              let z : suc (number-of s x ys) ≡ suc (length ys) = rw q at e in
+              let z : suc (number-of (s .same) x ys) ≡ suc (length ys) = rw q at e in
               rw (q, number-snoc x ys (omega arith))
         ]
 
     -- it is listed then, with the number that was told before
-    pub with-number : (x : X) (xs : List X) → number-of s x (with-state s x xs) ≡ number-of s x xs
+    pub with-number : (x : X) (xs : List X) → number-of (s .same) x (with-state (s .same) x xs) ≡ number-of (s .same) x xs
     with-number x xs =
-        with-cases (λ l. number-of s x l ≡ number-of s x xs) x xs (λ _. refl) (λ q. number-snoc x xs q ∙ sym q)
+        with-cases (s .same) (λ l. number-of (s .same) x l ≡ number-of (s .same) x xs) x xs (λ _. refl) (λ q. number-snoc x xs q ∙ sym q)
 
-    pub with-listed : (x : X) (xs : List X) → number-of s x xs < length (with-state s x xs)
+    pub with-listed : (x : X) (xs : List X) → number-of (s .same) x xs < length (with-state (s .same) x xs)
     with-listed x xs =
-        with-cases (λ l. number-of s x xs < length l) x xs (λ l. l) (λ q. rw length-append (rw q (omega arith)))
+        with-cases (s .same) (λ l. number-of (s .same) x xs < length l) x xs (λ l. l) (λ q. rw length-append (rw q (omega arith)))
 
-    pub with-distinct : (x : X) (xs : List X) → Distinct s xs → Distinct s (with-state s x xs)
-    with-distinct x xs distinct = with-cases (λ l. Distinct s l) x xs (λ _. distinct) snoc
+    pub with-distinct : (x : X) (xs : List X) → Distinct s xs → Distinct s (with-state (s .same) x xs)
+    with-distinct x xs distinct = with-cases (s .same) (λ l. Distinct s l) x xs (λ _. distinct) snoc
       where
-        snoc : number-of s x xs ≡ length xs → Distinct s (xs ++ (x ∷ []))
+        snoc : number-of (s .same) x xs ≡ length xs → Distinct s (xs ++ (x ∷ []))
         snoc q =
             record {
               apart =
@@ -255,27 +256,27 @@ module _ {X : Type 0} (s : System X) where
                         let z : j ≡ length xs = omega arith in
                         let e″ : state-at s xs i ≡ x = rw (z, state-seam xs x []) at e′ in
                         let n = number-first xs i (omega arith) in
-                        let n′ : number-of s x xs ≤ i = rw e″ at n in omega arith
+                        let n′ : number-of (s .same) x xs ≤ i = rw e″ at n in omega arith
                   ];
             }
 
     -- a list of states: each is listed then
     pub with-states-listed :
-        {y : X} {ys : List X} (xs : List X) → Member y ys → number-of s y (with-states s ys xs) < length (with-states s ys xs)
+        {y : X} {ys : List X} (xs : List X) → Member y ys → number-of (s .same) y (with-states (s .same) ys xs) < length (with-states (s .same) ys xs)
     unfolding with-states
     with-states-listed {y} xs (here {ys = ys}) =
-        listed-prefix y (with-states-prefix ys (with-state s y xs)) (rw (with-number y xs) (with-listed y xs))
-    with-states-listed xs (there {y = z} m) = with-states-listed (with-state s z xs) m
+        listed-prefix (s .same) y (with-states-prefix (s .same) ys (with-state (s .same) y xs)) (rw (with-number y xs) (with-listed y xs))
+    with-states-listed xs (there {y = z} m) = with-states-listed (with-state (s .same) z xs) m
 
     -- where none is listed twice, they are appended as they are
-    pub with-states-new : (ys xs : List X) → Distinct s (xs ++ ys) → with-states s ys xs ≡ xs ++ ys
+    pub with-states-new : (ys xs : List X) → Distinct s (xs ++ ys) → with-states (s .same) ys xs ≡ xs ++ ys
     unfolding with-states
     with-states-new [] xs distinct = sym (append-nil xs)
     with-states-new (y ∷ ys) xs distinct =
-        rw (with-new y xs fresh)
+        rw (with-new (s .same) y xs fresh)
         (with-states-new ys (xs ++ (y ∷ [])) (rw append-snoc distinct) ∙ append-snoc xs y ys)
       where
-        fresh : length xs ≤ number-of s y xs
+        fresh : length xs ≤ number-of (s .same) y xs
         fresh =
             let q =
             number-none y xs

@@ -66,42 +66,42 @@ listed-find i c j (f ∷ es) h =
 pub record Leads {X : Type 0} (s : System X) (all : List X) (x : X) (letter number : ℕ) : Type 0 where
   pub successor : X
   pub member : Member successor (s .nexts x letter)
-  pub numbers : number-of s successor all ≡ number
+  pub numbers : number-of (s .same) successor all ≡ number
 
 module _ {X : Type 0} (s : System X) (all : List X) where
-  listed-to : {y : X} (i c : ℕ) {ys : List X} → Member y ys → listed i c (number-of s y all) (edges-to s all i c ys) ≡ true
+  listed-to : {y : X} (i c : ℕ) {ys : List X} → Member y ys → listed i c (number-of (s .same) y all) (edges-to (s .same) all i c ys) ≡ true
   unfolding listed edges-to an-edge
   listed-to {y} i c (here {ys = ys}) =
-      or-l (listed i c (number-of s y all) (edges-to s all i c ys))
-      (and-make (eqb-self i) (and-make (eqb-self c) (eqb-self (number-of s y all))))
+      or-l (listed i c (number-of (s .same) y all) (edges-to (s .same) all i c ys))
+      (and-make (eqb-self i) (and-make (eqb-self c) (eqb-self (number-of (s .same) y all))))
   listed-to {y} i c (there {y = z} {ys = ys} m) =
-      or-r (eqb i i && (eqb c c && eqb (number-of s z all) (number-of s y all))) (listed-to i c m)
+      or-r (eqb i i && (eqb c c && eqb (number-of (s .same) z all) (number-of (s .same) y all))) (listed-to i c m)
 
   listed-on :
       {y : X} (limit i c : ℕ) (x : X) → c < limit → Member y (s .nexts x c) →
-      listed i c (number-of s y all) (edges-on s all limit i x) ≡ true
+      listed i c (number-of (s .same) y all) (edges-on s all limit i x) ≡ true
   unfolding edges-on
   listed-on {y} zero i c x l m = absurd (omega arith)
   listed-on {y} (suc d) i c x l m =
-      let n = number-of s y all in
+      let n = number-of (s .same) y all in
       let before = edges-on s all d i x in
       elim (either (eqb c d)) [
         | inl e ↦
             let q = eqb-eq c d e in
             let m′ : Member y (s .nexts x d) = rw q at m in
-            rw q (listed-right i d n before (edges-to s all i d (s .nexts x d)) (listed-to i d m′))
+            rw q (listed-right i d n before (edges-to (s .same) all i d (s .nexts x d)) (listed-to i d m′))
         | inr e ↦
             let ne = eqb-ne c d e in
-            listed-left i c n before (edges-to s all i d (s .nexts x d)) (listed-on d i c x (omega arith) m)
+            listed-left i c n before (edges-to (s .same) all i d (s .nexts x d)) (listed-on d i c x (omega arith) m)
       ]
 
   listed-of :
       {y : X} (limit i c : ℕ) → i < limit → c < s .letters → Member y (s .nexts (state-at s all i) c) →
-      listed i c (number-of s y all) (edges-of s all limit) ≡ true
+      listed i c (number-of (s .same) y all) (edges-of s all limit) ≡ true
   unfolding edges-of
   listed-of {y} zero i c l lc m = absurd (omega arith)
   listed-of {y} (suc k) i c l lc m =
-      let n = number-of s y all in
+      let n = number-of (s .same) y all in
       let last = edges-on s all (s .letters) k (state-at s all k) in
       elim (either (eqb i k)) [
         | inl e ↦
@@ -114,17 +114,17 @@ module _ {X : Type 0} (s : System X) (all : List X) where
       ]
 
   to-listed :
-      (i c j k d : ℕ) (ys : List X) → listed i c j (edges-to s all k d ys) ≡ true →
-      (k ≡ i) × (d ≡ c) × ((y : X) × Member y ys × (number-of s y all ≡ j))
+      (i c j k d : ℕ) (ys : List X) → listed i c j (edges-to (s .same) all k d ys) ≡ true →
+      (k ≡ i) × (d ≡ c) × ((y : X) × Member y ys × (number-of (s .same) y all ≡ j))
   unfolding listed edges-to an-edge
   to-listed i c j k d [] h = absurd (clash h refl)
   to-listed i c j k d (y ∷ ys) h =
-      elim (or-true (eqb k i && (eqb d c && eqb (number-of s y all) j)) (listed i c j (edges-to s all k d ys)) h) [
+      elim (or-true (eqb k i && (eqb d c && eqb (number-of (s .same) y all) j)) (listed i c j (edges-to (s .same) all k d ys)) h) [
         | inl e ↦
             let r = and-r (eqb k i) e in (
-              eqb-eq k i (and-l (eqb d c && eqb (number-of s y all) j) e),
-              eqb-eq d c (and-l (eqb (number-of s y all) j) r),
-              (y, here, eqb-eq (number-of s y all) j (and-r (eqb d c) r)),
+              eqb-eq k i (and-l (eqb d c && eqb (number-of (s .same) y all) j) e),
+              eqb-eq d c (and-l (eqb (number-of (s .same) y all) j) r),
+              (y, here, eqb-eq (number-of (s .same) y all) j (and-r (eqb d c) r)),
             )
         | inr e ↦ let (p, q, (z, m, n)) = to-listed i c j k d ys e in (p, q, (z, there m, n))
       ]
@@ -135,7 +135,7 @@ module _ {X : Type 0} (s : System X) (all : List X) where
   unfolding listed edges-on
   on-listed zero i c j k x h = absurd (clash h refl)
   on-listed (suc d) i c j k x h =
-      elim (listed-cases i c j (edges-on s all d k x) (edges-to s all k d (s .nexts x d)) h) [
+      elim (listed-cases i c j (edges-on s all d k x) (edges-to (s .same) all k d (s .nexts x d)) h) [
         | inl e ↦ let (p, l, leads) = on-listed d i c j k x e in (p, (omega arith), leads)
         | inr e ↦
             let (p, q, (y, m, n)) = to-listed i c j k d (s .nexts x d) e in
@@ -160,12 +160,12 @@ module _ {X : Type 0} (s : System X) (decides : Decides s) (b : Built X) (exactl
   starts-first = prefix-same (exactly .starts)
 
   -- every reached state has a number
-  pub reached-number : {x : X} → Reached s x → number-of s x (b .states) < length (b .states)
+  pub reached-number : {x : X} → Reached s x → number-of (s .same) x (b .states) < length (b .states)
   reached-number {x} r =
       let (i, l, e) = exactly .found x r in
-      let n : number-of s x (b .states) ≤ i = rw e at (number-first s decides (b .states) i l) in omega arith
+      let n : number-of (s .same) x (b .states) ≤ i = rw e at (number-first s decides (b .states) i l) in omega arith
 
-  pub reached-state : {x : X} → Reached s x → state-at s (b .states) (number-of s x (b .states)) ≡ x
+  pub reached-state : {x : X} → Reached s x → state-at s (b .states) (number-of (s .same) x (b .states)) ≡ x
   reached-state {x} r = number-found s decides x (b .states) (reached-number r)
 
   -- an edge of the numbered automaton leads to the number of a successor
@@ -222,7 +222,7 @@ module _ {X : Type 0} (s : System X) (decides : Decides s) (b : Built X) (exactl
     )
       where
         number : ℕ → ℕ
-        number i = number-of s (f i) (b .states)
+        number i = number-of (s .same) (f i) (b .states)
 
         inside : (i : ℕ) → number i < length (b .states)
         inside i = reached-number (run-reached f r i)
@@ -233,7 +233,7 @@ module _ {X : Type 0} (s : System X) (decides : Decides s) (b : Built X) (exactl
         begins : ltb (number 0) (length (s .starts)) ≡ true
         begins =
             let l = number-member s decides (r .begins) in
-            rw (number-prefix s (f 0) starts-first l) (lt-ltb l)
+            rw (number-prefix (s .same) (f 0) starts-first l) (lt-ltb l)
 
         goes-on : (i : ℕ) → numbered s b .edge (number i) (w i) (number (suc i)) ≡ true
         goes-on i =

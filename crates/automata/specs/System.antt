@@ -61,33 +61,33 @@ pub record Built (X : Type 0) : Type 0 where
 unfoldable pub built : {X : Type 0} → List X → List Edge → Built X
 built xs es = record { states = xs; edges = es }
 
--- the place of the first state equal to x in a list, or the list's length
-unfoldable pub number-of : {X : Type 0} → System X → X → List X → ℕ
-number-of s x [] = 0
-number-of s x (y ∷ ys) = cond (s .same x y) 0 (suc (number-of s x ys))
+-- the place of the first state in a list that is the same as x, or the list's length. Numbering knows of states no more than how to tell them apart
+unfoldable pub number-of : {X : Type 0} → (same : X → X → Bool) → X → List X → ℕ
+number-of same x [] = 0
+number-of same x (y ∷ ys) = cond (same x y) 0 (suc (number-of same x ys))
 
 -- a state not met before gets the next number
-unfoldable pub with-state : {X : Type 0} → System X → X → List X → List X
-with-state s x ys = cond (ltb (number-of s x ys) (length ys)) ys (ys ++ (x ∷ []))
+unfoldable pub with-state : {X : Type 0} → (same : X → X → Bool) → X → List X → List X
+with-state same x ys = cond (ltb (number-of same x ys) (length ys)) ys (ys ++ (x ∷ []))
 
-unfoldable pub with-states : {X : Type 0} → System X → List X → List X → List X
-with-states s [] ys = ys
-with-states s (x ∷ xs) ys = with-states s xs (with-state s x ys)
+unfoldable pub with-states : {X : Type 0} → (same : X → X → Bool) → List X → List X → List X
+with-states same [] ys = ys
+with-states same (x ∷ xs) ys = with-states same xs (with-state same x ys)
 
 -- an edge to one successor, which gets its number if it has none
-unfoldable pub add-edge : {X : Type 0} → System X → (source letter : ℕ) → X → Built X → Built X
-add-edge s i c y b =
-    built (with-state s y (b .states)) (b .edges ++ (an-edge i c (number-of s y (b .states)) ∷ []))
+unfoldable pub add-edge : {X : Type 0} → (same : X → X → Bool) → (source letter : ℕ) → X → Built X → Built X
+add-edge same i c y b =
+    built (with-state same y (b .states)) (b .edges ++ (an-edge i c (number-of same y (b .states)) ∷ []))
 
 -- the successors of a state on one letter, in order: an edge to each
-unfoldable pub add-all : {X : Type 0} → System X → (source letter : ℕ) → List X → Built X → Built X
-add-all s i c [] b = b
-add-all s i c (y ∷ ys) b = add-all s i c ys (add-edge s i c y b)
+unfoldable pub add-all : {X : Type 0} → (same : X → X → Bool) → (source letter : ℕ) → List X → Built X → Built X
+add-all same i c [] b = b
+add-all same i c (y ∷ ys) b = add-all same i c ys (add-edge same i c y b)
 
 -- then the letters below the limit, in rising order
 unfoldable pub by-letters : {X : Type 0} → System X → (limit source : ℕ) → X → Built X → Built X
 by-letters s zero i x b = b
-by-letters s (suc c) i x b = add-all s i c (s .nexts x c) (by-letters s c i x b)
+by-letters s (suc c) i x b = add-all (s .same) i c (s .nexts x c) (by-letters s c i x b)
 
 -- all edges of the state with a number
 unfoldable pub expand : {X : Type 0} → System X → (number : ℕ) → Built X → Built X
@@ -101,19 +101,19 @@ explore-from (suc f) s i b =
 
 -- initial states come first
 unfoldable pub begin : {X : Type 0} → System X → Built X
-begin s = built (with-states s (s .starts) []) []
+begin s = built (with-states (s .same) (s .starts) []) []
 
 unfoldable pub explore : {X : Type 0} → (fuel : ℕ) → System X → Built X
 explore f s = explore-from f s 0 (begin s)
 
 -- THE EDGES IN CLOSED FORM, given all states: by source, letter and successor
-unfoldable pub edges-to : {X : Type 0} → System X → (all : List X) → (source letter : ℕ) → List X → List Edge
-edges-to s all i c [] = []
-edges-to s all i c (y ∷ ys) = an-edge i c (number-of s y all) ∷ edges-to s all i c ys
+unfoldable pub edges-to : {X : Type 0} → (same : X → X → Bool) → (all : List X) → (source letter : ℕ) → List X → List Edge
+edges-to same all i c [] = []
+edges-to same all i c (y ∷ ys) = an-edge i c (number-of same y all) ∷ edges-to same all i c ys
 
 unfoldable pub edges-on : {X : Type 0} → System X → (all : List X) → (limit source : ℕ) → X → List Edge
 edges-on s all zero i x = []
-edges-on s all (suc c) i x = edges-on s all c i x ++ edges-to s all i c (s .nexts x c)
+edges-on s all (suc c) i x = edges-on s all c i x ++ edges-to (s .same) all i c (s .nexts x c)
 
 unfoldable pub edges-of : {X : Type 0} → System X → (all : List X) → (limit : ℕ) → List Edge
 edges-of s all zero = []

@@ -1,6 +1,6 @@
 -- What the build answers: which refusal the counts found say, and that a refusal or an accepted build is what the definitions say. Assumes nothing.
 use mathlib.Core.Path.{_≡_, refl, sym, _∙_, ap}
-use mathlib.Core.Bool.{Bool, true, false, _||_, cond}
+use mathlib.Core.Bool.{Bool, true, false, cond}
 use mathlib.Core.List.{List}
 use mathlib.Core.Logic.{inl, inr}
 use Prim.Native.Nat.{ℕ, zero, suc, _≤_, _<_, min}
@@ -9,50 +9,49 @@ use lib.Dec.{ltb}
 use lib.ListN.{length}
 use Rattle.basics.specs.Buffers.{or-else, filled}
 use Rattle.basics.proofs.Booleans.{either, or-false-l, or-false-r, ltb-lt, ltb-ge, lt-ltb, ge-ltb, ne-eqb}
-use Rattle.tables.specs.Table.{wide-range}
+use Rattle.tables.specs.Table.{Limits, wide-range}
 use Rattle.patterns.specs.Check.{check-refusal}
 use Rattle.record_words.specs.Record.{full-records}
 use Rattle.record_words.proofs.Laws.{full-kept}
-use Rattle.complement.specs.Build.{Lent, room-of, words-needed, room-refusal, build-refusal, as-counts, after-build, Build-says, Refused-with}
+use Rattle.complement.specs.Build.{Lent, room-of, words-needed, too-long, room-refusal, build-refusal, as-counts, after-build, Build-says, Refused-with}
 use Rattle.complement.specs.Complement.{complement, complement-words, sets-words}
-use Rattle.complement.specs.Found.{counted-to, Shows, Ends}
+use Rattle.complement.specs.Found.{wide-quadruples, counted-to, Shows, Ends}
 use Rattle.complement.specs.Records.{capacity}
 use Rattle.complement.specs.declared.Counts.{Counts}
 use Rattle.complement.specs.declared.explore.Progress.{Progress}
 use Rattle.basics.proofs.Clears.{zeros-same}
 use Rattle.complement.proofs.Reaching.{Same-sizes, sizes-self, ends-within, ends-beyond}
 
--- NUMBERS: more states than fit; and the test of 12, whether the count of edges stopped or not
-module _ (words records n m : ℕ) where
+-- NUMBERS, in any range: more states than fit; and the test of 12, whether the count of edges stopped or not
+module _ (limits : Limits) (words records n m : ℕ) where
   states-over :
-      min records 65535 < n → room-refusal wide-range (record { words = words; records = records }) n m ≡ 11
-  unfolding room-refusal wide-range
+      min records (limits .states) < n → room-refusal limits (record { words = words; records = records }) n m ≡ 11
+  unfolding room-refusal
   states-over l =
       elim (either (ltb records n)) [
         | inl e ↦ rw e refl
         | inr e ↦
             let g = ltb-ge records n e in
-            let over : 65535 < n = omega arith in rw (e, lt-ltb over) refl
+            let over : limits .states < n = omega arith in rw (e, lt-ltb over) refl
       ]
 
   states-fit :
-      n ≤ min records 65535 →
-      room-refusal wide-range (record { words = words; records = records }) n m
-      ≡ cond (ltb 65535 m || ltb words (words-needed n m)) 12 0
-  unfolding room-refusal wide-range
+      n ≤ min records (limits .states) →
+      room-refusal limits (record { words = words; records = records }) n m ≡ cond (too-long limits words n m) 12 0
+  unfolding room-refusal
   states-fit l =
       let few : n ≤ records = omega arith in
-      let fewer : n ≤ 65535 = omega arith in rw (ge-ltb few, ge-ltb fewer) refl
+      let fewer : n ≤ limits .states = omega arith in rw (ge-ltb few, ge-ltb fewer) refl
 
-  stopped-count :
-      (q : ℕ) → q ≡ min m 65536 → (ltb 65535 q || ltb words (words-needed n q)) ≡ (ltb 65535 m || ltb words (words-needed n m))
+  stopped-count : (q : ℕ) → q ≡ min m (counted-to limits) → too-long limits words n q ≡ too-long limits words n m
+  unfolding counted-to
   stopped-count q e =
-      elim (either (ltb 65535 m)) [
+      elim (either (ltb (limits .records) m)) [
         | inl f ↦
-            let g = ltb-lt 65535 m f in
-            let over : 65535 < q = omega arith in rw (f, lt-ltb over) refl
+            let g = ltb-lt (limits .records) m f in
+            let over : limits .records < q = omega arith in rw (f, lt-ltb over) refl
         | inr f ↦
-            let g = ltb-ge 65535 m f in
+            let g = ltb-ge (limits .records) m f in
             let all : q ≡ m = omega arith in rw all refl
       ]
 
@@ -72,38 +71,38 @@ module _ (t : List ℕ) (lends : Lent) where
 
     -- 11
     pub states-refuse :
-        {l : Lent} {p : Progress} → Ends (complement t) l p → p .full ≡ true → Same-sizes l lends →
+        {l : Lent} {p : Progress} → Ends wide-quadruples (complement t) l p → p .full ≡ true → Same-sizes l lends →
         build-refusal t (room-of lends) ≡ 11
-    unfolding capacity wide-range room-of
+    unfolding capacity room-of
     states-refuse {l} ends full sizes =
-        let over : min (full-records (lends .sets)) 65535 < length (complement t .states) =
+        let over : min (full-records (lends .sets)) (wide-range .states) < length (complement t .states) =
         rw (full-kept (lends .sets) (l .sets) (sizes .sets)) at (ends-beyond full ends) in
         room-only
-        ∙ states-over (length (lends .words)) (full-records (lends .sets)) (length (complement t .states)) (length (complement t .edges)) over
+        ∙ states-over wide-range (length (lends .words)) (full-records (lends .sets)) (length (complement t .states)) (length (complement t .edges)) over
 
-    module _ {l : Lent} {p : Progress} (h : Shows (complement t) l p) (sizes : Same-sizes l lends) where
+    module _ {l : Lent} {p : Progress} (h : Shows wide-quadruples (complement t) l p) (sizes : Same-sizes l lends) where
       both-counts :
           build-refusal t (room-of lends)
-          ≡ cond (ltb 65535 (p .edges) || ltb (length (l .words)) (words-needed (p .states) (p .edges))) 12 0
-      unfolding capacity wide-range room-of counted-to
+          ≡ cond (too-long wide-range (length (l .words)) (p .states) (p .edges)) 12 0
+      unfolding capacity room-of
       both-counts =
           let n = length (complement t .states) in
           let m = length (complement t .edges) in
-          let fits : n ≤ min (full-records (lends .sets)) 65535 = rw (full-kept (lends .sets) (l .sets) (sizes .sets)) at (h .states .fits) in
+          let fits : n ≤ min (full-records (lends .sets)) (wide-range .states) = rw (full-kept (lends .sets) (l .sets) (sizes .sets)) at (h .states .fits) in
           let count = h .states .counted in
           let stop = h .edges .counted in
-          room-only ∙ states-fit (length (lends .words)) (full-records (lends .sets)) n m fits
+          room-only ∙ states-fit wide-range (length (lends .words)) (full-records (lends .sets)) n m fits
           ∙ rw (sizes .words, count)
-          (ap (λ (b : Bool). cond b 12 0) (sym (stopped-count (length (lends .words)) (full-records (lends .sets)) n m (p .edges) stop)))
+          (ap (λ (b : Bool). cond b 12 0) (sym (stopped-count wide-range (length (lends .words)) (full-records (lends .sets)) n m (p .edges) stop)))
 
       -- 12
       pub edges-refuse :
-          {b : Bool} → b ≡ (ltb 65535 (p .edges) || ltb (length (l .words)) (words-needed (p .states) (p .edges))) → b ≡ true →
+          {b : Bool} → b ≡ too-long wide-range (length (l .words)) (p .states) (p .edges) → b ≡ true →
           build-refusal t (room-of lends) ≡ 12
       edges-refuse e f = both-counts ∙ rw (← e, f) refl
 
       pub none-refuses :
-          {b : Bool} → b ≡ (ltb 65535 (p .edges) || ltb (length (l .words)) (words-needed (p .states) (p .edges))) → b ≡ false →
+          {b : Bool} → b ≡ too-long wide-range (length (l .words)) (p .states) (p .edges) → b ≡ false →
           build-refusal t (room-of lends) ≡ 0
       none-refuses e f = both-counts ∙ rw (← e, f) refl
 
@@ -136,22 +135,22 @@ module _ (t : List ℕ) (lends : Lent) {r : Counts} {after : Lent} where
   refused-check e ne h = says-refused (check-refuses t lends e ne) ne h sizes-self
 
   module _ (passed : check-refusal t ≡ 0) {l : Lent} {p : Progress} (sizes : Same-sizes l lends) where
-    pub refused-states : Ends (complement t) l p → p .full ≡ true → Refused-with 11 r l after → Build-says t r lends after
+    pub refused-states : Ends wide-quadruples (complement t) l p → p .full ≡ true → Refused-with 11 r l after → Build-says t r lends after
     refused-states ends full h = says-refused (states-refuse t lends passed ends full sizes) (λ e. omega arith) h sizes
 
     pub refused-edges :
-        Ends (complement t) l p → p .full ≡ false → {b : Bool} →
-        b ≡ (ltb 65535 (p .edges) || ltb (length (l .words)) (words-needed (p .states) (p .edges))) → b ≡ true →
+        Ends wide-quadruples (complement t) l p → p .full ≡ false → {b : Bool} →
+        b ≡ too-long wide-range (length (l .words)) (p .states) (p .edges) → b ≡ true →
         Refused-with 12 r l after → Build-says t r lends after
     refused-edges ends left e long h =
         says-refused (edges-refuse t lends passed (ends-within left ends) sizes e long) (λ e. omega arith) h sizes
 
 -- what a build that is not too long has
 pub short-enough :
-    (words n m : ℕ) {b : Bool} → b ≡ (ltb 65535 m || ltb words (words-needed n m)) → b ≡ false →
-    (m ≤ 65535) × (words-needed n m ≤ words)
-short-enough words n m e f =
+    (limits : Limits) (words n m : ℕ) {b : Bool} → b ≡ too-long limits words n m → b ≡ false →
+    (m ≤ limits .records) × (words-needed n m ≤ words)
+short-enough limits words n m e f =
     let none = sym e ∙ f in (
-      ltb-ge 65535 m (or-false-l (ltb 65535 m) (ltb words (words-needed n m)) none),
-      ltb-ge words (words-needed n m) (or-false-r (ltb 65535 m) (ltb words (words-needed n m)) none),
+      ltb-ge (limits .records) m (or-false-l (ltb (limits .records) m) (ltb words (words-needed n m)) none),
+      ltb-ge words (words-needed n m) (or-false-r (ltb (limits .records) m) (ltb words (words-needed n m)) none),
     )

@@ -1,11 +1,10 @@
 -- From what was found to the complement's words: what laying out asks holds, and with the flags set the words are the complement's table; the
 -- records are its sets. Assumes nothing.
 use mathlib.Core.Path.{_≡_, refl, sym, _∙_, ap}
-use mathlib.Core.Bool.{Bool, false, _||_}
+use mathlib.Core.Bool.{Bool, false}
 use mathlib.Core.List.{List, [], _∷_}
 use Prim.Native.Nat.{ℕ, zero, suc, _+_, _*_, _≤_, _<_}
 use native.Mathlib.Omega.{arith}
-use lib.Dec.{ltb}
 use lib.ListN.{length, getD, List·getD-eq-default}
 use lib.Seq.{take-all, take-length}
 use Rattle.basics.specs.Buffers.{filled}
@@ -21,15 +20,14 @@ use Rattle.layout.proofs.Indexed.{flagging-end}
 use Rattle.layout.proofs.Triples.{triples-are}
 use Rattle.record_words.specs.Record.{record-words, all-words, full-records}
 use Rattle.record_words.proofs.Laws.{all-length, rows-all, full-words}
-use Rattle.complement.specs.Build.{Lent, lent, words-needed, Build-says}
+use Rattle.complement.specs.Build.{Lent, lent, words-needed, too-long, Build-says}
 use Rattle.complement.specs.Complement.{system-of, complement, complement-automaton, complement-words, sets-words}
-use Rattle.complement.specs.Flags.{flags-of-record, with-flags, Flags-ask}
-use Rattle.complement.specs.Found.{Begins, triple, triples, edge-room, counted-to, Shows, start-moves, Read-off}
+use Rattle.complement.specs.Flags.{state-flags, with-flags, record-accepts, Flags-ask}
+use Rattle.complement.specs.Found.{Begins, wide-quadruples, triple, triples, edge-room, counted-to, Shows, start-moves, Read-off}
 use Rattle.complement.specs.declared.explore.Progress.{Progress}
 use Rattle.complement.proofs.Answers.{none-refuses, says-built, short-enough}
 use Rattle.complement.proofs.Flagged.{flags-flagging}
-use Rattle.complement.proofs.Kept.{capacity-full, kept-at, triples-length}
-use Rattle.complement.proofs.Meeting.{capacity-limit}
+use Rattle.complement.proofs.Kept.{capacity-full, capacity-limit, kept-at, triples-length}
 use Rattle.complement.proofs.Numbering.{letters-all, letters-few, starts-same}
 use Rattle.complement.proofs.Reaching.{Same-sizes}
 use Rattle.complement.proofs.Second.{complement-orderly}
@@ -66,21 +64,21 @@ triples-source (f ∷ es) (suc e) l =
 
 module _
     {t : List ℕ} {masks : List (List ℕ)} {shape : Shape} (read : Read-off t masks shape) {l : Lent} {p : Progress}
-    (h : Shows (complement t) l p) where
+    (h : Shows wide-quadruples (complement t) l p) where
   abbrev w : List ℕ
   w = l .words
 
   abbrev s : List ℕ
   s = l .sets
 
-  pub states-limit : p .states ≤ 65535
+  pub states-limit : p .states ≤ wide-range .states
   states-limit =
       let e = h .states .counted in
       let few = h .states .fits in
-      let m = capacity-limit s in omega arith
+      let m = capacity-limit wide-range s in omega arith
 
   sets-room : p .states ≤ full-records s
-  sets-room = let e = h .states .counted in let few = h .states .fits in capacity-full s (p .states) (omega arith)
+  sets-room = let e = h .states .counted in let few = h .states .fits in capacity-full wide-range s (p .states) (omega arith)
 
   -- the sets are all there
   pub sets-built : (o : List ℕ) → length s ≡ length o → s ≡ filled (sets-words t) o
@@ -92,18 +90,18 @@ module _
       let whole : s ≡ filled (all-words xs) s = begins-filled (rw (all-length xs) room) (h .states .begins) in
       whole ∙ rw (records-sets t, e) refl
 
-  module _ (short : (p .edges ≤ 65535) × (words-needed (p .states) (p .edges) ≤ length w)) where
+  module _ (short : (p .edges ≤ wide-range .records) × (words-needed (p .states) (p .edges) ≤ length w)) where
     all-edges : p .edges ≡ length (complement t .edges)
-    unfolding counted-to wide-range
+    unfolding counted-to
     all-edges = let e = h .edges .counted in let few = short .0 in omega arith
 
     -- every edge is in the words
-    edges-room : length (complement t .edges) ≤ edge-room w
-    unfolding edge-room words-needed wide-range
+    edges-room : length (complement t .edges) ≤ edge-room wide-range w
+    unfolding edge-room words-needed
     edges-room = let e = all-edges in let few = short .0 in let m = short .1 in omega arith
 
     edges-kept : Begins (0 ∷ 0 ∷ 0 ∷ triples (complement t .edges)) w
-    edges-kept = rw (take-all (edge-room w) (complement t .edges) edges-room) at (h .edges .begins)
+    edges-kept = rw (take-all (edge-room wide-range w) (complement t .edges) edges-room) at (h .edges .begins)
 
     word-letter : (e : ℕ) → e < length (complement t .edges) → getD w (3 + 3 * e) 0 ≡ edge-at (complement t .edges) e .letter
     word-letter e l =
@@ -124,7 +122,7 @@ module _
     edges-are = rw all-edges (triples-are w (complement t .edges) word-letter word-target word-source)
 
     pub lay-out-asks : Lay-out-asks word-bits w (p .states) (shape .letters) (p .edges)
-    unfolding words-needed complement-automaton numbered
+    unfolding words-needed complement-automaton numbered wide-range
     lay-out-asks =
         let all = all-edges in
         let count = h .states .counted in
@@ -151,8 +149,8 @@ module _
       -- a state's record says its flags
       same-flags :
           {k : ℕ} → k ≡ length (initials (start-moves shape)) → (i : ℕ) → i < complement-automaton t .states →
-          flags-of-record s k i ≡ flags-word (complement-automaton t) i
-      unfolding flags-of-record flags-word complement-automaton numbered system-of ncsb state-at
+          state-flags (record-accepts s) k i ≡ flags-word (complement-automaton t) i
+      unfolding state-flags record-accepts flags-word complement-automaton numbered system-of ncsb state-at
       same-flags {k} e i l =
           let count = h .states .counted in
           let first : k ≡ length (system-of t .starts) = e ∙ ap length (starts-same t (read .passed) (read .masked) (read .shaped)) in
@@ -174,7 +172,7 @@ module _
       laid-plain o g = laid ∙ rw (automaton-states, automaton-letters, edges-are, g) refl
 
       pub words-built :
-          {k : ℕ} {v : List ℕ} (o : List ℕ) → k ≡ length (initials (start-moves shape)) → v ≡ with-flags s k (p .states) w1 →
+          {k : ℕ} {v : List ℕ} (o : List ℕ) → k ≡ length (initials (start-moves shape)) → v ≡ with-flags (record-accepts s) k (p .states) w1 →
           length w ≡ length o → v ≡ filled (complement-words t) o
       unfolding words-needed complement-words
       words-built {k} {v} o e f g =
@@ -185,22 +183,22 @@ module _
           let enough = short .1 in
           let room : 3 + 2 * a .states ≤ length w1 = omega arith in
           let whole : 3 + 2 * a .states + 3 * length es ≤ length o = omega arith in
-          let flags = flags-flagging a s k w1 room (same-flags e) (a .states) (omega arith) in
-          let set-flags : v ≡ with-flags s k (a .states) w1 = f ∙ ap (λ (n : ℕ). with-flags s k n w1) states in
+          let flags = flags-flagging a (record-accepts s) k w1 room (same-flags e) (a .states) (omega arith) in
+          let set-flags : v ≡ with-flags (record-accepts s) k (a .states) w1 = f ∙ ap (λ (n : ℕ). with-flags (record-accepts s) k n w1) states in
           flagging-end a es o w1 v whole (laid-plain o g) (rw set-flags flags)
 
 -- THE ACCEPTED BUILD
 module _
     {t : List ℕ} {masks : List (List ℕ)} {shape : Shape} (read : Read-off t masks shape) {l : Lent} {p : Progress}
-    (h : Shows (complement t) l p) {b : Bool}
-    (tested : b ≡ (ltb 65535 (p .edges) || ltb (length (l .words)) (words-needed (p .states) (p .edges)))) (short : b ≡ false) where
-  enough : (p .edges ≤ 65535) × (words-needed (p .states) (p .edges) ≤ length (l .words))
-  enough = short-enough (length (l .words)) (p .states) (p .edges) tested short
+    (h : Shows wide-quadruples (complement t) l p) {b : Bool}
+    (tested : b ≡ too-long wide-range (length (l .words)) (p .states) (p .edges)) (short : b ≡ false) where
+  enough : (p .edges ≤ wide-range .records) × (words-needed (p .states) (p .edges) ≤ length (l .words))
+  enough = short-enough wide-range (length (l .words)) (p .states) (p .edges) tested short
 
   pub built-asks : Lay-out-asks word-bits (l .words) (p .states) (shape .letters) (p .edges)
   built-asks = lay-out-asks read h enough
 
-  pub built-counts : (p .states ≤ 65535) × (p .edges ≤ 65535)
+  pub built-counts : (p .states ≤ wide-range .states) × (p .edges ≤ wide-range .records)
   built-counts = (states-limit read h, enough .0)
 
   module _
@@ -212,7 +210,7 @@ module _
 
     pub built-says :
         {k : ℕ} {v : List ℕ} (lends : Lent) → Same-sizes l lends → k ≡ length (initials (start-moves shape)) →
-        v ≡ with-flags (l .sets) k (p .states) w1 →
+        v ≡ with-flags (record-accepts (l .sets)) k (p .states) w1 →
         Build-says t (record { number = 0; states = p .states; edges = p .edges }) lends (lent v (l .sets))
     built-says lends sizes e f =
         let states = h .states .counted in

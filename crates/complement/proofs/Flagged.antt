@@ -1,11 +1,11 @@
--- Setting flags from the records, state by state; and what words come of it. Assumes nothing.
+-- Setting flags by a test of which states accept, state by state; and what words come of it. Assumes nothing.
 use mathlib.Core.Path.{_≡_, refl, sym, _∙_, ap}
 use mathlib.Core.Bool.{Bool, true, false}
 use mathlib.Core.List.{List}
 use Prim.Native.Nat.{ℕ, zero, suc, _+_, _*_, _≤_, _<_}
 use native.Mathlib.Numerals.{add-one}
 use native.Mathlib.Omega.{arith}
-use lib.ListN.{length, set, length-set}
+use lib.ListN.{length, set}
 use Rattle.basics.proofs.Booleans.{lt-ltb, ge-ltb}
 use Rattle.automata.specs.Automaton.{Automaton}
 use Rattle.layout.specs.Chained.{flags-word}
@@ -13,53 +13,54 @@ use Rattle.layout.proofs.Indexed.{Flagging, flagging-start, flagging-turn}
 use Rattle.ncsb.specs.Successors.{accepting}
 use Rattle.ncsb.specs.declared.Quadruple.{Quadruple}
 use Rattle.record_words.specs.Record.{quadruple-at}
-use Rattle.complement.specs.Flags.{flags-of-record, with-flags}
+use Rattle.complement.specs.Flags.{state-flags, with-flags, record-accepts}
 
--- the four cases of one state's flags
-module _ (s : List ℕ) (k i : ℕ) {x : Quadruple} {b : Bool} (loaded : x ≡ quadruple-at s i) (asked : b ≡ accepting x) where
-  accepts : accepting (quadruple-at s i) ≡ b
-  accepts = ap accepting (sym loaded) ∙ sym asked
+-- what a loaded record says of its state
+pub accepts-loaded :
+    (s : List ℕ) (i : ℕ) {x : Quadruple} {b : Bool} → x ≡ quadruple-at s i → b ≡ accepting x → record-accepts s i ≡ b
+unfolding record-accepts
+accepts-loaded s i loaded asked = ap accepting (sym loaded) ∙ sym asked
 
-  pub flags-both : i < k → b ≡ true → 3 ≡ flags-of-record s k i
-  unfolding flags-of-record
-  flags-both l e = rw (lt-ltb l, accepts, e) refl
+module _ (a : ℕ → Bool) (k : ℕ) where
+  -- the four cases of one state's flags
+  module _ (i : ℕ) where
+    pub flags-both : i < k → a i ≡ true → 3 ≡ state-flags a k i
+    unfolding state-flags
+    flags-both l e = rw (lt-ltb l, e) refl
 
-  pub flags-initial : i < k → b ≡ false → 1 ≡ flags-of-record s k i
-  unfolding flags-of-record
-  flags-initial l e = rw (lt-ltb l, accepts, e) refl
+    pub flags-initial : i < k → a i ≡ false → 1 ≡ state-flags a k i
+    unfolding state-flags
+    flags-initial l e = rw (lt-ltb l, e) refl
 
-  pub flags-accepting : k ≤ i → b ≡ true → 2 ≡ flags-of-record s k i
-  unfolding flags-of-record
-  flags-accepting l e = rw (ge-ltb l, accepts, e) refl
+    pub flags-accepting : k ≤ i → a i ≡ true → 2 ≡ state-flags a k i
+    unfolding state-flags
+    flags-accepting l e = rw (ge-ltb l, e) refl
 
-  pub flags-none : k ≤ i → b ≡ false → 0 ≡ flags-of-record s k i
-  unfolding flags-of-record
-  flags-none l e = rw (ge-ltb l, accepts, e) refl
+    pub flags-none : k ≤ i → a i ≡ false → 0 ≡ state-flags a k i
+    unfolding state-flags
+    flags-none l e = rw (ge-ltb l, e) refl
 
--- the loop
-pub flags-length : (s : List ℕ) (k n : ℕ) (w : List ℕ) → length (with-flags s k n w) ≡ length w
-unfolding with-flags
-flags-length s k zero w = refl
-flags-length s k (suc i) w = length-set (with-flags s k i w) (3 + 2 * i) (flags-of-record s k i) ∙ flags-length s k i w
+  -- the loop
+  module _ (w : List ℕ) where
+    pub flags-start : w ≡ with-flags a k 0 w
+    unfolding with-flags
+    flags-start = refl
 
-pub flags-start : (s : List ℕ) (k : ℕ) (w : List ℕ) → w ≡ with-flags s k 0 w
-unfolding with-flags
-flags-start s k w = refl
+    pub flags-turn :
+        (i : ℕ) {v : List ℕ} {f : ℕ} → v ≡ with-flags a k i w → f ≡ state-flags a k i →
+        set v (3 + 2 * i) f ≡ with-flags a k (i + 1) w
+    unfolding with-flags
+    flags-turn i e g = rw (add-one, e, g) refl
 
-pub flags-turn :
-    (s : List ℕ) (k i : ℕ) (w : List ℕ) {v : List ℕ} {f : ℕ} → v ≡ with-flags s k i w → f ≡ flags-of-record s k i →
-    set v (3 + 2 * i) f ≡ with-flags s k (i + 1) w
-unfolding with-flags
-flags-turn s k i w e g = rw (add-one, e, g) refl
+    pub flags-end : (i n : ℕ) {v : List ℕ} → v ≡ with-flags a k i w → i ≤ n → n ≤ i → v ≡ with-flags a k n w
+    flags-end i n e l g = let q : i ≡ n = omega arith in e ∙ ap (λ (j : ℕ). with-flags a k j w) q
 
-pub flags-end : (s : List ℕ) (k i n : ℕ) (w : List ℕ) {v : List ℕ} → v ≡ with-flags s k i w → i ≤ n → n ≤ i → v ≡ with-flags s k n w
-flags-end s k i n w e l g = let q : i ≡ n = omega arith in e ∙ ap (λ (j : ℕ). with-flags s k j w) q
-
--- where the records say the automaton's flags, these are set
+-- where the test says the automaton's flags, these are set
 pub flags-flagging :
-    (a : Automaton) (s : List ℕ) (k : ℕ) (w : List ℕ) → 3 + 2 * a .states ≤ length w →
-    ((i : ℕ) → i < a .states → flags-of-record s k i ≡ flags-word a i) → (n : ℕ) → n ≤ a .states → Flagging a n w (with-flags s k n w)
+    (a : Automaton) (accepts : ℕ → Bool) (k : ℕ) (w : List ℕ) → 3 + 2 * a .states ≤ length w →
+    ((i : ℕ) → i < a .states → state-flags accepts k i ≡ flags-word a i) → (n : ℕ) → n ≤ a .states →
+    Flagging a n w (with-flags accepts k n w)
 unfolding with-flags
-flags-flagging a s k w room same zero l = flagging-start a w
-flags-flagging a s k w room same (suc i) l =
-    rw (← add-one i, same i (omega arith)) (flagging-turn room (flags-flagging a s k w room same i (omega arith)) (omega arith))
+flags-flagging a accepts k w room same zero l = flagging-start a w
+flags-flagging a accepts k w room same (suc i) l =
+    rw (← add-one i, same i (omega arith)) (flagging-turn room (flags-flagging a accepts k w room same i (omega arith)) (omega arith))

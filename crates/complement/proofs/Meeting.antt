@@ -7,54 +7,51 @@ use native.Mathlib.Omega.{arith}
 use lib.ListN.{length, length-append}
 use Rattle.automata.specs.System.{Built, built, number-of, an-edge, add-edge}
 use Rattle.automata.proofs.Exploring.{add-edge-known, add-edge-new}
-use Rattle.tables.specs.Table.{wide-range}
-use Rattle.ncsb.specs.Moves.{Moves}
-use Rattle.ncsb.specs.Successors.{ncsb}
+use Rattle.tables.specs.Table.{Limits}
+use Rattle.ncsb.specs.Successors.{same}
 use Rattle.ncsb.specs.declared.Quadruple.{Quadruple}
 use Rattle.record_words.specs.Record.{with-quadruple}
 use Rattle.complement.specs.Build.{lent}
-use Rattle.complement.specs.Records.{capacity, Looked-up}
-use Rattle.complement.specs.Found.{States-kept, with-edge, one-more, Shows, Ends, within, beyond, overfull, Turns, Placed, known, fresh, left-out}
+use Rattle.complement.specs.Records.{capacity, looked-up}
+use Rattle.complement.specs.Found.{quadruples, States-kept, with-edge, one-more, Shows, Ends, within, beyond, overfull, Turns, Placed, known, fresh, left-out}
 use Rattle.complement.specs.declared.explore.Progress.{Progress}
 use Rattle.complement.proofs.Kept.{kept-records, capacity-with, kept-more, edges-more}
 
-pub capacity-limit : (s : List ℕ) → capacity s ≤ 65535
-unfolding capacity wide-range
-capacity-limit s = omega arith
-
-module _ (d : Moves) (i c : ℕ) (x : Quadruple) where
+module _ (limits : Limits) (i c : ℕ) (x : Quadruple) where
   -- the number that a look-up gives is the number among the states found
   looked-number :
-      {xs : List Quadruple} {s : List ℕ} {n r : ℕ} → States-kept xs s n → Looked-up s n x r → number-of (ncsb d) x xs ≡ r
-  looked-number h l = sym (l .number d ∙ ap (λ (ys : List Quadruple). number-of (ncsb d) x ys) (kept-records h))
+      {xs : List Quadruple} {s : List ℕ} {n r : ℕ} → States-kept (quadruples limits) xs s n → r ≡ looked-up s n x →
+      number-of same x xs ≡ r
+  unfolding looked-up
+  looked-number h look = sym (look ∙ ap (λ (ys : List Quadruple). number-of same x ys) (kept-records h))
 
-  module _ {b : Built Quadruple} {w s : List ℕ} {p : Progress} (h : Shows b (lent w s) p) where
+  module _ {b : Built Quadruple} {w s : List ℕ} {p : Progress} (h : Shows (quadruples limits) b (lent w s) p) where
     keep-known :
-        {r : ℕ} → Looked-up s (p .states) x r → r < p .states →
-        Shows (add-edge (ncsb d) i c x b) (lent (with-edge w (p .edges) (an-edge i c r)) s)
-        (record { states = p .states; edges = one-more (p .edges); full = false })
+        {r : ℕ} → r ≡ looked-up s (p .states) x → r < p .states →
+        Shows (quadruples limits) (add-edge same i c x b) (lent (with-edge limits w (p .edges) (an-edge i c r)) s)
+        (record { states = p .states; edges = one-more limits (p .edges); full = false })
     unfolding built
     keep-known {r} look l =
         let e = looked-number (h .states) look in
         let count = h .states .counted in
-        let listed : number-of (ncsb d) x (b .states) < length (b .states) = omega arith in
-        rw (add-edge-known (ncsb d) i c x b listed, e)
+        let listed : number-of same x (b .states) < length (b .states) = omega arith in
+        rw (add-edge-known same i c x b listed, e)
         (record { not-full = refl; states = h .states; edges = edges-more (an-edge i c r) (h .edges) })
 
     added-new :
-        Looked-up s (p .states) x (p .states) →
-        add-edge (ncsb d) i c x b ≡ built (b .states ++ (x ∷ [])) (b .edges ++ (an-edge i c (p .states) ∷ []))
+        p .states ≡ looked-up s (p .states) x →
+        add-edge same i c x b ≡ built (b .states ++ (x ∷ [])) (b .edges ++ (an-edge i c (p .states) ∷ []))
     added-new look =
         let e = looked-number (h .states) look in
         let count = h .states .counted in
-        let unlisted : number-of (ncsb d) x (b .states) ≡ length (b .states) = omega arith in
-        rw count (add-edge-new (ncsb d) i c x b unlisted)
+        let unlisted : number-of same x (b .states) ≡ length (b .states) = omega arith in
+        rw count (add-edge-new same i c x b unlisted)
 
     keep-new :
-        Looked-up s (p .states) x (p .states) → p .states < capacity s →
-        Shows (add-edge (ncsb d) i c x b)
-        (lent (with-edge w (p .edges) (an-edge i c (p .states))) (with-quadruple s (p .states) x))
-        (record { states = p .states + 1; edges = one-more (p .edges); full = false })
+        p .states ≡ looked-up s (p .states) x → p .states < capacity limits s →
+        Shows (quadruples limits) (add-edge same i c x b)
+        (lent (with-edge limits w (p .edges) (an-edge i c (p .states))) (with-quadruple s (p .states) x))
+        (record { states = p .states + 1; edges = one-more limits (p .edges); full = false })
     unfolding built
     keep-new look l =
         rw (added-new look)
@@ -65,43 +62,48 @@ module _ (d : Moves) (i c : ℕ) (x : Quadruple) where
         })
 
     -- one state more than fit
-    over-new : Looked-up s (p .states) x (p .states) → capacity s ≤ p .states → capacity s < length (add-edge (ncsb d) i c x b .states)
+    over-new :
+        p .states ≡ looked-up s (p .states) x → capacity limits s ≤ p .states →
+        capacity limits s < length (add-edge same i c x b .states)
     unfolding built
     over-new look l = let count = h .states .counted in rw (added-new look) (rw length-append (omega arith))
 
   module _ {w s s′ : List ℕ} {p : Progress} {r : ℕ} where
     -- there is no room for it
     pub meet-full :
-        Placed s (p .states) x s′ r → (room : ℕ) → room ≡ capacity s′ → room ≤ r →
-        Turns (add-edge (ncsb d) i c x) (lent w s) p (lent w s′) overfull
+        Placed limits s (p .states) x s′ r → (room : ℕ) → room ≡ capacity limits s′ → room ≤ r →
+        Turns (quadruples limits) (add-edge same i c x) (lent w s) p (lent w s′) overfull
     meet-full placed room e past = record { from = λ b h. go b h placed }
       where
         go :
-            (b : Built Quadruple) → Shows b (lent w s) p → Placed s (p .states) x s′ r →
-            Ends (add-edge (ncsb d) i c x b) (lent w s′) overfull
-        go b h (known l look same) =
+            (b : Built Quadruple) → Shows (quadruples limits) b (lent w s) p → Placed limits s (p .states) x s′ r →
+            Ends (quadruples limits) (add-edge same i c x b) (lent w s′) overfull
+        go b h (known l look kept) =
             let fits = h .states .fits in
             let count = h .states .counted in
-            let e′ : capacity s′ ≡ capacity s = ap capacity same in absurd (omega arith)
-        go b h (fresh q look l same) =
-            let e′ : capacity s′ ≡ capacity s = ap capacity same ∙ capacity-with s (p .states) x in absurd (omega arith)
-        go b h (left-out q look l same) = rw same (beyond refl (over-new h look l))
+            let e′ : capacity limits s′ ≡ capacity limits s = ap (capacity limits) kept in absurd (omega arith)
+        go b h (fresh q look l kept) =
+            let e′ : capacity limits s′ ≡ capacity limits s = ap (capacity limits) kept ∙ capacity-with limits s (p .states) x in
+            absurd (omega arith)
+        go b h (left-out q look l kept) = rw kept (beyond refl (over-new h look l))
 
     -- it was known
     pub meet-known :
-        {w′ : List ℕ} {m : ℕ} → Placed s (p .states) x s′ r → r < p .states → w′ ≡ with-edge w (p .edges) (an-edge i c r) →
-        m ≡ one-more (p .edges) →
-        Turns (add-edge (ncsb d) i c x) (lent w s) p (lent w′ s′) (record { states = p .states; edges = m; full = false })
-    meet-known (known l look same) inside e f = record { from = λ b h. rw (same, e, f) (within (keep-known h look l)) }
-    meet-known (fresh q look l same) inside e f = absurd (omega arith)
-    meet-known (left-out q look l same) inside e f = absurd (omega arith)
+        {w′ : List ℕ} {m : ℕ} → Placed limits s (p .states) x s′ r → r < p .states →
+        w′ ≡ with-edge limits w (p .edges) (an-edge i c r) → m ≡ one-more limits (p .edges) →
+        Turns (quadruples limits) (add-edge same i c x) (lent w s) p (lent w′ s′)
+        (record { states = p .states; edges = m; full = false })
+    meet-known (known l look kept) inside e f = record { from = λ b h. rw (kept, e, f) (within (keep-known h look l)) }
+    meet-known (fresh q look l kept) inside e f = absurd (omega arith)
+    meet-known (left-out q look l kept) inside e f = absurd (omega arith)
 
     -- it is new, and has room
     pub meet-new :
-        {w′ : List ℕ} {m : ℕ} → Placed s (p .states) x s′ r → (room : ℕ) → room ≡ capacity s′ → r < room → p .states ≤ r →
-        w′ ≡ with-edge w (p .edges) (an-edge i c r) → m ≡ one-more (p .edges) →
-        Turns (add-edge (ncsb d) i c x) (lent w s) p (lent w′ s′) (record { states = p .states + 1; edges = m; full = false })
-    meet-new (known l look same) room e inside new f g = absurd (omega arith)
-    meet-new (fresh q look l same) room e inside new f g = record { from = λ b h. rw (same, f, g, q) (within (keep-new h look l)) }
-    meet-new (left-out q look l same) room e inside new f g =
-        let e′ : capacity s′ ≡ capacity s = ap capacity same in absurd (omega arith)
+        {w′ : List ℕ} {m : ℕ} → Placed limits s (p .states) x s′ r → (room : ℕ) → room ≡ capacity limits s′ → r < room →
+        p .states ≤ r → w′ ≡ with-edge limits w (p .edges) (an-edge i c r) → m ≡ one-more limits (p .edges) →
+        Turns (quadruples limits) (add-edge same i c x) (lent w s) p (lent w′ s′)
+        (record { states = p .states + 1; edges = m; full = false })
+    meet-new (known l look kept) room e inside new f g = absurd (omega arith)
+    meet-new (fresh q look l kept) room e inside new f g = record { from = λ b h. rw (kept, f, g, q) (within (keep-new h look l)) }
+    meet-new (left-out q look l kept) room e inside new f g =
+        let e′ : capacity limits s′ ≡ capacity limits s = ap (capacity limits) kept in absurd (omega arith)

@@ -1,5 +1,5 @@
--- Loops of exploring within the room: from what the buffers keep at first, so many steps lead to what they keep now; one more step,
--- more states than fit, and the end. Assumes nothing.
+-- Loops of exploring within the room, of any construction in any format: from what the buffers keep at first, so many steps lead to what they
+-- keep now; one more step, more states than fit, and the end. Assumes nothing.
 use mathlib.Core.Path.{_≡_, refl, _∙_, ap}
 use mathlib.Core.Bool.{true, false}
 use Prim.Native.Nat.{ℕ, suc, _+_, _<_}
@@ -9,27 +9,25 @@ use lib.ListN.{length}
 use Rattle.basics.proofs.Booleans.{clash}
 use Rattle.automata.specs.System.{Built}
 use Rattle.automata.proofs.Exploring.{Grows, grows-states}
-use Rattle.ncsb.specs.declared.Quadruple.{Quadruple}
 use Rattle.complement.specs.Build.{Lent}
-use Rattle.complement.specs.Records.{capacity}
-use Rattle.complement.specs.Found.{Shows, Ends, within, beyond, overfull, Turns, Step-asks}
+use Rattle.complement.specs.Found.{Format, Shows, Ends, within, beyond, overfull, Turns, Step-asks}
 use Rattle.complement.specs.declared.explore.Progress.{Progress}
 
 -- WHICH END a flag says
-module _ {b : Built Quadruple} {l : Lent} {p : Progress} where
-  pub ends-within : p .full ≡ false → Ends b l p → Shows b l p
+module _ {X : Type 0} {f : Format X} {b : Built X} {l : Lent} {p : Progress} where
+  pub ends-within : p .full ≡ false → Ends f b l p → Shows f b l p
   unfolding overfull
   ends-within e (within h) = h
-  ends-within e (beyond f m) = absurd (clash (ap (λ (q : Progress). q .full) f) e)
+  ends-within e (beyond q m) = absurd (clash (ap (λ (r : Progress). r .full) q) e)
 
-  pub ends-beyond : p .full ≡ true → Ends b l p → capacity (l .sets) < length (b .states)
+  pub ends-beyond : p .full ≡ true → Ends f b l p → f .capacity (l .sets) < length (b .states)
   ends-beyond e (within h) = absurd (clash e (h .not-full))
-  ends-beyond e (beyond f m) = m
+  ends-beyond e (beyond q m) = m
 
   -- what goes on from there has more states than fit too
-  pub ends-grown : {later : Built Quadruple} → p .full ≡ true → Grows b later → Ends b l p → Ends later l p
+  pub ends-grown : {later : Built X} → p .full ≡ true → Grows b later → Ends f b l p → Ends f later l p
   ends-grown e g (within h) = absurd (clash e (h .not-full))
-  ends-grown e g (beyond f m) = let more = grows-states g in beyond f (omega arith)
+  ends-grown e g (beyond q m) = let more = grows-states g in beyond q (omega arith)
 
 -- SIZES: each buffer is as long as it was
 pub record Same-sizes (l l₀ : Lent) : Type 0 where
@@ -44,32 +42,34 @@ sizes-then e f = record { words = e .words ∙ f .words; sets = e .sets ∙ f .s
 
 -- SO MANY STEPS, given what they make of anything found
 pub record Reaching
-    (steps : ℕ → Built Quadruple → Built Quadruple) (l₀ : Lent) (p₀ : Progress) (l : Lent) (p : Progress) (count : ℕ) : Type 0 where
+    {X : Type 0} (f : Format X) (steps : ℕ → Built X → Built X) (l₀ : Lent) (p₀ : Progress) (l : Lent) (p : Progress) (count : ℕ)
+    : Type 0 where
   pub sizes : Same-sizes l l₀
-  pub shows : (b : Built Quadruple) → Shows b l₀ p₀ → Shows (steps count b) l p
+  pub shows : (b : Built X) → Shows f b l₀ p₀ → Shows f (steps count b) l p
 
-module _ {f : ℕ → Built Quadruple → Built Quadruple} {l₀ : Lent} {p₀ : Progress} where
-  pub reach-start : ((b : Built Quadruple) → f 0 b ≡ b) → Reaching f l₀ p₀ l₀ p₀ 0
+module _ {X : Type 0} {f : Format X} {steps : ℕ → Built X → Built X} {l₀ : Lent} {p₀ : Progress} where
+  pub reach-start : ((b : Built X) → steps 0 b ≡ b) → Reaching f steps l₀ p₀ l₀ p₀ 0
   reach-start none = record { sizes = sizes-self; shows = λ b h. rw (none b) h }
 
-  module _ {l : Lent} {p : Progress} {k : ℕ} (h : Reaching f l₀ p₀ l p k) where
+  module _ {l : Lent} {p : Progress} {k : ℕ} (h : Reaching f steps l₀ p₀ l p k) where
     -- what a step asks still holds
-    pub reach-asks : {i c : ℕ} (e : ℕ) → ((b : Built Quadruple) → Grows b (f k b)) → e < 16 → Step-asks l₀ p₀ i c → Step-asks l p i e
+    pub reach-asks :
+        {i c : ℕ} (e : ℕ) → ((b : Built X) → Grows b (steps k b)) → e < f .letters → Step-asks f l₀ p₀ i c → Step-asks f l p i e
     reach-asks {i} e grows few asks =
         let now = h .shows (asks .built) (asks .shows) in
         let more = grows-states (grows (asks .built)) in
         let inside = asks .inside in
         let count = asks .shows .states .counted in
         let count-now = now .states .counted in
-        record { built = f k (asks .built); shows = now; inside = omega arith; letter-inside = few }
+        record { built = steps k (asks .built); shows = now; inside = omega arith; letter-inside = few }
 
     module _
-        {l′ : Lent} {p′ : Progress} {step : Built Quadruple → Built Quadruple} (next : (b : Built Quadruple) → f (suc k) b ≡ step (f k b))
-        (turn : Turns step l p l′ p′) where
-      reached : (b : Built Quadruple) → Shows b l₀ p₀ → Ends (f (suc k) b) l′ p′
-      reached b shows = rw (next b) (turn .from (f k b) (h .shows b shows))
+        {l′ : Lent} {p′ : Progress} {step : Built X → Built X} (next : (b : Built X) → steps (suc k) b ≡ step (steps k b))
+        (turn : Turns f step l p l′ p′) where
+      reached : (b : Built X) → Shows f b l₀ p₀ → Ends f (steps (suc k) b) l′ p′
+      reached b shows = rw (next b) (turn .from (steps k b) (h .shows b shows))
 
-      pub reach-turn : Same-sizes l′ l → p′ .full ≡ false → Reaching f l₀ p₀ l′ p′ (k + 1)
+      pub reach-turn : Same-sizes l′ l → p′ .full ≡ false → Reaching f steps l₀ p₀ l′ p′ (k + 1)
       reach-turn same left =
           rw add-one
           (record {
@@ -78,8 +78,15 @@ module _ {f : ℕ → Built Quadruple → Built Quadruple} {l₀ : Lent} {p₀ :
           })
 
       -- more states than fit: nothing later changes that
-      pub reach-full : (last : ℕ) → ((b : Built Quadruple) → Grows (f (suc k) b) (f last b)) → p′ .full ≡ true → Turns (f last) l₀ p₀ l′ p′
+      pub reach-full :
+          (last : ℕ) → ((b : Built X) → Grows (steps (suc k) b) (steps last b)) → p′ .full ≡ true → Turns f (steps last) l₀ p₀ l′ p′
       reach-full last grows full = record { from = λ b shows. ends-grown full (grows b) (reached b shows) }
 
-    pub reach-end : (last : ℕ) → ((b : Built Quadruple) → f k b ≡ f last b) → Turns (f last) l₀ p₀ l p
+    pub reach-end : (last : ℕ) → ((b : Built X) → steps k b ≡ steps last b) → Turns f (steps last) l₀ p₀ l p
     reach-end last same = record { from = λ b shows. rw (← same b) (within (h .shows b shows)) }
+
+-- a step by another name
+pub turns-same :
+    {X : Type 0} {f : Format X} {step other : Built X → Built X} {l l′ : Lent} {p p′ : Progress} →
+    ((b : Built X) → step b ≡ other b) → Turns f step l p l′ p′ → Turns f other l p l′ p′
+turns-same same turn = record { from = λ b shows. rw (← same b) (turn .from b shows) }

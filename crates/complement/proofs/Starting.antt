@@ -11,6 +11,7 @@ use lib.Seq.{take-suc, take-all, take-nil}
 use Rattle.basics.proofs.Clears.{zeros-at}
 use Rattle.sets.specs.Sets.{without, size}
 use Rattle.automata.specs.System.{built}
+use Rattle.tables.specs.Table.{Limits}
 use Rattle.ncsb.specs.Array.{from-array, nth-initial}
 use Rattle.ncsb.specs.Successors.{quadruple, initial-free, initials}
 use Rattle.ncsb.specs.declared.Quadruple.{Quadruple}
@@ -19,7 +20,7 @@ use Rattle.patterns.specs.declared.Shape.{Shape}
 use Rattle.record_words.specs.Record.{all-words, full-records, with-quadruple}
 use Rattle.complement.specs.Build.{Lent}
 use Rattle.complement.specs.Records.{capacity}
-use Rattle.complement.specs.Found.{Begins, States-kept, triples, edge-room, Ends, within, beyond, overfull, start-moves, Started, started, too-many}
+use Rattle.complement.specs.Found.{Begins, quadruples, States-kept, triples, edge-room, Ends, within, beyond, overfull, start-moves, Started, started, too-many}
 use Rattle.complement.specs.declared.explore.Progress.{Progress}
 use Rattle.complement.proofs.Kept.{capacity-full, capacity-kept, kept-more}
 
@@ -27,12 +28,6 @@ module _ (shape : Shape) where
   start-free : initial-free (start-moves shape) ≡ without (bitAnd (shape .starts) (shape .inner)) (shape .marks)
   unfolding initial-free start-moves from-array
   start-free = refl
-
-  -- so many of the initial quadruples are stored
-  pub record Storing (s₀ s : List ℕ) (count : ℕ) : Type 0 where
-    pub size : length s ≡ length s₀
-    pub some : count ≤ length (initials (start-moves shape))
-    pub kept : States-kept (take count (initials (start-moves shape))) s count
 
   -- their number is that of the parts of what is free
   pub start-counted :
@@ -50,12 +45,19 @@ module _ (shape : Shape) where
       rw (initials-count (shape .starts) (shape .marks) (shape .inner))
       (choices-fit (initial-free (from-array [] (shape .starts) (shape .marks) (shape .inner))))
 
+module _ (limits : Limits) (shape : Shape) where
+  -- so many of the initial quadruples are stored
+  pub record Storing (s₀ s : List ℕ) (count : ℕ) : Type 0 where
+    pub size : length s ≡ length s₀
+    pub some : count ≤ length (initials (start-moves shape))
+    pub kept : States-kept (quadruples limits) (take count (initials (start-moves shape))) s count
+
   module _ {choices : ℕ} (counted : choices ≡ length (initials (start-moves shape))) where
     pub start-fits : (j : ℕ) → j < choices → j < 2 ^ 32
-    start-fits j l = let h = start-few in let e = counted in omega arith
+    start-fits j l = let h = start-few shape in let e = counted in omega arith
 
     -- they do not fit
-    pub start-full : {s : List ℕ} {p : Progress} {room : ℕ} → room ≡ capacity s → room < choices → p ≡ overfull → Started shape s p
+    pub start-full : {s : List ℕ} {p : Progress} {room : ℕ} → room ≡ capacity limits s → room < choices → p ≡ overfull → Started limits shape s p
     start-full e l full = let n = counted in too-many full (omega arith)
 
     pub store-start : {s : List ℕ} → Begins [] s → Storing s s 0
@@ -67,12 +69,12 @@ module _ (shape : Shape) where
           kept = record { counted = refl; fits = omega arith; begins = h };
         }
 
-    module _ {s₀ s : List ℕ} {k room : ℕ} (h : Storing s₀ s k) (l : k < choices) (roomy : room ≡ capacity s₀) (most : choices ≤ room) where
-      below : k < capacity s
-      below = let e = capacity-kept s₀ s (h .size) in omega arith
+    module _ {s₀ s : List ℕ} {k room : ℕ} (h : Storing s₀ s k) (l : k < choices) (roomy : room ≡ capacity limits s₀) (most : choices ≤ room) where
+      below : k < capacity limits s
+      below = let e = capacity-kept limits s₀ s (h .size) in omega arith
 
       pub store-asks : k < full-records s
-      store-asks = let b = below in capacity-full s (suc k) (omega arith)
+      store-asks = let b = below in capacity-full limits s (suc k) (omega arith)
 
       pub store-turn :
           {x : Quadruple} {s′ : List ℕ} → x ≡ nth-initial (from-array [] (shape .starts) (shape .marks) (shape .inner)) k →
@@ -96,23 +98,23 @@ module _ (shape : Shape) where
 
     pub store-end :
         {s₀ s : List ℕ} {k : ℕ} {p : Progress} → Storing s₀ s k → k ≤ choices → choices ≤ k → p .full ≡ false → p .edges ≡ 0 → p .states ≡ choices →
-        Started shape s p
+        Started limits shape s p
     store-end {s₀} {s} {k} {p} h l g left none e =
         let xs = initials (start-moves shape) in
         let count = counted in
-        let whole : States-kept xs s k = rw (take-all k xs (omega arith)) at (h .kept) in
+        let whole : States-kept (quadruples limits) xs s k = rw (take-all k xs (omega arith)) at (h .kept) in
         let states : p .states ≡ k = omega arith in started left none (rw states whole)
 
 -- no edge is kept in words that are zero
-no-edges : {w : List ℕ} → Begins [] w → Begins (0 ∷ 0 ∷ 0 ∷ triples (take (edge-room w) [])) w
+no-edges : (limits : Limits) (w : List ℕ) → Begins [] w → Begins (0 ∷ 0 ∷ 0 ∷ triples (take (edge-room limits w) [])) w
 unfolding triples
-no-edges {w} h = rw (take-nil (edge-room w)) (record { at = λ i. h .at i ∙ sym (zeros-at 3 i) })
+no-edges limits w h = rw (take-nil (edge-room limits w)) (record { at = λ i. h .at i ∙ sym (zeros-at 3 i) })
 
 -- what is kept of the initial states is kept of the beginning
 pub started-ends :
-    {shape : Shape} {l : Lent} {p : Progress} → Begins [] (l .words) → Started shape (l .sets) p →
-    Ends (built (initials (start-moves shape)) []) l p
+    {limits : Limits} {shape : Shape} {l : Lent} {p : Progress} → Begins [] (l .words) → Started limits shape (l .sets) p →
+    Ends (quadruples limits) (built (initials (start-moves shape)) []) l p
 unfolding built
-started-ends h (started left none kept) =
-    within (record { not-full = left; states = kept; edges = record { counted = omega arith; begins = no-edges h } })
+started-ends {limits} {l} h (started left none kept) =
+    within (record { not-full = left; states = kept; edges = record { counted = omega arith; begins = no-edges limits (l .words) h } })
 started-ends h (too-many full m) = beyond full m

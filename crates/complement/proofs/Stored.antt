@@ -13,7 +13,7 @@ use Rattle.basics.proofs.Booleans.{either, eqb-eq, eqb-ne, ltb-lt, ltb-ge, lt-l
 use Rattle.basics.proofs.Clears.{zeros-at}
 use Rattle.basics.proofs.Filled.{filled-length, filled-at}
 use Rattle.automata.specs.System.{Edge, an-edge}
-use Rattle.tables.specs.Table.{wide-range}
+use Rattle.tables.specs.Table.{Limits}
 use Rattle.complement.specs.Found.{Begins, triple, edge-room, counted-to, with-edge, one-more}
 
 -- a word behind those that a buffer begins with
@@ -56,27 +56,27 @@ unfolding zeros
 begins-zeros w = record { at = zeros-at (length w) }
 
 -- EDGES behind so many others
-module _ (w : List ℕ) (m : ℕ) where
+module _ (limits : Limits) (w : List ℕ) (m : ℕ) where
   -- beyond the room for them nothing is written
-  pub edge-past : (e : Edge) → 65535 ≤ m → w ≡ with-edge w m e
-  unfolding with-edge edge-room wide-range
-  edge-past e l = let out : edge-room w ≤ m = omega arith in rw (ge-ltb out) refl
+  pub edge-past : (e : Edge) → limits .records ≤ m → w ≡ with-edge limits w m e
+  unfolding with-edge edge-room
+  edge-past e l = let out : edge-room limits w ≤ m = omega arith in rw (ge-ltb out) refl
 
-  pub edge-long : (e : Edge) → length w < 3 + 3 * m + 3 → w ≡ with-edge w m e
-  unfolding with-edge edge-room wide-range
-  edge-long e l = let out : edge-room w ≤ m = omega arith in rw (ge-ltb out) refl
+  pub edge-long : (e : Edge) → length w < 3 + 3 * m + 3 → w ≡ with-edge limits w m e
+  unfolding with-edge edge-room
+  edge-long e l = let out : edge-room limits w ≤ m = omega arith in rw (ge-ltb out) refl
 
   pub edge-stored :
-      (i c j : ℕ) → m < 65535 → 3 + 3 * m + 3 ≤ length w →
-      set (set (set w (3 + 3 * m) c) (3 + 3 * m + 1) j) (3 + 3 * m + 2) i ≡ with-edge w m (an-edge i c j)
-  unfolding with-edge edge-room wide-range triple an-edge
+      (i c j : ℕ) → m < limits .records → 3 + 3 * m + 3 ≤ length w →
+      set (set (set w (3 + 3 * m) c) (3 + 3 * m + 1) j) (3 + 3 * m + 2) i ≡ with-edge limits w m (an-edge i c j)
+  unfolding with-edge edge-room triple an-edge
   edge-stored i c j l fits =
-      let inside : m < edge-room w = omega arith in rw (lt-ltb inside, add-one (3 + 3 * m), add-two (3 + 3 * m)) refl
+      let inside : m < edge-room limits w = omega arith in rw (lt-ltb inside, add-one (3 + 3 * m), add-two (3 + 3 * m)) refl
 
-pub count-stops : (m : ℕ) → 65535 ≤ m → 65536 ≡ one-more m
-unfolding one-more counted-to wide-range
-count-stops m l = omega arith
+pub count-stops : (limits : Limits) (m : ℕ) → limits .records ≤ m → limits .records + 1 ≡ one-more limits m
+unfolding one-more counted-to
+count-stops limits m l = omega arith
 
-pub count-more : (m : ℕ) → m < 65535 → m + 1 ≡ one-more m
-unfolding one-more counted-to wide-range
-count-more m l = omega arith
+pub count-more : (limits : Limits) (m : ℕ) → m < limits .records → m + 1 ≡ one-more limits m
+unfolding one-more counted-to
+count-more limits m l = omega arith

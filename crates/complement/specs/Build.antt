@@ -1,6 +1,6 @@
 -- What the build refuses, answers and leaves (document 01, "Refusals": the build uses 2 to 12). Assumes nothing: these are definitions.
 use mathlib.Core.Path.{_≡_}
-use mathlib.Core.Bool.{_||_, cond}
+use mathlib.Core.Bool.{Bool, _||_, cond}
 use mathlib.Core.List.{List}
 use Prim.Native.Nat.{ℕ, zero, suc, _+_, _*_}
 use lib.Dec.{ltb}
@@ -31,11 +31,14 @@ room-of l = record { words = length (l .words); records = full-records (l .sets)
 unfoldable pub words-needed : (states edges : ℕ) → ℕ
 words-needed n m = 3 + 2 * n + 3 * m
 
--- 11: more states than the lent records, or than a table can have; 12: more edges than it can have, or more words than are lent
+-- more edges than a table can have, or more words than are lent
+abbrev pub too-long : Limits → (words states edges : ℕ) → Bool
+too-long limits w n m = ltb (limits .records) m || ltb w (words-needed n m)
+
+-- 11: more states than the lent records, or than a table can have; 12: the table is too long
 unfoldable pub room-refusal : Limits → Room → (states edges : ℕ) → ℕ
-room-refusal l r n m =
-    cond (ltb (r .records) n || ltb (l .states) n) 11
-    (cond (ltb (l .records) m || ltb (r .words) (words-needed n m)) 12 0)
+room-refusal limits r n m =
+    cond (ltb (r .records) n || ltb (limits .states) n) 11 (cond (too-long limits (r .words) n m) 12 0)
 
 unfoldable pub build-refusal : List ℕ → Room → ℕ
 build-refusal t r =

@@ -1,6 +1,6 @@
--- Flags of the states, from their records (document 01, "The quadruple and its step": accepting where B is empty). Assumes nothing: these are
+-- Flags of the states, by a test of which accept (document 01, "The chained table": 1 initial, 2 accepting). Assumes nothing: these are
 -- definitions.
-use mathlib.Core.Bool.{cond}
+use mathlib.Core.Bool.{Bool, cond}
 use mathlib.Core.List.{List}
 use Prim.Native.Nat.{ℕ, zero, suc, _+_, _*_, _≤_}
 use lib.Dec.{ltb}
@@ -10,13 +10,17 @@ use Rattle.record_words.specs.Record.{full-records, quadruple-at}
 use Rattle.complement.specs.Build.{Lent}
 
 -- 1 initial, 2 accepting, 3 both; so many states are initial, and come first
-unfoldable pub flags-of-record : (sets-words : List ℕ) → (initial state : ℕ) → ℕ
-flags-of-record s k i = cond (ltb i k) 1 0 + cond (accepting (quadruple-at s i)) 2 0
+unfoldable pub state-flags : (accepts : ℕ → Bool) → (initial state : ℕ) → ℕ
+state-flags accepts k i = cond (ltb i k) 1 0 + cond (accepts i) 2 0
 
 -- the words once so many states have their flags
-unfoldable pub with-flags : (sets-words : List ℕ) → (initial states : ℕ) → (words : List ℕ) → List ℕ
-with-flags s k zero w = w
-with-flags s k (suc i) w = set (with-flags s k i w) (3 + 2 * i) (flags-of-record s k i)
+unfoldable pub with-flags : (accepts : ℕ → Bool) → (initial states : ℕ) → (words : List ℕ) → List ℕ
+with-flags accepts k zero w = w
+with-flags accepts k (suc i) w = set (with-flags accepts k i w) (3 + 2 * i) (state-flags accepts k i)
+
+-- the test that the records make: a state accepts where its quadruple does
+unfoldable pub record-accepts : (sets-words : List ℕ) → (state : ℕ) → Bool
+record-accepts s i = accepting (quadruple-at s i)
 
 -- the buffers have room for so many states
 pub record Flags-ask (l : Lent) (states : ℕ) : Type 0 where

@@ -2,18 +2,19 @@
 use crate::records;
 use ncsb::Quadruple;
 use patterns::Shape;
+use tables::WIDE_RECORDS;
 ghost use mathlib.Core.Path.{_≡_};
 ghost use mathlib.Core.List.{[]};
 ghost use Prim.Native.Nat.{_≤_};
 ghost use lib.ListN.{length};
 ghost use Rattle.sets.specs.Sets.{Narrow};
 ghost use Rattle.automata.specs.System.{an-edge, add-edge, add-all, by-letters};
-ghost use Rattle.ncsb.specs.Moves.{Moves};
-ghost use Rattle.ncsb.specs.Successors.{ncsb, successors, initials};
+ghost use Rattle.tables.specs.Table.{wide-range};
+ghost use Rattle.ncsb.specs.Successors.{same, ncsb, successors, initials};
 ghost use Rattle.record_words.specs.Record.{quadruple-at};
 ghost use Rattle.complement.specs.Build.{lent};
 ghost use Rattle.complement.specs.Records.{capacity};
-ghost use Rattle.complement.specs.Found.{with-edge, one-more, Placed, Turns, Step-asks, Expand-asks, array-moves, Begins, start-moves, Started, Explore-asks, Explored-to};
+ghost use Rattle.complement.specs.Found.{wide-quadruples, with-edge, one-more, Placed, Turns, Step-asks, Expand-asks, array-moves, Begins, start-moves, Started, Explore-asks, Explored-to};
 
 // What has been found: how many states and edges; or that there are more states than fit, with both counts zero.
 pub(crate) struct Progress {
@@ -24,11 +25,11 @@ pub(crate) struct Progress {
 
 // Keeps an edge behind so many others, if there is room for it. Answers their count, which stops one above what a table can have.
 fn keep_edge(words: &mut [u16], edges: usize, source: u16, letter: u16, target: u16) -> usize
-    ensures kept { λ _. ⌜ now (words .exit) ≡ with-edge (now (words .entry)) edges (an-edge source letter target) ⌝ }
-    ensures counted { λ r. ⌜ r ≡ one-more edges ⌝ }
+    ensures kept { λ _. ⌜ now (words .exit) ≡ with-edge wide-range (now (words .entry)) edges (an-edge source letter target) ⌝ }
+    ensures counted { λ r. ⌜ r ≡ one-more wide-range edges ⌝ }
 {
-    if edges >= 65535 {
-        return 65536;
+    if edges >= WIDE_RECORDS {
+        return WIDE_RECORDS + 1;
     }
     let at = 3 + 3 * edges;
     if at + 3 > words.len() {
@@ -42,8 +43,8 @@ fn keep_edge(words: &mut [u16], edges: usize, source: u16, letter: u16, target: 
 
 // The number of a quadruple among so many states. One that was not met before gets the next number, and is stored if there is room.
 fn place(sets: &mut [u32], states: usize, x: Quadruple) -> usize
-    requires { ⌜ states ≤ capacity (now sets) ⌝ }
-    ensures { λ r. ⌜ Placed (now (sets .entry)) states x (now (sets .exit)) r ⌝ }
+    requires { ⌜ states ≤ capacity wide-range (now sets) ⌝ }
+    ensures { λ r. ⌜ Placed wide-range (now (sets .entry)) states x (now (sets .exit)) r ⌝ }
 {
     let number = records::find(sets, states, x);
     if number < states {
@@ -64,9 +65,9 @@ fn meet(
     letter: usize,
     x: Quadruple,
 ) -> Progress
-    requires { ⌜ Step-asks (lent (now words) (now sets)) found source letter ⌝ }
-    ensures { λ r. ⌜ ((d : Moves) → Turns (add-edge (ncsb d) source letter x)
-        (lent (now (words .entry)) (now (sets .entry))) found (lent (now (words .exit)) (now (sets .exit))) r) ⌝ }
+    requires { ⌜ Step-asks wide-quadruples (lent (now words) (now sets)) found source letter ⌝ }
+    ensures { λ r. ⌜ Turns wide-quadruples (add-edge same source letter x)
+        (lent (now (words .entry)) (now (sets .entry))) found (lent (now (words .exit)) (now (sets .exit))) r ⌝ }
 {
     let states = found.states;
     let target = place(sets, states, x);
@@ -109,8 +110,8 @@ fn add_successors(
     x: Quadruple,
     letter: usize,
 ) -> Progress
-    requires { ⌜ Narrow (now masks) × Step-asks (lent (now words) (now sets)) found source letter ⌝ }
-    ensures { λ r. ⌜ Turns (add-all (ncsb (array-moves (now (masks .entry)) shape)) source letter (successors (array-moves (now (masks .entry)) shape) x letter))
+    requires { ⌜ Narrow (now masks) × Step-asks wide-quadruples (lent (now words) (now sets)) found source letter ⌝ }
+    ensures { λ r. ⌜ Turns wide-quadruples (add-all same source letter (successors (array-moves (now (masks .entry)) shape) x letter))
         (lent (now (words .entry)) (now (sets .entry))) found (lent (now (words .exit)) (now (sets .exit))) r ⌝ }
 {
     let asked = x.on_letter(masks, shape.marks, shape.inner, letter);
@@ -147,8 +148,8 @@ fn step(
     found: Progress,
     source: usize,
 ) -> Progress
-    requires { ⌜ Expand-asks (lent (now words) (now sets)) found source (shape .letters) ⌝ }
-    ensures { λ r. ⌜ Turns (by-letters (ncsb (array-moves masks shape)) (shape .letters) source (quadruple-at (now (sets .entry)) source))
+    requires { ⌜ Expand-asks wide-quadruples (lent (now words) (now sets)) found source (shape .letters) ⌝ }
+    ensures { λ r. ⌜ Turns wide-quadruples (by-letters (ncsb (array-moves masks shape)) (shape .letters) source (quadruple-at (now (sets .entry)) source))
         (lent (now (words .entry)) (now (sets .entry))) found (lent (now (words .exit)) (now (sets .exit))) r ⌝ }
 {
     let x = record_words::load(sets, source);
@@ -175,7 +176,7 @@ pub(crate) fn initial_count(shape: Shape) -> usize
 // Stores the initial quadruples, by rising choice. They all differ, so none has to be looked up.
 fn store_initials(shape: Shape, sets: &mut [u32]) -> Progress
     requires { ⌜ Begins [] (now sets) ⌝ }
-    ensures { λ r. ⌜ Started shape (now (sets .exit)) r ⌝ }
+    ensures { λ r. ⌜ Started wide-range shape (now (sets .exit)) r ⌝ }
 {
     let choices = initial_count(shape);
     if records::room(sets) < choices {

@@ -5,11 +5,11 @@ use layout::lay_out;
 use patterns::Reading;
 use patterns::Shape;
 use patterns::read_pattern;
+use tables::WIDE_RECORDS;
 ghost use Prim.Native.Nat.{_≤_};
 ghost use mathlib.Core.Path.{_≡_};
-ghost use mathlib.Core.Bool.{_||_};
-ghost use lib.Dec.{ltb};
-ghost use Rattle.complement.specs.Build.{lent, words-needed, Build-says, Refused-with};
+ghost use Rattle.tables.specs.Table.{wide-range};
+ghost use Rattle.complement.specs.Build.{lent, too-long, Build-says, Refused-with};
 ghost use Rattle.complement.specs.Found.{Of-pattern, Built-from};
 
 mod explore;
@@ -39,10 +39,10 @@ fn refuse(number: u32, words: &mut [u16], sets: &mut [u32]) -> Counts
 
 // More edges than a table can have, or more words than are lent.
 fn too_long(words: usize, states: usize, edges: usize) -> bool
-    requires { ⌜ states ≤ 65535 ⌝ }
-    ensures { λ r. ⌜ r ≡ (ltb 65535 edges || ltb words (words-needed states edges)) ⌝ }
+    requires { ⌜ states ≤ wide-range .states ⌝ }
+    ensures { λ r. ⌜ r ≡ too-long wide-range words states edges ⌝ }
 {
-    if edges > 65535 {
+    if edges > WIDE_RECORDS {
         return true;
     }
     3 + 2 * states + 3 * edges > words

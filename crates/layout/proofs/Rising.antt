@@ -38,7 +38,7 @@ rises-at (next l (next k r)) zero m = k
 rises-at (next l (next k r)) (suc e) m = rises-at (next k r) e (omega arith)
 
 module _ {X : Type 0} (s : System X) (all : List X) where
-  to-rises : (i c : ℕ) (ys : List X) → Rises i i (edges-to s all i c ys)
+  to-rises : (i c : ℕ) (ys : List X) → Rises i i (edges-to (s .same) all i c ys)
   unfolding edges-to an-edge
   to-rises i c [] = let l : i ≤ i = omega arith in none l
   to-rises i c (y ∷ ys) = let l : i ≤ i = omega arith in next l (to-rises i c ys)

@@ -8,16 +8,15 @@ use native.Mathlib.Omega.{arith}
 use lib.ListN.{length, getD, drop, drop-of-length-le}
 use lib.Seq.{drop-cons}
 use Rattle.automata.specs.System.{number-of}
-use Rattle.ncsb.specs.Moves.{Moves}
-use Rattle.ncsb.specs.Successors.{same, ncsb}
+use Rattle.ncsb.specs.Successors.{same}
 use Rattle.ncsb.specs.declared.Quadruple.{Quadruple}
 use Rattle.records.specs.Records.{blank, place-of}
 
 -- the place of a quadruple is the number that exploring gives it (document 01, "Numbering and result")
-pub place-number : (d : Moves) (x : Quadruple) (ys : List Quadruple) → place-of x ys ≡ number-of (ncsb d) x ys
-unfolding place-of number-of ncsb
-place-number d x [] = refl
-place-number d x (y ∷ ys) = ap (λ (k : ℕ). cond (same x y) 0 (suc k)) (place-number d x ys)
+pub place-number : (x : Quadruple) (ys : List Quadruple) → place-of x ys ≡ number-of same x ys
+unfolding place-of number-of
+place-number x [] = refl
+place-number x (y ∷ ys) = ap (λ (k : ℕ). cond (same x y) 0 (suc k)) (place-number x ys)
 
 -- what is left to scan, past the first k records, decides the place
 pub record Scanned (x : Quadruple) (ys : List Quadruple) (k : ℕ) : Type 0 where

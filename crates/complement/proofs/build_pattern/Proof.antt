@@ -5,9 +5,10 @@ use mathlib.Core.List.{List}
 use Prim.Native.Nat.{ℕ}
 use native.Mathlib.Omega.{arith}
 use borrow.Author.Needs.{needs}
+use Rattle.tables.specs.Table.{wide-range}
 use Rattle.complement.specs.Build.{Lent, lent}
 use Rattle.complement.specs.Complement.{complement}
-use Rattle.complement.specs.Found.{Shows, Read-off}
+use Rattle.complement.specs.Found.{wide-quadruples, Shows, Read-off}
 use Rattle.complement.proofs.Answers.{refused-states, refused-edges}
 use Rattle.complement.proofs.Finishing.{states-limit, built-asks, built-counts, built-flags, built-says}
 use Rattle.complement.proofs.Reaching.{Same-sizes, ends-within}
@@ -53,7 +54,7 @@ module _ (c : tie.Else1) where
 
   shows :
       (t : List ℕ) → Read-off t (begun .args .masks) (begun .args .shape) →
-      Shows (complement t) (left explored) (explored .explore .result)
+      Shows wide-quadruples (complement t) (left explored) (explored .explore .result)
   shows t read = ends-within (c .if1 .left) (explored .explore .ensures .ends t read)
 
 -- the table is not too long
@@ -149,6 +150,7 @@ set-flags-requires c κs =
     (laid .lay-out .ensures) (laid .lay-out .kept .0)
 
 cast-t34 : tie.Need-cast-t34
+unfolding wide-range
 cast-t34 c =
     let at = short (laid-out (c .before .before .before)) in
     let of = begun (fitting at) .pre in
@@ -156,6 +158,7 @@ cast-t34 c =
     omega arith
 
 cast-t35 : tie.Need-cast-t35
+unfolding wide-range
 cast-t35 c =
     let at = short (laid-out (c .before .before .before)) in
     let of = begun (fitting at) .pre in

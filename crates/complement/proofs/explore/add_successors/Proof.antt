@@ -2,21 +2,60 @@
 use mathlib.Core.Path.{_∙_}
 use Prim.Native.Nat.{_≤_, _-_}
 use native.Mathlib.Omega.{arith}
+use Rattle.tables.specs.Table.{wide-range}
 use Rattle.ncsb.specs.Array.{nth-successor}
+use Rattle.ncsb.specs.Successors.{same}
 use Rattle.ncsb.proofs.Choices.{choices-fit}
 use Rattle.complement.specs.Build.{lent}
-use Rattle.complement.specs.Found.{array-moves}
+use Rattle.complement.specs.Found.{wide-quadruples}
 use Rattle.complement.proofs.Letters.{Choosing, choose-start, choose-asks, choose-turn, letter-blocked, letter-full, letter-end}
+use Rattle.complement.proofs.Reaching.{Same-sizes}
 use Rattle.complement.proofs.explore.add_successors.Statement.{statement}
 use Rattle.complement.proofs.explore.add_successors.Tie as tie
 
 abbrev Inv-loop : tie.InvT-loop
 Inv-loop masks words₀ sets₀ source x letter asked choices progress₀ choice₀ words sets progress choice =
-    (choice ≤ choices) × Choosing (nth-successor x asked) source letter (lent words₀ sets₀) progress₀ (lent words sets) progress choice
+    (choice ≤ choices)
+    × Choosing wide-quadruples same (nth-successor x asked) source letter (lent words₀ sets₀) progress₀ (lent words sets) progress choice
 
 abbrev μ-loop : tie.MeasureT-loop
 μ-loop masks words₀ sets₀ source x letter asked choices progress₀ choice₀ words sets progress choice = choices - choice
 
+-- THE PLACES
+-- whether the letter is blocked is known
+module _ (c : tie.After-blocked Inv-loop μ-loop) where
+  abbrev worked-out : tie.After-on-letter Inv-loop μ-loop
+  worked-out = c .before
+
+  abbrev start : tie.Start Inv-loop μ-loop
+  start = worked-out .before .before .before
+
+-- before a choice
+module _ (c : tie.At-loop Inv-loop μ-loop) where
+  abbrev counted : tie.After-choices Inv-loop μ-loop
+  counted = c .before
+
+  abbrev goes : tie.Else1 Inv-loop μ-loop
+  goes = counted .before
+
+  abbrev tested : tie.After-blocked Inv-loop μ-loop
+  tested = goes .before
+
+-- its successor is met
+module _ (c : tie.After-meet Inv-loop μ-loop) where
+  abbrev chosen : tie.After-successor Inv-loop μ-loop
+  chosen = c .before
+
+  abbrev one : tie.In-loop Inv-loop μ-loop
+  one = chosen .before .before .before
+
+  abbrev turn : tie.At-loop Inv-loop μ-loop
+  turn = one .before
+
+  sizes : Same-sizes (lent (c .meet .last .0) (c .meet .last .1 .0)) (lent (turn .loop .words) (turn .loop .sets))
+  sizes = record { words = c .meet .kept .0; sets = c .meet .kept .1 .0 }
+
+-- THE NEEDS
 on-letter-requires : tie.Need-on-letter-requires Inv-loop μ-loop
 on-letter-requires c κs = c .before .before .pre .0
 
@@ -25,7 +64,10 @@ blocked-requires c κs = c .before .before .before .pre .0
 
 returns : tie.Need-returns Inv-loop μ-loop
 returns c =
-    letter-blocked (c .before .before .before .before .before .args .masks .now) (c .before .before .before .before .before .args .shape) (c .before .before .before .before .before .args .x) (c .before .before .before .before .before .args .source) (c .before .before .before .before .before .args .letter) (c .before .before .on-letter .ensures) (c .before .blocked .ensures) (c .if1 .taken)
+    let at = c .before in
+    let args = start at .args in
+    letter-blocked wide-range (args .masks .now) (args .shape) (args .x) (args .source) (args .letter) (worked-out at .on-letter .ensures)
+    (at .blocked .ensures) (c .if1 .taken)
 
 choices-requires : tie.Need-choices-requires Inv-loop μ-loop
 choices-requires c κs = tt
@@ -35,27 +77,35 @@ loop-holds c = (omega arith, choose-start)
 
 cast-successor : tie.Need-cast-successor Inv-loop μ-loop
 cast-successor c =
-    let e = c .before .before .before .before .choices .ensures in
-    let l = c .before .before .loop-test .taken in
-    let h = choices-fit (c .before .before .before .before .before .before .before .on-letter .result .free) in omega arith
+    let at = c .before .before in
+    let l = at .loop-test .taken in
+    let e = counted (at .before) .choices .ensures in
+    let h = choices-fit (worked-out (tested (at .before)) .on-letter .result .free) in omega arith
 
 successor-requires : tie.Need-successor-requires Inv-loop μ-loop
 successor-requires c κs = tt
 
 meet-requires : tie.Need-meet-requires Inv-loop μ-loop
 meet-requires c κs =
-    choose-asks (c .before .before .before .before .loop .inv .1) (array-moves (c .before .before .before .before .before .before .before .before .before .before .before .args .masks .now) (c .before .before .before .before .before .before .before .before .before .before .before .args .shape)) (c .before .before .before .before .before .before .before .before .before .before .before .pre .1)
+    let at = c .before .before .before .before in choose-asks (at .loop .inv .1) (start (tested at) .pre .1)
 
 same-length : tie.Need-same-length Inv-loop μ-loop
-same-length c = c .before .before .before .before .before .meet .kept .0 ∙ (c .before .before .before .before .before .before .before .before .before .before .loop .inv .1 .sizes .words)
+same-length c =
+    let at = c .before .before .before .before .before in sizes at .words ∙ turn at .loop .inv .1 .reaching .sizes .words
 
 same-length-2 : tie.Need-same-length-2 Inv-loop μ-loop
-same-length-2 c = c .before .before .before .before .before .meet .kept .1 .0 ∙ (c .before .before .before .before .before .before .before .before .before .before .loop .inv .1 .sizes .sets)
+same-length-2 c =
+    let at = c .before .before .before .before .before in sizes at .sets ∙ turn at .loop .inv .1 .reaching .sizes .sets
 
 returns-2 : tie.Need-returns-2 Inv-loop μ-loop
 returns-2 c =
-    letter-full (c .before .before .before .before .before .before .before .before .before .before .before .before .before .before .before .before .before .args .masks .now) (c .before .before .before .before .before .before .before .before .before .before .before .before .before .before .before .before .before .args .shape) (c .before .before .before .before .before .before .before .before .before .before .before .before .before .before .before .before .before .args .x) (c .before .before .before .before .before .before .before .before .before .before .before .before .before .before .before .before .before .args .source) (c .before .before .before .before .before .before .before .before .before .before .before .before .before .before .before .before .before .args .letter) (c .before .before .before .before .before .before .before .before .before .before .before .before .before .before .on-letter .ensures) (c .before .before .before .before .before .before .before .before .before .before .before .before .before .blocked .ensures) (c .before .before .before .before .before .before .before .before .before .before .before .before .if1 .left) (c .before .before .before .before .before .before .before .before .before .before .before .choices .ensures)
-    (c .before .before .before .before .before .before .before .before .before .before .loop .inv .1) (c .before .before .before .before .before .before .successor .ensures) (c .before .before .before .before .before .meet .ensures) (c .before .before .before .before .before .before .before .before .before .loop-test .taken) (c .if2 .taken)
+    let at = c .before .before .before .before .before in
+    let before = turn at in
+    let args = start (tested before) .args in
+    letter-full wide-range (args .masks .now) (args .shape) (args .x) (args .source) (args .letter)
+    (worked-out (tested before) .on-letter .ensures) (tested before .blocked .ensures) (goes before .if1 .left)
+    (counted before .choices .ensures) (before .loop .inv .1) (chosen at .successor .ensures) (at .meet .ensures)
+    (one at .loop-test .taken) (c .if2 .taken)
 
 add-choice : tie.Need-add-choice Inv-loop μ-loop
 add-choice c = omega arith
@@ -64,21 +114,25 @@ loop-less : tie.Need-loop-less Inv-loop μ-loop
 loop-less c = omega arith
 
 loop-again : tie.Need-loop-again Inv-loop μ-loop
-loop-again c = (
-  omega arith,
-  choose-turn (c .before .before .before .before .before .before .before .before .before .before .loop .inv .1) (λ d. rw (c .before .before .before .before .before .before .successor .ensures) at ((c .before .before .before .before .before .meet .ensures) d)) (record { words = c .before .before .before .before .before .meet .kept .0; sets = c .before .before .before .before .before .meet .kept .1 .0 }) (c .if2 .left),
-)
+loop-again c =
+    let at = c .before .before .before .before .before in (
+      omega arith,
+      choose-turn (turn at .loop .inv .1) (rw (chosen at .successor .ensures) at (at .meet .ensures)) (sizes at) (c .if2 .left),
+    )
 
 same-length-3 : tie.Need-same-length-3 Inv-loop μ-loop
-same-length-3 c = c .before .loop .inv .1 .sizes .words
+same-length-3 c = c .before .loop .inv .1 .reaching .sizes .words
 
 same-length-4 : tie.Need-same-length-4 Inv-loop μ-loop
-same-length-4 c = c .before .loop .inv .1 .sizes .sets
+same-length-4 c = c .before .loop .inv .1 .reaching .sizes .sets
 
 returns-3 : tie.Need-returns-3 Inv-loop μ-loop
 returns-3 c =
-    letter-end (c .before .before .before .before .before .before .before .before .args .masks .now) (c .before .before .before .before .before .before .before .before .args .shape) (c .before .before .before .before .before .before .before .before .args .x) (c .before .before .before .before .before .before .before .before .args .source) (c .before .before .before .before .before .before .before .before .args .letter) (c .before .before .before .before .before .on-letter .ensures) (c .before .before .before .before .blocked .ensures) (c .before .before .before .if1 .left) (c .before .before .choices .ensures)
-    (c .before .loop .inv .1) (c .before .loop .inv .0) (c .loop-test .left)
+    let at = c .before in
+    let args = start (tested at) .args in
+    letter-end wide-range (args .masks .now) (args .shape) (args .x) (args .source) (args .letter)
+    (worked-out (tested at) .on-letter .ensures) (tested at .blocked .ensures) (goes at .if1 .left) (counted at .choices .ensures)
+    (at .loop .inv .1) (at .loop .inv .0) (c .loop-test .left)
 
 pub add-successors-spec : {M : Type 1} → statement M
 add-successors-spec =

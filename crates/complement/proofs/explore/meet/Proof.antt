@@ -1,11 +1,33 @@
 -- `meet` adds an edge to a successor, and the successor if it is new. Assumes nothing.
 use native.Mathlib.Omega.{arith}
+use Rattle.tables.specs.Table.{wide-range}
 use Rattle.complement.specs.Found.{overfull}
-use Rattle.complement.proofs.Meeting.{capacity-limit, meet-full, meet-known, meet-new}
+use Rattle.complement.proofs.Kept.{capacity-limit}
+use Rattle.complement.proofs.Meeting.{meet-full, meet-known, meet-new}
 use borrow.Author.Needs.{needs}
 use Rattle.complement.proofs.explore.meet.Statement.{statement}
 use Rattle.complement.proofs.explore.meet.Tie as tie
 
+-- THE PLACES
+-- the room is known
+module _ (c : tie.After-room) where
+  abbrev placed : tie.After-place
+  placed = c .before .before .before .before
+
+  abbrev start : tie.Start
+  start = placed .before .before .before .before
+
+-- there is room
+module _ (c : tie.Else1) where
+  abbrev roomy : tie.After-room
+  roomy = c .before
+
+-- the edge is kept
+module _ (c : tie.After-keep-edge) where
+  abbrev fits : tie.Else1
+  fits = c .before .before
+
+-- THE NEEDS
 place-requires : tie.Need-place-requires
 place-requires c κs = search needs
 
@@ -17,16 +39,30 @@ same-length c = search needs
 
 returns : tie.Need-returns
 unfolding overfull
-returns c = λ d. meet-full d _ _ _ {p = c .before .before .before .before .before .before .before .before .before .args .found} (c .before .before .before .before .before .place .ensures) _ (c .before .room .ensures) (c .if1 .taken)
+returns c =
+    let at = c .before in
+    meet-full wide-range _ _ _ {p = start at .args .found} (placed at .place .ensures) _ (at .room .ensures) (c .if1 .taken)
 
 cast-keep-edge : tie.Need-cast-keep-edge
-cast-keep-edge c = let l = c .before .before .before .before .before .before .before .before .before .before .pre .inside in let m = c .before .before .before .before .before .before .before .before .before .before .pre .shows .states .fits in let e = c .before .before .before .before .before .before .before .before .before .before .pre .shows .states .counted in let h = capacity-limit (c .before .before .before .before .before .before .before .before .before .before .args .sets .now) in omega arith
+unfolding wide-range
+cast-keep-edge c =
+    let begun = start (roomy (c .before)) in
+    let asked = begun .pre in
+    let inside = asked .inside in
+    let count = asked .shows .states .counted in
+    let most = asked .shows .states .fits in
+    let limit = capacity-limit wide-range (begun .args .sets .now) in omega arith
 
 cast-keep-edge-2 : tie.Need-cast-keep-edge-2
 cast-keep-edge-2 c = search needs
 
 cast-keep-edge-3 : tie.Need-cast-keep-edge-3
-cast-keep-edge-3 c = let l = c .before .if1 .left in let e = c .before .before .room .ensures in let h = capacity-limit (c .before .before .before .before .before .before .place .last .0) in omega arith
+unfolding wide-range
+cast-keep-edge-3 c =
+    let at = roomy (c .before) in
+    let inside = c .before .if1 .left in
+    let room = at .room .ensures in
+    let limit = capacity-limit wide-range (placed at .place .last .0) in omega arith
 
 keep-edge-requires : tie.Need-keep-edge-requires
 keep-edge-requires c κs = search needs
@@ -38,7 +74,10 @@ same-length-3 : tie.Need-same-length-3
 same-length-3 c = search needs
 
 returns-2 : tie.Need-returns-2
-returns-2 c = λ d. meet-known d _ _ _ (c .before .before .before .before .before .before .before .before .before .before .place .ensures) (c .if2 .taken) (c .before .before .before .keep-edge .ensures .0) (c .before .before .before .keep-edge .ensures .1)
+returns-2 c =
+    let kept = c .before .before .before in
+    meet-known wide-range _ _ _ (placed (roomy (fits kept)) .place .ensures) (c .if2 .taken) (kept .keep-edge .ensures .0)
+    (kept .keep-edge .ensures .1)
 
 add-t12 : tie.Need-add-t12
 add-t12 c = search needs
@@ -50,7 +89,11 @@ same-length-5 : tie.Need-same-length-5
 same-length-5 c = search needs
 
 returns-3 : tie.Need-returns-3
-returns-3 c = λ d. meet-new d _ _ _ (c .before .before .before .before .before .before .before .before .before .before .place .ensures) _ (c .before .before .before .before .before .before .room .ensures) (c .before .before .before .before .before .if1 .left) (c .if2 .left) (c .before .before .before .keep-edge .ensures .0) (c .before .before .before .keep-edge .ensures .1)
+returns-3 c =
+    let kept = c .before .before .before in
+    let at = roomy (fits kept) in
+    meet-new wide-range _ _ _ (placed at .place .ensures) _ (at .room .ensures) (fits kept .if1 .left) (c .if2 .left)
+    (kept .keep-edge .ensures .0) (kept .keep-edge .ensures .1)
 
 pub meet-spec : {M : Type 1} → statement M
 meet-spec =

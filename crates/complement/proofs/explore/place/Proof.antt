@@ -2,15 +2,32 @@
 use mathlib.Core.Path.{refl}
 use Prim.Native.Nat.{suc}
 use native.Mathlib.Omega.{arith}
+use Rattle.tables.specs.Table.{wide-range}
 use Rattle.complement.specs.Found.{known, fresh, left-out}
-use Rattle.complement.proofs.Lookup.{looked-all}
 use Rattle.complement.proofs.Kept.{capacity-full}
+use Rattle.complement.proofs.Lookup.{looked-all}
 use borrow.Author.Needs.{needs}
 use Rattle.complement.proofs.explore.place.Statement.{statement}
 use Rattle.complement.proofs.explore.place.Tie as tie
 
+-- THE PLACES
+-- it is looked up
+module _ (c : tie.After-find) where
+  abbrev start : tie.Start
+  start = c .before .before .before
+
+-- it is new, and the room is known
+module _ (c : tie.After-room) where
+  abbrev new : tie.Else1
+  new = c .before .before
+
+  abbrev looked : tie.After-find
+  looked = new .before
+
+-- THE NEEDS
 find-requires : tie.Need-find-requires
-find-requires c κs = capacity-full (c .before .before .args .sets .now) (c .before .before .args .states) (c .before .before .pre)
+find-requires c κs =
+    let begun = c .before .before in capacity-full wide-range (begun .args .sets .now) (begun .args .states) (begun .pre)
 
 same-length : tie.Need-same-length
 same-length c = search needs
@@ -23,25 +40,31 @@ room-requires c κs = search needs
 
 store-requires : tie.Need-store-requires
 store-requires c κs =
+    let at = c .before .before in
+    let args = start (looked at) .args in
     let l = c .before .if2 .taken in
-    let e = c .before .before .room .ensures in
-    capacity-full (c .before .before .before .before .before .before .before .before .args .sets .now) (suc (c .before .before .before .before .before .before .before .before .args .states)) (omega arith)
+    let e = at .room .ensures in capacity-full wide-range (args .sets .now) (suc (args .states)) (omega arith)
 
 same-length-2 : tie.Need-same-length-2
 same-length-2 c = search needs
 
 returns-2 : tie.Need-returns-2
 returns-2 c =
-    let l = c .before .before .before .before .if2 .taken in
-    let e = c .before .before .before .before .before .room .ensures in fresh refl (looked-all (c .before .before .before .before .before .before .before .before .find .ensures) (c .before .before .before .before .before .before .before .if1 .left)) (omega arith) (c .before .before .store .ensures)
+    let stored = c .before .before in
+    let roomy = stored .before .before in
+    let at = roomy .before in
+    let l = roomy .if2 .taken in
+    let e = at .room .ensures in
+    fresh refl (looked-all _ _ (looked at .find .ensures) (new at .if1 .left)) (omega arith) (stored .store .ensures)
 
 same-length-3 : tie.Need-same-length-3
 same-length-3 c = search needs
 
 returns-3 : tie.Need-returns-3
 returns-3 c =
+    let at = c .before in
     let l = c .if2 .left in
-    let e = c .before .room .ensures in left-out refl (looked-all (c .before .before .before .before .find .ensures) (c .before .before .before .if1 .left)) (omega arith) refl
+    let e = at .room .ensures in left-out refl (looked-all _ _ (looked at .find .ensures) (new at .if1 .left)) (omega arith) refl
 
 pub place-spec : {M : Type 1} → statement M
 place-spec =

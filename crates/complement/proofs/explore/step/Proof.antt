@@ -3,20 +3,45 @@ use mathlib.Core.Path.{_∙_}
 use Prim.Native.Nat.{_≤_, _-_}
 use native.Mathlib.Omega.{arith}
 use Rattle.sets.proofs.Grid.{narrow}
+use Rattle.ncsb.specs.Successors.{ncsb}
 use Rattle.complement.specs.Build.{lent}
-use Rattle.complement.specs.Found.{array-moves}
+use Rattle.complement.specs.Found.{wide-quadruples, array-moves}
 use Rattle.complement.proofs.Letters.{Spelling, spell-start, spell-asks, spell-turn, spell-full, spell-end, expand-load}
+use Rattle.complement.proofs.Reaching.{Same-sizes}
 use Rattle.complement.proofs.explore.step.Statement.{statement}
 use Rattle.complement.proofs.explore.step.Tie as tie
 
 abbrev Inv-loop : tie.InvT-loop
 Inv-loop shape words₀ sets₀ source masks x letters progress₀ letter₀ words sets progress letter =
     (letter ≤ letters)
-    × Spelling (array-moves masks shape) source x (lent words₀ sets₀) progress₀ (lent words sets) progress letter
+    × Spelling wide-quadruples (ncsb (array-moves masks shape)) source x (lent words₀ sets₀) progress₀ (lent words sets) progress letter
 
 abbrev μ-loop : tie.MeasureT-loop
 μ-loop shape words₀ sets₀ source masks x letters progress₀ letter₀ words sets progress letter = letters - letter
 
+-- THE PLACES
+-- before a letter
+module _ (c : tie.At-loop Inv-loop μ-loop) where
+  abbrev loaded : tie.After-load Inv-loop μ-loop
+  loaded = c .before
+
+  abbrev start : tie.Start Inv-loop μ-loop
+  start = loaded .before .before .before .before
+
+-- its edges are added
+module _ (c : tie.After-add-successors Inv-loop μ-loop) where
+  abbrev one : tie.In-loop Inv-loop μ-loop
+  one = c .before .before .before .before
+
+  abbrev turn : tie.At-loop Inv-loop μ-loop
+  turn = one .before
+
+  sizes :
+      Same-sizes (lent (c .add-successors .last .1 .1 .0) (c .add-successors .last .1 .1 .1 .0))
+      (lent (turn .loop .words) (turn .loop .sets))
+  sizes = record { words = c .add-successors .kept .1 .1 .0; sets = c .add-successors .kept .1 .1 .1 .0 }
+
+-- THE NEEDS
 load-requires : tie.Need-load-requires Inv-loop μ-loop
 load-requires c κs = expand-load (c .before .before .before .pre)
 
@@ -25,19 +50,25 @@ loop-holds c = (omega arith, spell-start)
 
 add-successors-requires : tie.Need-add-successors-requires Inv-loop μ-loop
 add-successors-requires c κs =
-    let start = c .before .before .before .before .before .before .before .before .before in
-    (narrow (start .args .t1) _ (start .good .0), spell-asks (c .before .before .before .before .loop .inv .1) (c .before .before .before .loop-test .taken) (start .pre))
+    let at = c .before .before .before in
+    let begun = start (at .before) in
+    (narrow (begun .args .t1) _ (begun .good .0), spell-asks (at .before .loop .inv .1) (at .loop-test .taken) (begun .pre))
 
 same-length : tie.Need-same-length Inv-loop μ-loop
-same-length c = c .before .before .before .before .before .add-successors .kept .1 .1 .0 ∙ (c .before .before .before .before .before .before .before .before .before .before .loop .inv .1 .reaching .sizes .words)
+same-length c =
+    let at = c .before .before .before .before .before in sizes at .words ∙ turn at .loop .inv .1 .reaching .sizes .words
 
 same-length-2 : tie.Need-same-length-2 Inv-loop μ-loop
-same-length-2 c = c .before .before .before .before .before .add-successors .kept .1 .1 .1 .0 ∙ (c .before .before .before .before .before .before .before .before .before .before .loop .inv .1 .reaching .sizes .sets)
+same-length-2 c =
+    let at = c .before .before .before .before .before in sizes at .sets ∙ turn at .loop .inv .1 .reaching .sizes .sets
 
 returns : tie.Need-returns Inv-loop μ-loop
+unfolding ncsb
 returns c =
-    rw (← (c .before .before .before .before .before .before .before .before .before .before .before .load .ensures))
-    (spell-full (c .before .before .before .before .before .before .before .before .before .before .loop .inv .1) (c .before .before .before .before .before .add-successors .ensures) (c .before .before .before .before .before .before .before .before .before .before .before .before .before .before .before .args .shape .letters) (c .before .before .before .before .before .before .before .before .before .loop-test .taken) (c .if1 .taken))
+    let at = c .before .before .before .before .before in
+    rw (← loaded (turn at) .load .ensures)
+    (spell-full (turn at .loop .inv .1) (at .add-successors .ensures) (start (turn at) .args .shape .letters) (one at .loop-test .taken)
+    (c .if1 .taken))
 
 add-letter : tie.Need-add-letter Inv-loop μ-loop
 add-letter c = omega arith
@@ -46,10 +77,10 @@ loop-less : tie.Need-loop-less Inv-loop μ-loop
 loop-less c = omega arith
 
 loop-again : tie.Need-loop-again Inv-loop μ-loop
-loop-again c = (
-  omega arith,
-  spell-turn (c .before .before .before .before .before .before .before .before .before .before .loop .inv .1) (c .before .before .before .before .before .add-successors .ensures) (record { words = c .before .before .before .before .before .add-successors .kept .1 .1 .0; sets = c .before .before .before .before .before .add-successors .kept .1 .1 .1 .0 }) (c .if1 .left),
-)
+unfolding ncsb
+loop-again c =
+    let at = c .before .before .before .before .before in
+    (omega arith, spell-turn (turn at .loop .inv .1) (at .add-successors .ensures) (sizes at) (c .if1 .left))
 
 same-length-3 : tie.Need-same-length-3 Inv-loop μ-loop
 same-length-3 c = c .before .loop .inv .1 .reaching .sizes .words
@@ -59,7 +90,9 @@ same-length-4 c = c .before .loop .inv .1 .reaching .sizes .sets
 
 returns-2 : tie.Need-returns-2 Inv-loop μ-loop
 returns-2 c =
-    rw (← (c .before .before .load .ensures)) (spell-end (c .before .loop .inv .1) (c .before .before .before .before .before .before .args .shape .letters) (c .before .loop .inv .0) (c .loop-test .left))
+    let at = c .before in
+    rw (← loaded at .load .ensures)
+    (spell-end (at .loop .inv .1) (start at .args .shape .letters) (at .loop .inv .0) (c .loop-test .left))
 
 pub step-spec : {M : Type 1} → statement M
 step-spec =

@@ -2,17 +2,36 @@
 use mathlib.Core.Path.{refl}
 use Prim.Native.Nat.{_≤_, _-_}
 use native.Mathlib.Omega.{arith}
+use Rattle.tables.specs.Table.{wide-range}
 use Rattle.complement.specs.Found.{overfull}
 use Rattle.complement.proofs.Starting.{Storing, start-fits, start-full, store-start, store-asks, store-turn, store-end}
 use Rattle.complement.proofs.explore.store_initials.Statement.{statement}
 use Rattle.complement.proofs.explore.store_initials.Tie as tie
 
 abbrev Inv-loop : tie.InvT-loop
-Inv-loop shape sets₀ choices choice₀ sets choice = (choice ≤ choices) × Storing shape sets₀ sets choice
+Inv-loop shape sets₀ choices choice₀ sets choice = (choice ≤ choices) × Storing wide-range shape sets₀ sets choice
 
 abbrev μ-loop : tie.MeasureT-loop
 μ-loop shape sets₀ choices choice₀ sets choice = choices - choice
 
+-- THE PLACES
+-- the room is known
+module _ (c : tie.After-room Inv-loop μ-loop) where
+  abbrev counted : tie.After-initial-count Inv-loop μ-loop
+  counted = c .before .before
+
+  abbrev start : tie.Start Inv-loop μ-loop
+  start = counted .before .before
+
+-- before a choice
+module _ (c : tie.At-loop Inv-loop μ-loop) where
+  abbrev roomy : tie.Else1 Inv-loop μ-loop
+  roomy = c .before
+
+  abbrev measured : tie.After-room Inv-loop μ-loop
+  measured = roomy .before
+
+-- THE NEEDS
 initial-count-requires : tie.Need-initial-count-requires Inv-loop μ-loop
 initial-count-requires c κs = tt
 
@@ -24,20 +43,34 @@ same-length c = refl
 
 returns : tie.Need-returns Inv-loop μ-loop
 unfolding overfull
-returns c = start-full (c .before .before .before .before .before .args .shape) (c .before .before .before .initial-count .ensures) (c .before .room .ensures) (c .if1 .taken) refl
+returns c =
+    let at = c .before in
+    start-full wide-range (start at .args .shape) (counted at .initial-count .ensures) (at .room .ensures) (c .if1 .taken) refl
 
 loop-holds : tie.Need-loop-holds Inv-loop μ-loop
-loop-holds c = (omega arith, store-start (c .before .before .before .before .before .args .shape) (c .before .before .before .initial-count .ensures) (c .before .before .before .before .before .pre))
+loop-holds c =
+    let at = c .before in
+    (omega arith, store-start wide-range (start at .args .shape) (counted at .initial-count .ensures) (start at .pre))
 
 cast-initial : tie.Need-cast-initial Inv-loop μ-loop
-cast-initial c = record { fits = start-fits (c .before .before .before .before .before .before .before .args .shape) (c .before .before .before .before .before .initial-count .ensures) (c .before .loop .choice) (c .loop-test .taken) }
+cast-initial c =
+    let at = measured (c .before) in
+    record {
+      fits =
+          start-fits wide-range (start at .args .shape) (counted at .initial-count .ensures) (c .before .loop .choice)
+          (c .loop-test .taken);
+    }
 
 initial-requires : tie.Need-initial-requires Inv-loop μ-loop
 initial-requires c κs = tt
 
 store-requires : tie.Need-store-requires Inv-loop μ-loop
 store-requires c κs =
-    store-asks (c .before .before .before .before .before .before .before .before .before .args .shape) (c .before .before .before .before .before .before .before .initial-count .ensures) (c .before .before .before .loop .inv .1) (c .before .before .loop-test .taken) (c .before .before .before .before .before .room .ensures) (c .before .before .before .before .if1 .left)
+    let one = c .before .before in
+    let turn = one .before in
+    let at = measured turn in
+    store-asks wide-range (start at .args .shape) (counted at .initial-count .ensures) (turn .loop .inv .1) (one .loop-test .taken)
+    (at .room .ensures) (roomy turn .if1 .left)
 
 add-choice : tie.Need-add-choice Inv-loop μ-loop
 add-choice c = omega arith
@@ -46,18 +79,26 @@ loop-less : tie.Need-loop-less Inv-loop μ-loop
 loop-less c = omega arith
 
 loop-again : tie.Need-loop-again Inv-loop μ-loop
-loop-again c = (
-  omega arith,
-  store-turn (c .before .before .before .before .before .before .before .before .before .before .before .before .args .shape) (c .before .before .before .before .before .before .before .before .before .before .initial-count .ensures) (c .before .before .before .before .before .before .loop .inv .1) (c .before .before .before .before .before .loop-test .taken) (c .before .before .before .before .before .before .before .before .room .ensures) (c .before .before .before .before .before .before .before .if1 .left) (c .before .before .before .before .initial .ensures)
-      (c .before .before .store .ensures) (c .before .before .store .kept .0),
-)
+loop-again c =
+    let stored = c .before .before in
+    let chosen = stored .before .before in
+    let one = chosen .before in
+    let turn = one .before in
+    let at = measured turn in (
+      omega arith,
+      store-turn wide-range (start at .args .shape) (counted at .initial-count .ensures) (turn .loop .inv .1) (one .loop-test .taken)
+          (at .room .ensures) (roomy turn .if1 .left) (chosen .initial .ensures) (stored .store .ensures) (stored .store .kept .0),
+    )
 
 same-length-2 : tie.Need-same-length-2 Inv-loop μ-loop
 same-length-2 c = c .before .loop .inv .1 .size
 
 returns-2 : tie.Need-returns-2 Inv-loop μ-loop
 returns-2 c =
-    store-end (c .before .before .before .before .before .before .before .args .shape) (c .before .before .before .before .before .initial-count .ensures) (c .before .loop .inv .1) (c .before .loop .inv .0) (c .loop-test .left) refl refl refl
+    let turn = c .before in
+    let at = measured turn in
+    store-end wide-range (start at .args .shape) (counted at .initial-count .ensures) (turn .loop .inv .1) (turn .loop .inv .0)
+    (c .loop-test .left) refl refl refl
 
 pub store-initials-spec : {M : Type 1} → statement M
 store-initials-spec =

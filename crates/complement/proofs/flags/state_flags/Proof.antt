@@ -1,8 +1,15 @@
 -- `state_flags` reads a state's flags off its number and its record. Assumes nothing.
-use Rattle.complement.proofs.Flagged.{flags-both, flags-initial, flags-accepting, flags-none}
+use mathlib.Core.Path.{_∙_}
+use Rattle.complement.specs.Flags.{record-accepts}
+use Rattle.complement.proofs.Flagged.{accepts-loaded, flags-both, flags-initial, flags-accepting, flags-none}
 use borrow.Author.Needs.{needs}
 use Rattle.complement.proofs.flags.state_flags.Statement.{statement}
 use Rattle.complement.proofs.flags.state_flags.Tie as tie
+
+-- the record is loaded
+module _ (c : tie.After-load) where
+  abbrev start : tie.Start
+  start = c .before .before
 
 load-requires : tie.Need-load-requires
 load-requires c κs = search needs
@@ -11,19 +18,39 @@ accepting-requires : tie.Need-accepting-requires
 accepting-requires c κs = search needs
 
 returns : tie.Need-returns
-returns c = flags-both (c .before .before .before .before .before .args .sets .now) (c .before .before .before .before .before .args .initial) (c .before .before .before .before .before .args .state) (c .before .before .before .load .ensures) (c .before .accepting .ensures) (c .before .before .if1 .taken) (c .if2 .taken)
+returns c =
+    let tested = c .before in
+    let first = tested .before in
+    let args = start (first .before) .args in
+    flags-both (record-accepts (args .sets .now)) (args .initial) (args .state) (first .if1 .taken)
+    (accepts-loaded (args .sets .now) (args .state) (first .before .load .ensures) (tested .accepting .ensures) ∙ c .if2 .taken)
 
 returns-2 : tie.Need-returns-2
-returns-2 c = flags-initial (c .before .before .before .before .before .args .sets .now) (c .before .before .before .before .before .args .initial) (c .before .before .before .before .before .args .state) (c .before .before .before .load .ensures) (c .before .accepting .ensures) (c .before .before .if1 .taken) (c .if2 .left)
+returns-2 c =
+    let tested = c .before in
+    let first = tested .before in
+    let args = start (first .before) .args in
+    flags-initial (record-accepts (args .sets .now)) (args .initial) (args .state) (first .if1 .taken)
+    (accepts-loaded (args .sets .now) (args .state) (first .before .load .ensures) (tested .accepting .ensures) ∙ c .if2 .left)
 
 accepting-requires-2 : tie.Need-accepting-requires-2
 accepting-requires-2 c κs = search needs
 
 returns-3 : tie.Need-returns-3
-returns-3 c = flags-accepting (c .before .before .before .before .before .args .sets .now) (c .before .before .before .before .before .args .initial) (c .before .before .before .before .before .args .state) (c .before .before .before .load .ensures) (c .before .accepting2 .ensures) (c .before .before .if1 .left) (c .if3 .taken)
+returns-3 c =
+    let tested = c .before in
+    let later = tested .before in
+    let args = start (later .before) .args in
+    flags-accepting (record-accepts (args .sets .now)) (args .initial) (args .state) (later .if1 .left)
+    (accepts-loaded (args .sets .now) (args .state) (later .before .load .ensures) (tested .accepting2 .ensures) ∙ c .if3 .taken)
 
 returns-4 : tie.Need-returns-4
-returns-4 c = flags-none (c .before .before .before .before .before .args .sets .now) (c .before .before .before .before .before .args .initial) (c .before .before .before .before .before .args .state) (c .before .before .before .load .ensures) (c .before .accepting2 .ensures) (c .before .before .if1 .left) (c .if3 .left)
+returns-4 c =
+    let tested = c .before in
+    let later = tested .before in
+    let args = start (later .before) .args in
+    flags-none (record-accepts (args .sets .now)) (args .initial) (args .state) (later .if1 .left)
+    (accepts-loaded (args .sets .now) (args .state) (later .before .load .ensures) (tested .accepting2 .ensures) ∙ c .if3 .left)
 
 pub state-flags-spec : {M : Type 1} → statement M
 state-flags-spec =

@@ -14,6 +14,22 @@ Inv-loop sets count x number₀ number = None-below (λ i. same x (quadruple-at 
 abbrev μ-loop : tie.MeasureT-loop
 μ-loop sets count x number₀ number = count - number
 
+-- THE PLACES
+-- a record is compared
+module _ (c : tie.After-equals Inv-loop μ-loop) where
+  abbrev loaded : tie.After-load Inv-loop μ-loop
+  loaded = c .before
+
+  abbrev one : tie.In-loop Inv-loop μ-loop
+  one = loaded .before
+
+  abbrev turn : tie.At-loop Inv-loop μ-loop
+  turn = one .before
+
+  abbrev start : tie.Start Inv-loop μ-loop
+  start = turn .before .before
+
+-- THE NEEDS
 loop-holds : tie.Need-loop-holds Inv-loop μ-loop
 loop-holds c = none-start _ _
 
@@ -25,8 +41,10 @@ equals-requires c κs = tt
 
 returns : tie.Need-returns Inv-loop μ-loop
 returns c =
-    looked-found (c .before .before .before .loop-test .taken) (c .before .before .before .before .loop .inv)
-    (compared (c .before .before .before .before .before .before .args .x) (c .before .equals .ensures) (c .before .before .load .ensures) (c .if1 .taken))
+    let at = c .before in
+    let args = start at .args in
+    looked-found (args .sets .now) (args .x) (one at .loop-test .taken) (turn at .loop .inv)
+    (compared (args .x) (at .equals .ensures) (loaded at .load .ensures) (c .if1 .taken))
 
 add-number : tie.Need-add-number Inv-loop μ-loop
 add-number c = omega arith
@@ -36,12 +54,13 @@ loop-less c = omega arith
 
 loop-again : tie.Need-loop-again Inv-loop μ-loop
 loop-again c =
-    none-turn _ _ _ (c .before .before .before .loop-test .taken)
-    (compared (c .before .before .before .before .before .before .args .x) (c .before .equals .ensures) (c .before .before .load .ensures) (c .if1 .left))
-    (c .before .before .before .before .loop .inv)
+    let at = c .before in
+    none-turn _ _ _ (one at .loop-test .taken)
+    (compared (start at .args .x) (at .equals .ensures) (loaded at .load .ensures) (c .if1 .left)) (turn at .loop .inv)
 
 returns-2 : tie.Need-returns-2 Inv-loop μ-loop
-returns-2 c = looked-none (c .loop-test .left) (c .before .loop .inv)
+returns-2 c =
+    let args = c .before .before .before .args in looked-none (args .sets .now) (args .x) (c .loop-test .left) (c .before .loop .inv)
 
 pub find-spec : {M : Type 1} → statement M
 find-spec =

@@ -1,4 +1,5 @@
 -- `room` is the smaller of the full records and the limit. Assumes nothing.
+use Rattle.tables.specs.Table.{wide-range}
 use Rattle.complement.proofs.Lookup.{room-records, room-limit}
 use borrow.Author.Needs.{needs}
 use Rattle.complement.proofs.records.room.Statement.{statement}
@@ -8,10 +9,14 @@ full-records-requires : tie.Need-full-records-requires
 full-records-requires c κs = search needs
 
 returns : tie.Need-returns
-returns c = room-records (c .before .before .before .args .sets .now) (c .before .full-records .ensures) (c .if1 .taken)
+unfolding wide-range
+returns c =
+    let at = c .before in room-records wide-range (at .before .before .args .sets .now) (at .full-records .ensures) (c .if1 .taken)
 
 returns-2 : tie.Need-returns-2
-returns-2 c = room-limit (c .before .before .before .args .sets .now) (c .before .full-records .ensures) (c .if1 .left)
+unfolding wide-range
+returns-2 c =
+    let at = c .before in room-limit wide-range (at .before .before .args .sets .now) (at .full-records .ensures) (c .if1 .left)
 
 pub room-spec : {M : Type 1} → statement M
 room-spec = tie.close (tie.spec full-records-requires returns returns-2)
