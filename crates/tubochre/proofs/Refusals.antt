@@ -9,7 +9,7 @@ use lib.Dec.{ltb, leb, eqb}
 use lib.ListN.{length}
 use Rattle.basics.specs.Buffers.{or-else}
 use Rattle.basics.proofs.Booleans.{either, or-true, or-false-l, or-false-r, ltb-lt, ltb-ge, eqb-eq, eqb-ne, ne-eqb}
-use Rattle.tables.specs.Table.{Limits, pattern-range, wide-range, n-of, k-of, m-of, flags-good, records-good, chains-good, table-refusal, meaning}
+use Rattle.tables.specs.Table.{Limits, pattern-range, wide-range, most-letters, n-of, k-of, m-of, sizes-refusal, flags-good, records-good, chains-good, table-refusal, meaning}
 use Rattle.patterns.specs.Check.{check-refusal}
 use Rattle.patterns.specs.Pattern.{semi-deterministic}
 use Rattle.complement.specs.Build.{Lent, Room, room-of, words-needed, room-refusal, build-refusal, as-counts, Build-says}
@@ -22,16 +22,21 @@ most : (b : Bool) {x y : ℕ} (limit : ℕ) → x ≤ limit → y ≤ limit → 
 most true limit a b = a
 most false limit a b = b
 
-table-most : (l : Limits) (t : List ℕ) → table-refusal l t ≤ 9
-unfolding table-refusal
-table-most l t =
+sizes-most : (l : Limits) (t : List ℕ) → sizes-refusal l t ≤ 9
+sizes-most l t =
     most (ltb (length t) 3) 9 (omega arith)
     (most (not (leb 1 (n-of t) && leb (n-of t) (l .states))) 9 (omega arith)
-    (most (not (leb 1 (k-of t) && leb (k-of t) 16)) 9 (omega arith)
+    (most (not (leb 1 (k-of t) && leb (k-of t) most-letters)) 9 (omega arith)
     (most (ltb (l .records) (m-of t)) 9 (omega arith)
-    (most (not (eqb (length t) (3 + 2 * n-of t + 3 * m-of t))) 9 (omega arith)
+    (most (not (eqb (length t) (3 + 2 * n-of t + 3 * m-of t))) 9 (omega arith) (omega arith)))))
+
+table-most : (l : Limits) (t : List ℕ) → table-refusal l t ≤ 9
+unfolding table-refusal or-else
+table-most l t =
+    most (eqb (sizes-refusal l t) 0) 9
     (most (not (flags-good t)) 9 (omega arith)
-    (most (not (records-good t)) 9 (omega arith) (most (not (chains-good t)) 9 (omega arith) (omega arith))))))))
+    (most (not (records-good t)) 9 (omega arith) (most (not (chains-good t)) 9 (omega arith) (omega arith))))
+    (sizes-most l t)
 
 check-most : (t : List ℕ) → check-refusal t ≤ 10
 unfolding check-refusal or-else
