@@ -1,4 +1,4 @@
--- Reading decimal numbers from bytes (document 01, refusal 1). Assumes nothing: these are definitions.
+-- Reading decimal numbers from bytes (docs/RULES.md, "Refusals": 1). Assumes nothing: these are definitions.
 use mathlib.Core.Path.{_≡_}
 use mathlib.Core.Bool.{Bool, true, false, _&&_, _||_, cond}
 use mathlib.Core.List.{List, [], _∷_, _++_}

@@ -1,4 +1,4 @@
--- The listing program: its whole output as a function of its whole input (document 01, "The listing program"). Assumes nothing: these are definitions.
+-- The listing program: its whole output as a function of its whole input (docs/RULES.md, "The listing program"). Assumes nothing: these are definitions.
 use mathlib.Core.List.{List, [], _∷_, _++_}
 use mathlib.Core.Option.{Option, none, some}
 use Prim.Native.Nat.{ℕ, zero, suc}

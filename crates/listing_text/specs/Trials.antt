@@ -1,4 +1,4 @@
--- Trial inputs of the listing program, with the whole output of each (document 01, "The listing program" and "Trial pieces"). Assumes nothing: these are definitions.
+-- Trial inputs of the listing program, with the whole output of each (docs/RULES.md, "The listing program" and "Trial pieces"). Assumes nothing: these are definitions.
 use mathlib.Core.List.{List, [], _∷_}
 use Prim.Native.Nat.{ℕ}
 use Prim.Native.String.{String}
