@@ -60,19 +60,19 @@ fn row_of(table: &[u16], states: usize, state: usize) -> [u32; 16]
     row
 }
 
-// The rows of all states. Each chain is walked once; every later test and step reads these sets alone.
-fn masks_of(table: &[u16]) -> [[u32; 16]; 32]
+// Lays out the rows of all states. Each chain is walked once; every later test and step reads these sets alone.
+fn spread_out(table: &[u16], masks: &mut [[u32; 16]; 32])
     requires { ⌜ table-refusal pattern-range (now table) ≡ 0 ⌝ }
-    ensures { λ r. ⌜ r ≡ masks-of (moves (meaning (now (table .entry)))) ⌝ }
+    ensures { λ _. ⌜ now (masks .exit) ≡ masks-of (moves (meaning (now (table .entry)))) ⌝ }
 {
     let states = states_of(table);
-    let mut masks = [[0u32; 16]; 32];
+    let empty = [0u32; 16];
+    *masks = [empty; 32];
     let mut state = 0;
     while state < states {
         masks[state] = row_of(table, states, state);
         state += 1;
     }
-    masks
 }
 
 // THE SETS
@@ -207,7 +207,7 @@ pub fn read_pattern(table: &[u16], masks: &mut [[u32; 16]; 32]) -> Reading
     if refusal != 0 {
         return Reading::Refused(refusal);
     }
-    *masks = masks_of(table);
+    spread_out(table, masks);
     let shape = shape_of(table, masks);
     if some_fork(masks, shape) {
         return Reading::Refused(10);

@@ -14,22 +14,31 @@ returns c =
     let told = c .before .table-refusal .ensures in
     (table-refused _ _ told (c .if1 .taken), masks-kept _ _ told (c .if1 .taken) _)
 
-masks-of-requires : tie.Need-masks-of-requires
+spread-out-requires : tie.Need-spread-out-requires
 unfolding pattern-range
-masks-of-requires c κs = table-passed _ _ (c .before .table-refusal .ensures) (c .if1 .left)
+spread-out-requires c κs = table-passed _ _ (c .before .before .table-refusal .ensures) (c .before .if1 .left)
+
+-- what is known once the masks are spread out
+module _ (c : tie.After-spread-out) where
+  abbrev passed : tie.Else1
+  passed = c .before .before
+
+-- and once the shape is read
+module _ (c : tie.After-shape-of) where
+  abbrev spread : tie.After-spread-out
+  spread = c .before .before
 
 shape-of-requires : tie.Need-shape-of-requires
 unfolding pattern-range
 shape-of-requires c κs =
     let spread = c .before in
-    let passed = spread .before in
-    asks-shape _ _ (passed .before .table-refusal .ensures) (passed .if1 .left) _ (spread .masks-of .ensures)
+    asks-shape _ _ (passed spread .before .table-refusal .ensures) (passed spread .if1 .left) _ (spread .spread-out .ensures)
 
 some-fork-requires : tie.Need-some-fork-requires
 unfolding pattern-range
 some-fork-requires c κs =
     let shaped = c .before in
-    let passed = shaped .before .before .before in
+    let passed = passed (spread shaped) in
     asks-small _ _ (passed .before .table-refusal .ensures) (passed .if1 .left) _ (shaped .shape-of .ensures)
 
 returns-2 : tie.Need-returns-2
@@ -37,12 +46,11 @@ unfolding pattern-range
 returns-2 c =
     let searched = c .before in
     let shaped = searched .before .before in
-    let spread = shaped .before .before in
-    let passed = spread .before in
+    let masked = spread shaped .spread-out .ensures in
+    let passed = passed (spread shaped) in
     let told = passed .before .table-refusal .ensures in (
-      fork-refused _ _ told (passed .if1 .left) _ (spread .masks-of .ensures) _ (shaped .shape-of .ensures) _
-          (searched .some-fork .ensures) (c .if2 .taken),
-      masks-spread _ _ told (passed .if1 .left) _ (spread .masks-of .ensures) _,
+      fork-refused _ _ told (passed .if1 .left) _ masked _ (shaped .shape-of .ensures) _ (searched .some-fork .ensures) (c .if2 .taken),
+      masks-spread _ _ told (passed .if1 .left) _ masked _,
     )
 
 returns-3 : tie.Need-returns-3
@@ -50,12 +58,11 @@ unfolding pattern-range
 returns-3 c =
     let searched = c .before in
     let shaped = searched .before .before in
-    let spread = shaped .before .before in
-    let passed = spread .before in
+    let masked = spread shaped .spread-out .ensures in
+    let passed = passed (spread shaped) in
     let told = passed .before .table-refusal .ensures in (
-      even-passed _ _ told (passed .if1 .left) _ (spread .masks-of .ensures) _ (shaped .shape-of .ensures) _
-          (searched .some-fork .ensures) (c .if2 .left),
-      masks-spread _ _ told (passed .if1 .left) _ (spread .masks-of .ensures) _,
+      even-passed _ _ told (passed .if1 .left) _ masked _ (shaped .shape-of .ensures) _ (searched .some-fork .ensures) (c .if2 .left),
+      masks-spread _ _ told (passed .if1 .left) _ masked _,
     )
 
 pub read-pattern-spec : {M : Type 1} → statement M
@@ -64,7 +71,7 @@ read-pattern-spec =
     (tie.spec
     table-refusal-requires
     returns
-    masks-of-requires
+    spread-out-requires
     shape-of-requires
     some-fork-requires
     returns-2

@@ -1,0 +1,73 @@
+-- `patterns::spread_out` meets its contract. The invariant: the rows below `state` are filled, and the others are empty. Assumes nothing.
+use Prim.Native.Nat.{_-_, _<_}
+use native.Mathlib.Omega.{arith}
+use Rattle.patterns.specs.Masks.{mask-rows}
+use Rattle.patterns.proofs.Masks.{Filled, filled-start, filled-asks, filled-inside, filled-turn, filled-end}
+use Rattle.patterns.proofs.spread_out.Statement.{statement}
+use Rattle.patterns.proofs.spread_out.Tie as tie
+
+abbrev Inv-loop : tie.InvT-loop
+Inv-loop table masks₀ states state₀ masks state = Filled table masks state
+
+abbrev μ-loop : tie.MeasureT-loop
+μ-loop table masks₀ states state₀ masks state = states - state
+
+-- what is known at each turn
+module _ (c : tie.In-loop Inv-loop μ-loop) where
+  abbrev counted : tie.After-states-of Inv-loop μ-loop
+  counted = c .before .before .before
+
+  abbrev start : tie.Start Inv-loop μ-loop
+  start = counted .before .before
+
+  inside : c .before .loop .state < mask-rows
+  inside = filled-inside _ (start .pre) _ _ (counted .states-of .ensures .is) (c .loop-test .taken)
+
+states-of-requires : tie.Need-states-of-requires Inv-loop μ-loop
+states-of-requires c κs = tt
+
+loop-holds : tie.Need-loop-holds Inv-loop μ-loop
+loop-holds c = filled-start _ (c .before .before .before .pre)
+
+row-of-requires : tie.Need-row-of-requires Inv-loop μ-loop
+row-of-requires c κs = filled-asks _ (start c .pre) _ _ (counted c .states-of .ensures .is) (c .loop-test .taken)
+
+mul-t8 : tie.Need-mul-t8 Inv-loop μ-loop
+mul-t8 c = omega (arith, inside (c .before))
+
+element-set-from-masks : tie.Need-element-set-from-masks Inv-loop μ-loop
+element-set-from-masks c = inside (c .before)
+
+add-state : tie.Need-add-state Inv-loop μ-loop
+add-state c = omega (arith, inside (c .before))
+
+loop-less : tie.Need-loop-less Inv-loop μ-loop
+loop-less c = omega (arith, c .before .loop-test .taken)
+
+loop-again : tie.Need-loop-again Inv-loop μ-loop
+loop-again c =
+    let turn = c .before in
+    filled-turn _ (start turn .pre) _ _ _ _ (counted turn .states-of .ensures .is) (turn .loop-test .taken)
+    (c .row-of .ensures) (turn .before .loop .inv)
+
+returns : tie.Need-returns Inv-loop μ-loop
+returns c =
+    let counted = c .before .before .before in
+    filled-end _ (counted .before .before .pre) _ _ _ (counted .states-of .ensures .is) (c .loop-test .left)
+    (c .before .loop .inv)
+
+pub spread-out-spec : {M : Type 1} → statement M
+spread-out-spec =
+    tie.close
+    (tie.spec
+    Inv-loop
+    μ-loop
+    states-of-requires
+    loop-holds
+    row-of-requires
+    mul-t8
+    element-set-from-masks
+    add-state
+    loop-less
+    loop-again
+    returns)
