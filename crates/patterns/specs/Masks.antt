@@ -7,7 +7,7 @@ use lib.Bits.{bitOr}
 use lib.ListN.{getD}
 use Rattle.automata.specs.Decision.{tabulate}
 use Rattle.sets.specs.Sets.{union}
-use Rattle.tables.specs.Table.{pattern-range, table-refusal, n-of}
+use Rattle.tables.specs.Table.{most-letters, pattern-range, table-refusal, n-of}
 use Rattle.ncsb.specs.Moves.{Moves}
 
 -- its size: a row for each state that a pattern may have, and in each row a set for each letter that a table may have
@@ -15,7 +15,7 @@ abbrev pub mask-rows : ℕ
 mask-rows = 32
 
 abbrev pub mask-letters : ℕ
-mask-letters = 16
+mask-letters = most-letters
 
 -- a state's targets for each letter; a letter that the pattern lacks has none
 unfoldable pub row-of : Moves → (state : ℕ) → List ℕ
