@@ -2,7 +2,7 @@
 -- fit, 12 where the table is too long, or the complement's table and sets. Assumes nothing.
 use mathlib.Core.Path.{_∙_}
 use mathlib.Core.List.{List}
-use Prim.Native.Nat.{ℕ}
+use Prim.Native.Nat.{ℕ, _≤_}
 use native.Mathlib.Omega.{arith}
 use borrow.Author.Needs.{needs}
 use Rattle.tables.specs.Table.{wide-range}
@@ -61,6 +61,13 @@ module _ (c : tie.Else1) where
 module _ (c : tie.Else2) where
   abbrev fitting : tie.Else1
   fitting = c .before .before
+
+  few :
+      (explored fitting .explore .result .states ≤ wide-range .states)
+      × (explored fitting .explore .result .edges ≤ wide-range .records)
+  few =
+      let of = begun fitting .pre in
+      built-counts (of .read-off) (shows fitting (of .table) (of .read-off)) (c .before .too-long .ensures) (c .if2 .left)
 
 -- edges stand in chains
 module _ (c : tie.After-lay-out) where
@@ -152,18 +159,16 @@ set-flags-requires c κs =
 cast-t34 : tie.Need-cast-t34
 unfolding wide-range
 cast-t34 c =
-    let at = short (laid-out (c .before .before .before)) in
-    let of = begun (fitting at) .pre in
-    let few = built-counts (of .read-off) (shows (fitting at) (of .table) (of .read-off)) (at .before .too-long .ensures) (at .if2 .left) .0 in
-    omega arith
+    let both = few (short (laid-out (c .before .before .before))) in
+    let states = both .0 in
+    let edges = both .1 in omega arith
 
 cast-t35 : tie.Need-cast-t35
 unfolding wide-range
 cast-t35 c =
-    let at = short (laid-out (c .before .before .before)) in
-    let of = begun (fitting at) .pre in
-    let few = built-counts (of .read-off) (shows (fitting at) (of .table) (of .read-off)) (at .before .too-long .ensures) (at .if2 .left) .1 in
-    omega arith
+    let both = few (short (laid-out (c .before .before .before))) in
+    let states = both .0 in
+    let edges = both .1 in omega arith
 
 same-length-5 : tie.Need-same-length-5
 same-length-5 c = search needs

@@ -1,4 +1,5 @@
 -- `meet` adds an edge to a successor, and the successor if it is new. Assumes nothing.
+use Prim.Native.Nat.{_<_}
 use native.Mathlib.Omega.{arith}
 use Rattle.tables.specs.Table.{wide-range}
 use Rattle.complement.specs.Found.{overfull}
@@ -17,10 +18,24 @@ module _ (c : tie.After-room) where
   abbrev start : tie.Start
   start = placed .before .before .before .before
 
--- there is room
+-- there is room: both states' numbers are below what a table can have
 module _ (c : tie.Else1) where
   abbrev roomy : tie.After-room
   roomy = c .before
+
+  source-few : start roomy .args .source < wide-range .states
+  source-few =
+      let asked = start roomy .pre in
+      let inside = asked .inside in
+      let count = asked .shows .states .counted in
+      let most = asked .shows .states .fits in
+      let limit = capacity-limit wide-range (start roomy .args .sets .now) in omega arith
+
+  target-few : placed roomy .place .result < wide-range .states
+  target-few =
+      let inside = c .if1 .left in
+      let room = roomy .room .ensures in
+      let limit = capacity-limit wide-range (placed roomy .place .last .0) in omega arith
 
 -- the edge is kept
 module _ (c : tie.After-keep-edge) where
@@ -45,24 +60,14 @@ returns c =
 
 cast-keep-edge : tie.Need-cast-keep-edge
 unfolding wide-range
-cast-keep-edge c =
-    let begun = start (roomy (c .before)) in
-    let asked = begun .pre in
-    let inside = asked .inside in
-    let count = asked .shows .states .counted in
-    let most = asked .shows .states .fits in
-    let limit = capacity-limit wide-range (begun .args .sets .now) in omega arith
+cast-keep-edge c = let source = source-few (c .before) in let target = target-few (c .before) in omega arith
 
 cast-keep-edge-2 : tie.Need-cast-keep-edge-2
 cast-keep-edge-2 c = search needs
 
 cast-keep-edge-3 : tie.Need-cast-keep-edge-3
 unfolding wide-range
-cast-keep-edge-3 c =
-    let at = roomy (c .before) in
-    let inside = c .before .if1 .left in
-    let room = at .room .ensures in
-    let limit = capacity-limit wide-range (placed at .place .last .0) in omega arith
+cast-keep-edge-3 c = let source = source-few (c .before) in let target = target-few (c .before) in omega arith
 
 keep-edge-requires : tie.Need-keep-edge-requires
 keep-edge-requires c κs = search needs
