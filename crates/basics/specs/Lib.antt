@@ -2,3 +2,4 @@ pub mod Bounded
 pub mod Buffers
 pub mod Packed
 pub mod Rows
+pub mod Words

@@ -8,9 +8,10 @@ use native.Mathlib.Omega.{arith}
 use lib.ListN.{length, getD, List·getD-eq-default}
 use lib.Seq.{take-all, take-length}
 use Rattle.basics.specs.Buffers.{filled}
+use Rattle.basics.specs.Words.{word-bits}
 use Rattle.basics.proofs.Booleans.{lt-ltb}
 use Rattle.automata.specs.System.{Edge, edge-at, state-at, numbered}
-use Rattle.tables.specs.Table.{word-bits, wide-range}
+use Rattle.tables.specs.Table.{wide-range}
 use Rattle.ncsb.specs.Successors.{initials, ncsb}
 use Rattle.patterns.specs.declared.Shape.{Shape}
 use Rattle.layout.specs.Chained.{flags-word, chained-words}

@@ -12,8 +12,9 @@ use lib.Seq.{take-suc, take-append-seam, length-take-le, set-split, drop-drop, d
 use mir.Val.{Fits}
 use mir.Syntax.{w16, w32}
 use Rattle.basics.proofs.Booleans.{either, clash, and-l, and-r, and-make, and-false-r, lt-ltb, ge-ltb, le-leb, gt-leb, leb-le, eq-eqb, ne-eqb}
+use Rattle.basics.specs.Words.{word-bits, largest-word}
 use Rattle.decimal.specs.Lines.{digit-zero, space, newline}
-use Rattle.decimal.specs.Reading.{Bounds, is-blank, is-digit, Scan, between, under-way, fault, ended, longer, with-byte, scan, largest-word, bounds-of, reading-of, stored, scan-of, failed-after, Ready, Became, Fed, Reads}
+use Rattle.decimal.specs.Reading.{Bounds, is-blank, is-digit, Scan, between, under-way, fault, ended, longer, with-byte, scan, bounds-of, reading-of, stored, scan-of, failed-after, Ready, Became, Fed, Reads}
 use Rattle.decimal.specs.declared.reading.Reading.{Reading}
 
 -- SCANNING, whatever is taken
@@ -161,7 +162,7 @@ failed {r} {w} a =
 
 -- one digit more
 digit :
-    {r : Reading} {w : List ℕ} → Ready r w → (v : ℕ) → r .count < length w → v ≤ largest-word →
+    {r : Reading} {w : List ℕ} → Ready r w → (v : ℕ) → r .count < length w → v ≤ largest-word word-bits →
     Became (under-way (scan-of r w .numbers) v) w (record { count = r .count; value = v; within = true; failed = false }) w
 unfolding scan-of reading-of stored under-way
 digit {r} {w} a v l m =
@@ -199,7 +200,7 @@ module _ {r : Reading} {w : List ℕ} (a : Ready r w) (c : ℕ) where
             rw (with-digit (bounds-of w) (scan-of r w) c e f g, t) (failed a)
 
         pub byte-large :
-            largest-word < 10 * r .value + (c - digit-zero) →
+            largest-word word-bits < 10 * r .value + (c - digit-zero) →
             Became (with-byte (bounds-of w) (scan-of r w) c) w (failed-after (r .count)) w
         unfolding scan-of longer bounds-of
         byte-large l =
@@ -207,7 +208,7 @@ module _ {r : Reading} {w : List ℕ} (a : Ready r w) (c : ℕ) where
             rw (with-digit (bounds-of w) (scan-of r w) c e f g, t) (failed a)
 
         pub byte-digit :
-            r .count < length w → 10 * r .value + (c - digit-zero) ≤ largest-word →
+            r .count < length w → 10 * r .value + (c - digit-zero) ≤ largest-word word-bits →
             Became (with-byte (bounds-of w) (scan-of r w) c) w
             (record { count = r .count; value = 10 * r .value + (c - digit-zero); within = true; failed = false }) w
         unfolding scan-of longer bounds-of

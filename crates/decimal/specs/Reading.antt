@@ -6,6 +6,7 @@ use mathlib.Core.Option.{Option, none, some}
 use Prim.Native.Nat.{ℕ, _+_, _*_, _-_, _≤_, _<_}
 use lib.Dec.{ltb, leb, eqb}
 use lib.ListN.{length, take, drop}
+use Rattle.basics.specs.Words.{word-bits, largest-word}
 use Rattle.decimal.specs.Lines.{digit-zero, space, newline}
 use Rattle.decimal.specs.declared.reading.Reading.{Reading}
 
@@ -65,11 +66,8 @@ unfoldable pub read-numbers : Bounds → (bytes : List ℕ) → Option (List ℕ
 read-numbers b bs = numbers-of (ended (scan b (between []) bs))
 
 -- IN LENT WORDS of 16 bits: as many numbers as there are words
-abbrev pub largest-word : ℕ
-largest-word = 65535
-
 unfoldable pub bounds-of : (words : List ℕ) → Bounds
-bounds-of w = record { largest = largest-word; most = length w }
+bounds-of w = record { largest = largest-word word-bits; most = length w }
 
 -- the numbers that have ended stand first, and what is beyond them is as it was
 unfoldable pub reading-of : Scan → Reading
@@ -89,7 +87,7 @@ failed-after k = record { count = k; value = 0; within = false; failed = true }
 -- the numbers have their words, and so has the one under way
 pub record Ready (r : Reading) (w : List ℕ) : Type 0 where
   pub counted : r .count ≤ length w
-  pub small : r .value ≤ largest-word
+  pub small : r .value ≤ largest-word word-bits
   pub placed : r .within ≡ true → r .count < length w
 
 -- what is left of a reading and of its words w: they hold this scan, and more can be read

@@ -3,16 +3,16 @@ use mathlib.Core.Path.{_≡_}
 use mathlib.Core.Bool.{Bool, true, false, cond}
 use mathlib.Core.List.{List}
 use mathlib.Core.Logic.{_⊎_, inl, inr}
-use Prim.Native.Nat.{ℕ, suc, _+_, _^_, _≤_, _<_}
+use Prim.Native.Nat.{ℕ, suc, _+_, _≤_, _<_}
 use native.Mathlib.Omega.{arith}
 use lib.Dec.{eqb}
-use lib.ListN.{length, getD}
+use lib.ListN.{length}
 use Rattle.basics.proofs.Bounded.{count-same}
 use Rattle.basics.proofs.Upward.{from-one}
 use Rattle.automata.specs.Automaton.{Automaton}
 use Rattle.automata.specs.System.{Edge}
-use Rattle.tables.specs.Table.{most-letters, Limits, Range-fits, head-of, letter-of, target-of, next-of, named, table-refusal}
-use Rattle.tables.proofs.Laws.{Valid, valid-passes, words-fit}
+use Rattle.tables.specs.Table.{most-letters, Limits, head-of, letter-of, target-of, next-of, named, table-refusal}
+use Rattle.tables.proofs.Laws.{Valid, valid-passes}
 use Rattle.layout.specs.Chained.{first-record, next-record, flags-word, chained-words}
 use Rattle.layout.specs.Orderly.{Orderly}
 use Rattle.layout.proofs.Firsts.{First, absent, first-at, first-is, Next, ends, goes-on, next-is, named-once}
@@ -98,8 +98,3 @@ module _ (l : Limits) (a : Automaton) (es : List Edge) (o : Orderly a es) where
       1 ≤ a .states → a .states ≤ l .states → 1 ≤ a .letters → a .letters ≤ most-letters → length es ≤ l .records →
       table-refusal l (chained-words a es) ≡ 0
   chained-valid n₁ n₂ k₁ k₂ m₁ = valid-passes l (chained-words a es) (chained-is-valid n₁ n₂ k₁ k₂ m₁)
-
-  pub chained-fits :
-      1 ≤ a .states → a .states ≤ l .states → 1 ≤ a .letters → a .letters ≤ most-letters → length es ≤ l .records →
-      {bits : ℕ} → Range-fits bits l → (i : ℕ) → getD (chained-words a es) i 0 < 2 ^ bits
-  chained-fits n₁ n₂ k₁ k₂ m₁ = words-fit (chained-is-valid n₁ n₂ k₁ k₂ m₁)

@@ -5,8 +5,8 @@ use mathlib.Core.List.{List, _∷_}
 use Prim.Native.Nat.{ℕ, suc, _+_, _*_, _≤_, _<_}
 use lib.Dec.{ltb, eqb}
 use lib.ListN.{length, getD, drop, set}
+use Rattle.basics.specs.Words.{largest-word}
 use Rattle.automata.specs.System.{Edge}
-use Rattle.tables.specs.Table.{largest-word}
 use Rattle.layout.specs.Chained.{first-record, next-record}
 use Rattle.layout.specs.Triples.{triples-of}
 

@@ -5,7 +5,7 @@ ghost use mathlib.Core.Path.{_≡_};
 ghost use Prim.Native.Nat.{_≤_, _<_};
 ghost use lib.ListN.{length};
 ghost use Rattle.basics.specs.Buffers.{filled};
-ghost use Rattle.tables.specs.Table.{word-bits, largest-word};
+ghost use Rattle.basics.specs.Words.{word-bits, largest-word};
 ghost use Rattle.layout.specs.Chained.{chained-words};
 ghost use Rattle.layout.specs.Steps.{Table-room, Lay-out-asks, Moved, Cleared, behind, with-head, Link-asks, Link-one-asks, linked-one, Linked, Counts-ask, with-counts};
 ghost use Rattle.layout.specs.Triples.{triples-of, plain};

@@ -3,6 +3,7 @@ use mathlib.Core.List.{List, [], _∷_, _++_}
 use mathlib.Core.Option.{Option, none, some}
 use Prim.Native.Nat.{ℕ, zero, suc}
 use lib.ListN.{length}
+use Rattle.basics.specs.Words.{word-bits, largest-word}
 use Rattle.basics.specs.Rows.{rows}
 use Rattle.automata.specs.System.{Edge, Built, System, state-at, edge-at, numbered}
 use Rattle.tables.specs.Table.{pattern-range}
@@ -11,11 +12,11 @@ use Rattle.layout.specs.Chained.{flags-word}
 use Rattle.complement.specs.Build.{Room, words-needed, build-refusal}
 use Rattle.complement.specs.Complement.{system-of, complement}
 use Rattle.decimal.specs.Lines.{decimal, line, ascii}
-use Rattle.decimal.specs.Reading.{Bounds, largest-word, read-numbers}
+use Rattle.decimal.specs.Reading.{Bounds, read-numbers}
 
 -- REFUSAL 1: numbers are from 0 to 65,535, and there are at most as many as the largest pattern has words: 12,355
 unfoldable pub listing-bounds : Bounds
-listing-bounds = record { largest = largest-word; most = words-needed (pattern-range .states) (pattern-range .records) }
+listing-bounds = record { largest = largest-word word-bits; most = words-needed (pattern-range .states) (pattern-range .records) }
 
 -- room for 1,024 states and 16,384 table words
 abbrev pub most-states : ℕ

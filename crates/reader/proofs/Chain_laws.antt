@@ -6,8 +6,9 @@ use Prim.Native.Nat.{ℕ, _+_, _*_, _≤_, _<_}
 use lib.Dec.{leb}
 use lib.ListN.{getD}
 use Rattle.basics.proofs.Booleans.{and-make, and-l, and-r, and-false-l, and-false-r, leb-le, le-leb, gt-leb, lt-ltb, ge-ltb}
+use Rattle.basics.specs.Words.{word-bits}
 use Rattle.tables.specs.Access.{Word}
-use Rattle.tables.specs.Table.{word-bits, n-of, m-of, head-of, record-at, letter-of, target-of, next-of}
+use Rattle.tables.specs.Table.{n-of, m-of, head-of, record-at, letter-of, target-of, next-of}
 use Rattle.reader.specs.declared.Reading.the-variants.{Edge, End}
 use Rattle.reader.specs.Chain.{is-record, either-reading, reading-at, record-after, first-record}
 

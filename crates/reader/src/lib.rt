@@ -3,7 +3,8 @@
 // The first three are thin: the work is done on the slice and the number, by `first_record`, `edge_at` and `record_after`.
 // Every function answers on every slice: damaged links lead to the end.
 ghost use mathlib.Core.Path.{_≡_};
-ghost use Prim.Native.Nat.{_*_, _≤_, _<_};
+ghost use Prim.Native.Nat.{_*_, _≤_};
+ghost use Rattle.basics.specs.Words.{word-bits, largest-word};
 ghost use Rattle.tables.specs.Table.{record-at};
 ghost use Rattle.reader.specs.Chain.{reading-at, record-after, first-record, goes-on, edges-of};
 use tables::records_of;
@@ -37,8 +38,8 @@ pub fn first_record(table: &[u16], state: usize) -> usize
 
 // Where a record's words begin. They may lie past the end of the slice: so they are read as words, which are zero there.
 fn record_place(table: &[u16], number: usize) -> usize
-    requires { ⌜ (1 ≤ number) × (number < 65536) ⌝ }
-    ensures { λ r. ⌜ (r ≡ record-at (now (table .entry)) number) × (r < 5 * 65536) ⌝ }
+    requires { ⌜ (1 ≤ number) × (number ≤ largest-word word-bits) ⌝ }
+    ensures { λ r. ⌜ (r ≡ record-at (now (table .entry)) number) × (r ≤ 5 * largest-word word-bits) ⌝ }
 {
     3 + 2 * states_of(table) + 3 * (number - 1)
 }

@@ -11,13 +11,14 @@ use lib.ListN.{length, getD, List·getD-eq-default}
 use lib.Pow.{pow-pos}
 use Rattle.basics.specs.Bounded.{each}
 use Rattle.basics.specs.Buffers.{or-else}
+use Rattle.basics.specs.Words.{word-bits}
 use Rattle.basics.proofs.Booleans.{either, clash, and-l, and-r, and-make, or-l, or-r, or-true, true-not, false-not, eqb-eq, eq-eqb, eqb-ne, ne-eqb, ltb-lt, ltb-ge, lt-ltb, ge-ltb, leb-le, le-leb}
 use Rattle.basics.proofs.Bounded.{each-all, each-make}
 use Rattle.basics.proofs.Refusing.{passed, or-else-none}
 use Rattle.basics.proofs.Upward.{from-one}
 use Rattle.automata.specs.Automaton.{Closed}
 use Rattle.tables.specs.Access.{State-asks, Record-asks}
-use Rattle.tables.specs.Table.{word-bits, most-letters, Limits, Range-fits, pattern-range, wide-range, n-of, k-of, m-of, flags-of, head-of, record-at, letter-of, target-of, next-of, is-initial, chain-has, edge, meaning, sizes-refusal, flag-good, flags-good, records-good, named, head-good, heads-good, leads-on, nexts-good, chains-good, table-refusal}
+use Rattle.tables.specs.Table.{most-letters, Limits, Range-fits, pattern-range, wide-range, n-of, k-of, m-of, flags-of, head-of, record-at, letter-of, target-of, next-of, is-initial, chain-has, edge, meaning, sizes-refusal, flag-good, flags-good, records-good, named, head-good, heads-good, leads-on, nexts-good, chains-good, table-refusal}
 
 -- VALID TABLES: the plain facts behind refusals 2 to 9
 pub record Valid (r : Limits) (t : List ℕ) : Type 0 where

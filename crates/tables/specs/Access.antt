@@ -3,7 +3,8 @@ use mathlib.Core.Path.{_≡_}
 use mathlib.Core.List.{List}
 use Prim.Native.Nat.{ℕ, _+_, _*_, _≤_, _<_}
 use lib.ListN.{length}
-use Rattle.tables.specs.Table.{largest-word, Limits, n-of, m-of}
+use Rattle.basics.specs.Words.{largest-word}
+use Rattle.tables.specs.Table.{Limits, n-of, m-of}
 
 -- the answer is this word of the table, of so many bits
 pub record Word (bits answer word : ℕ) : Type 0 where

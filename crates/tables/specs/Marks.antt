@@ -8,7 +8,8 @@ use lib.Dec.{eqb}
 use lib.ListN.{length}
 use Rattle.basics.specs.Bounded.{each, count}
 use Rattle.basics.specs.Packed.{packed, raised}
-use Rattle.tables.specs.Table.{word-bits, n-of, m-of, head-of, next-of, head-good, next-good}
+use Rattle.basics.specs.Words.{word-bits}
+use Rattle.tables.specs.Table.{n-of, m-of, head-of, next-of, head-good, next-good}
 
 -- the bits of a word of marks
 abbrev pub mark-bits : ℕ

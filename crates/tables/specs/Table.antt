@@ -1,22 +1,15 @@
 -- Chained tables and refusals 2 to 9 (document 01, "The chained table" and "Refusals"). Assumes nothing: these are definitions.
 use mathlib.Core.Bool.{Bool, false, _&&_, _||_, not, cond}
 use mathlib.Core.List.{List}
-use Prim.Native.Nat.{ℕ, zero, suc, _+_, _*_, _-_, _%_, _^_, _≤_}
+use Prim.Native.Nat.{ℕ, zero, suc, _+_, _*_, _-_, _%_, _≤_}
 use lib.Dec.{ltb, leb, eqb}
 use lib.ListN.{length, getD}
 use Rattle.basics.specs.Bounded.{each, count}
 use Rattle.basics.specs.Buffers.{or-else}
+use Rattle.basics.specs.Words.{word-bits, largest-word}
 use Rattle.automata.specs.Automaton.{Automaton}
 
--- LIMITS. A word of a table has 16 bits
-abbrev pub word-bits : ℕ
-word-bits = 16
-
--- the largest number in a word of so many bits
-abbrev pub largest-word : (bits : ℕ) → ℕ
-largest-word b = 2 ^ b - 1
-
--- a table has 1 to 16 letters
+-- LIMITS. A table has 1 to 16 letters
 abbrev pub most-letters : ℕ
 most-letters = 16
 

@@ -2,14 +2,15 @@
 ghost use mathlib.Core.Path.{_≡_};
 ghost use Prim.Native.Nat.{_≤_};
 ghost use lib.ListN.{getD, length};
+ghost use Rattle.basics.specs.Words.{word-bits};
 ghost use Rattle.tables.specs.Access.{Word, Sized, State-asks, Record-asks, limits};
 ghost use Rattle.tables.specs.Marks.{mark-words, Mark-asks, Mark, Heads-named, Nexts-named};
-ghost use Rattle.tables.specs.Table.{word-bits, n-of, k-of, m-of, flags-of, head-of, letter-of, target-of, next-of, sizes-refusal, flags-good, records-good, leads-on, chains-good, table-refusal};
+ghost use Rattle.tables.specs.Table.{n-of, k-of, m-of, flags-of, head-of, letter-of, target-of, next-of, sizes-refusal, flags-good, records-good, leads-on, chains-good, table-refusal};
 
 // THE LIMITS of document 01's tables.
 
 // The largest 16-bit word.
-pub const WORD_MOST: usize = 65535;
+pub const WORD_MOST: usize = u16::MAX as usize;
 
 // The letters that any table may have.
 pub const LETTERS: usize = 16;

@@ -48,8 +48,9 @@ use denote.Triple.Table.{entered, cited}
 use denote.Triple.Walked.{says, Stays, stay-none, stay-none-slice, walkOf, goes-none, goes-none-slice, Walks, ends-at, walked, walk-meets}
 use denote.Exit.{yes}
 use denote.Triple.Clauses.{ensured, lasts}
+use Rattle.basics.specs.Words.{word-bits}
 use Rattle.tables.specs.Access.{Word}
-use Rattle.tables.specs.Table.{word-bits, m-of}
+use Rattle.tables.specs.Table.{m-of}
 use Rattle.tables.proofs.records_of as records
 use Rattle.tables.proofs.records_of.Symbol as records-def
 use Rattle.tables.proofs.records_of.Symbol.{name as #tables·records-of}
