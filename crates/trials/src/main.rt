@@ -1,18 +1,14 @@
-// The trial pieces that are not starred, each run by the library's own calls. The answers are held to a stored output that was
-// worked out apart (docs/TRIALS.md).
+// Runs the trials that stand on standard input, line by line, by the library's own calls. What it prints is held to a stored
+// output that was worked out apart (docs/TRIALS.md).
 mod answers;
-mod building;
-mod checking;
-mod limits;
-mod shapes;
-mod small;
-mod wide;
-mod written;
+mod filling;
+mod lasso;
+mod scan;
+mod script;
 
 fn main() {
-    checking::check_all();
-    building::build_all();
-    small::decide_small();
-    limits::decide_at_limits();
-    wide::decide_wide();
+    let mut text = io::large_buffer();
+    let length = io::read_full(0, &mut text);
+    let mut table = [0u16; 327680];
+    script::run(&text[..length], &mut table);
 }

@@ -1,12 +1,12 @@
--- `trials::written::find` answers a place between where it starts and the end. The measure is what is left of the text. Assumes nothing.
+-- `trials::scan::behind` answers a later place, or the end. The measure is what is left of the text. Assumes nothing.
 use Prim.Native.Nat.{_≤_, _-_}
 use lib.ListN.{length}
 use borrow.Author.Needs.{needs}
-use Rattle.trials.proofs.written.find.Statement.{statement}
-use Rattle.trials.proofs.written.find.Tie as tie
+use Rattle.trials.proofs.scan.behind.Statement.{statement}
+use Rattle.trials.proofs.scan.behind.Tie as tie
 
 abbrev Inv-loop : tie.InvT-loop
-Inv-loop text from byte at₀ at = (from ≤ at) × (at ≤ length text)
+Inv-loop text from byte at₀ at = from ≤ at
 
 abbrev μ-loop : tie.MeasureT-loop
 μ-loop text from byte at₀ at = length text - at
@@ -16,6 +16,9 @@ loop-holds c = search needs
 
 shared-slice-read-if1 : tie.Need-shared-slice-read-if1 Inv-loop μ-loop
 shared-slice-read-if1 c = search needs
+
+add-result : tie.Need-add-result Inv-loop μ-loop
+add-result c = search needs
 
 returns : tie.Need-returns Inv-loop μ-loop
 returns c = search needs
@@ -32,14 +35,15 @@ loop-again c = search needs
 returns-2 : tie.Need-returns-2 Inv-loop μ-loop
 returns-2 c = search needs
 
-pub find-spec : {M : Type 1} → statement M
-find-spec =
+pub behind-spec : {M : Type 1} → statement M
+behind-spec =
     tie.close
     (tie.spec
     Inv-loop
     μ-loop
     loop-holds
     shared-slice-read-if1
+    add-result
     returns
     add-at
     loop-less
