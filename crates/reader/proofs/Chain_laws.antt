@@ -9,8 +9,8 @@ use Rattle.basics.proofs.Booleans.{and-make, and-l, and-r, and-false-l, and-fal
 use Rattle.basics.specs.Words.{word-bits}
 use Rattle.tables.specs.Access.{Word}
 use Rattle.tables.specs.Table.{n-of, m-of, head-of, record-at, letter-of, target-of, next-of}
-use Rattle.reader.specs.declared.Reading.the-variants.{Edge, End}
-use Rattle.reader.specs.Chain.{is-record, either-reading, reading-at, record-after, first-record}
+use Rattle.reader.specs.declared.ChainItem.the-variants.{Edge, End}
+use Rattle.reader.specs.Chain.{is-record, either-item, item-at, record-after, head-record}
 
 -- WHICH NUMBERS ARE RECORDS
 pub record-yes : (t : List ℕ) (r : ℕ) → 1 ≤ r → r ≤ m-of t → is-record t r ≡ true
@@ -38,8 +38,8 @@ pub after-end : (t : List ℕ) (r : ℕ) → is-record t r ≡ false → 0 ≡ r
 unfolding record-after
 after-end t r e = rw e refl
 
-pub first-head : (t : List ℕ) (q : ℕ) → q < n-of t → first-record t q ≡ head-of t q
-unfolding first-record
+pub first-head : (t : List ℕ) (q : ℕ) → q < n-of t → head-record t q ≡ head-of t q
+unfolding head-record
 first-head t q l = rw (lt-ltb l) refl
 
 -- AS THE CODE READS THEM: n and m are the words that say how many states and records there are, p is where a record's words begin,
@@ -53,12 +53,12 @@ read-high t r w high = and-false-r (leb 1 r) (gt-leb (rw (w .is) at high))
 
 pub read-edge :
     (t : List ℕ) (r : ℕ) {p c q : ℕ} → is-record t r ≡ true → p ≡ record-at t r → Word word-bits c (getD t p 0) → Word word-bits q (getD t (p + 1) 0) →
-    Edge c q ≡ reading-at t r
-unfolding reading-at either-reading letter-of target-of
+    Edge c q ≡ item-at t r
+unfolding item-at either-item letter-of target-of
 read-edge t r e place c q = rw (e, c .is, q .is, place) refl
 
-pub read-end : (t : List ℕ) (r : ℕ) → is-record t r ≡ false → End ≡ reading-at t r
-unfolding reading-at either-reading
+pub read-end : (t : List ℕ) (r : ℕ) → is-record t r ≡ false → End ≡ item-at t r
+unfolding item-at either-item
 read-end t r e = rw e refl
 
 pub read-next :
@@ -66,10 +66,10 @@ pub read-next :
 unfolding next-of
 read-next t r e place x = x .is ∙ rw place (sym (after-record t r e))
 
-pub read-head : (t : List ℕ) (q : ℕ) {n x : ℕ} → Word word-bits n (n-of t) → q < n → Word word-bits x (getD t (4 + 2 * q) 0) → x ≡ first-record t q
+pub read-head : (t : List ℕ) (q : ℕ) {n x : ℕ} → Word word-bits n (n-of t) → q < n → Word word-bits x (getD t (4 + 2 * q) 0) → x ≡ head-record t q
 unfolding head-of
 read-head t q w l x = x .is ∙ sym (first-head t q (rw (w .is) at l))
 
-pub read-none : (t : List ℕ) (q : ℕ) {n : ℕ} → Word word-bits n (n-of t) → n ≤ q → 0 ≡ first-record t q
-unfolding first-record
+pub read-none : (t : List ℕ) (q : ℕ) {n : ℕ} → Word word-bits n (n-of t) → n ≤ q → 0 ≡ head-record t q
+unfolding head-record
 read-none t q w l = rw (ge-ltb (rw (w .is) at l)) refl

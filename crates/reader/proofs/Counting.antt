@@ -10,22 +10,22 @@ use Prim.Native.Nat.{ℕ, zero, suc, _+_, _-_, _≤_, _<_}
 use lib.Dec.{ltb}
 use Rattle.basics.proofs.Booleans.{and-l, and-r, and-false, ltb-lt, ltb-ge}
 use Rattle.tables.specs.Table.{m-of, letter-of, target-of}
-use Rattle.reader.specs.declared.Reading.the-variants.{Edge, End}
-use Rattle.reader.specs.Chain.{is-record, either-reading, reading-at, record-after, first-record, goes-on, chain-length, edges-of}
+use Rattle.reader.specs.declared.ChainItem.the-variants.{Edge, End}
+use Rattle.reader.specs.Chain.{is-record, either-item, item-at, record-after, head-record, goes-on, chain-length, records-in-chain}
 
--- the walk stands at record r, and has counted i edges of state q
+-- the walk stands at record r, and has counted i records of state q's chain
 pub record Counted (t : List ℕ) (q r i : ℕ) : Type 0 where
   pub few : i ≤ m-of t
-  pub whole : i + chain-length (m-of t - i) t r ≡ edges-of t q
+  pub whole : i + chain-length (m-of t - i) t r ≡ records-in-chain t q
 
 -- a walk goes on where it stands at a record and turns are left
-picked : (b : Bool) (c q i m : ℕ) → goes-on (either-reading b (Edge c q) End) i m ≡ (b && ltb i m)
-unfolding goes-on either-reading
+picked : (b : Bool) (c q i m : ℕ) → goes-on (either-item b (Edge c q) End) i m ≡ (b && ltb i m)
+unfolding goes-on either-item
 picked true c q i m = refl
 picked false c q i m = refl
 
-goes-where : (t : List ℕ) (r i m : ℕ) → goes-on (reading-at t r) i m ≡ (is-record t r && ltb i m)
-unfolding reading-at
+goes-where : (t : List ℕ) (r i m : ℕ) → goes-on (item-at t r) i m ≡ (is-record t r && ltb i m)
+unfolding item-at
 goes-where t r i m = picked (is-record t r) (letter-of t r) (target-of t r) i m
 
 -- one more record, or none
@@ -42,12 +42,12 @@ length-spent : (t : List ℕ) (r : ℕ) → chain-length 0 t r ≡ 0
 unfolding chain-length
 length-spent t r = refl
 
-pub count-start : (t : List ℕ) (q : ℕ) → Counted t q (first-record t q) 0
-unfolding edges-of
+pub count-start : (t : List ℕ) (q : ℕ) → Counted t q (head-record t q) 0
+unfolding records-in-chain
 count-start t q = record { few = omega arith; whole = simp (unary-clauses, zero-add) refl }
 
--- the walk goes on: there was an edge, and it is counted
-pub count-more : (t : List ℕ) (q r i : ℕ) → Counted t q r i → goes-on (reading-at t r) i (m-of t) ≡ true → (i < m-of t) × Counted t q (record-after t r) (i + 1)
+-- the walk goes on: there was a record, and it is counted
+pub count-more : (t : List ℕ) (q r i : ℕ) → Counted t q r i → goes-on (item-at t r) i (m-of t) ≡ true → (i < m-of t) × Counted t q (record-after t r) (i + 1)
 count-more t q r i c e =
     let both = sym (goes-where t r i (m-of t)) ∙ e in
     let less = ltb-lt i (m-of t) (and-r (is-record t r) both) in
@@ -57,10 +57,10 @@ count-more t q r i c e =
     (less, record { few = omega arith; whole = omega arith })
 
 -- the walk ends: nothing is left
-pub count-done : (t : List ℕ) (q r i : ℕ) → Counted t q r i → goes-on (reading-at t r) i (m-of t) ≡ false → i ≡ edges-of t q
+pub count-done : (t : List ℕ) (q r i : ℕ) → Counted t q r i → goes-on (item-at t r) i (m-of t) ≡ false → i ≡ records-in-chain t q
 count-done t q r i c e = by-case (and-false (is-record t r) (ltb i (m-of t)) (sym (goes-where t r i (m-of t)) ∙ e))
   where
-    by-case : (is-record t r ≡ false) ⊎ (ltb i (m-of t) ≡ false) → i ≡ edges-of t q
+    by-case : (is-record t r ≡ false) ⊎ (ltb i (m-of t) ≡ false) → i ≡ records-in-chain t q
     by-case (inl none) = let whole = rw (length-none (m-of t - i) t r none) at (c .whole) in omega arith
     by-case (inr spent) =
         let more = ltb-ge i (m-of t) spent in

@@ -10,16 +10,16 @@ use Rattle.basics.proofs.Booleans.{either, ne-eqb}
 use Rattle.basics.proofs.Bounded.{any-front}
 use Rattle.tables.specs.Table.{Limits, n-of, m-of, head-of, chain-has, edge, table-refusal}
 use Rattle.tables.proofs.Laws.{Valid, valid}
-use Rattle.reader.specs.declared.Reading.the-variants.{End}
-use Rattle.reader.specs.Chain.{is-record, either-reading, reading-at, record-after, first-record, chain-length, edges-of, record-nth, reads}
+use Rattle.reader.specs.declared.ChainItem.the-variants.{End}
+use Rattle.reader.specs.Chain.{is-record, either-item, item-at, record-after, head-record, chain-length, records-in-chain, record-nth, reads}
 use Rattle.reader.proofs.Chain_laws.{record-yes, record-from, record-to, after-record, first-head, read-end}
 use Rattle.reader.proofs.Counting.{length-more, length-none}
 
 -- ALONG A CHAIN
 module _ (t : List ℕ) where
   -- the chain has what is read here, and what it has after this record
-  has-more : (f x c q : ℕ) → is-record t x ≡ true → chain-has (suc f) t x c q ≡ (reads (reading-at t x) c q || chain-has f t (record-after t x) c q)
-  unfolding chain-has reads reading-at either-reading
+  has-more : (f x c q : ℕ) → is-record t x ≡ true → chain-has (suc f) t x c q ≡ (reads (item-at t x) c q || chain-has f t (record-after t x) c q)
+  unfolding chain-has reads item-at either-item
   has-more f x c q e =
       let some = record-from t x e in
       let far : (x ≡ 0) → ⊥ = λ z. omega arith in
@@ -27,10 +27,10 @@ module _ (t : List ℕ) where
 
   -- the same of the readings
   abbrev Read : (c q x i : ℕ) → Bool
-  Read c q x i = reads (reading-at t (record-nth i t x)) c q
+  Read c q x i = reads (item-at t (record-nth i t x)) c q
 
   read-more : (f x c q : ℕ) → is-record t x ≡ true
-      → any (chain-length (suc f) t x) (Read c q x) ≡ (reads (reading-at t x) c q || any (chain-length f t (record-after t x)) (Read c q (record-after t x)))
+      → any (chain-length (suc f) t x) (Read c q x) ≡ (reads (item-at t x) c q || any (chain-length f t (record-after t x)) (Read c q (record-after t x)))
   unfolding record-nth
   read-more f x c q e = ap (λ (k : ℕ). any k (Read c q x)) (length-more f t x e) ∙ any-front (chain-length f t (record-after t x)) (Read c q x)
 
@@ -65,7 +65,7 @@ module _ (t : List ℕ) where
     chain-reads (suc f) (suc y) c q l =
         let some : 1 ≤ suc y = omega arith in
         let e = record-yes t (suc y) some l in
-        has-more f (suc y) c q e ∙ (ap (λ (b : Bool). reads (reading-at t (suc y)) c q || b) (chain-reads f (record-after t (suc y)) c q (after-within (suc y) e)) ∙ sym (read-more f (suc y) c q e))
+        has-more f (suc y) c q e ∙ (ap (λ (b : Bool). reads (item-at t (suc y)) c q || b) (chain-reads f (record-after t (suc y)) c q (after-within (suc y) e)) ∙ sym (read-more f (suc y) c q e))
 
     -- with fuel enough, a chain ends
     rises-after : (x : ℕ) → is-record t x ≡ true → 1 ≤ record-after t x → x < record-after t x
@@ -81,10 +81,10 @@ module _ (t : List ℕ) where
         ]
 
 -- THE READER READS EXACTLY THE EDGES OF A STATE: in a table that is not refused, p has an edge on letter c to q
--- if and only if one of the readings from p's head on, as many as `count_edges` counts, is that letter and target
+-- if and only if one of the readings from p's head on, as many as `count_records` counts, is that letter and target
 pub reader-reads : (r : Limits) (t : List ℕ) → table-refusal r t ≡ 0 → (p : ℕ) → p < n-of t → (c q : ℕ)
-    → edge t p c q ≡ any (edges-of t p) (λ i. reads (reading-at t (record-nth i t (first-record t p))) c q)
-unfolding edge edges-of
+    → edge t p c q ≡ any (records-in-chain t p) (λ i. reads (item-at t (record-nth i t (head-record t p))) c q)
+unfolding edge records-in-chain
 reader-reads r t ok p l c q =
     let v = valid r t ok in
     let first = first-head t p l in
@@ -92,6 +92,6 @@ reader-reads r t ok p l c q =
 
 -- AND NO EDGE IS LEFT: after that many steps the reader is at the end
 pub reader-ends : (r : Limits) (t : List ℕ) → table-refusal r t ≡ 0 → (p : ℕ)
-    → reading-at t (record-nth (edges-of t p) t (first-record t p)) ≡ End
-unfolding edges-of
-reader-ends r t ok p = sym (read-end t _ (chain-ends t r (valid r t ok) (m-of t) (first-record t p) (λ o. omega arith)))
+    → item-at t (record-nth (records-in-chain t p) t (head-record t p)) ≡ End
+unfolding records-in-chain
+reader-ends r t ok p = sym (read-end t _ (chain-ends t r (valid r t ok) (m-of t) (head-record t p) (λ o. omega arith)))

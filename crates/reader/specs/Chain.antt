@@ -4,32 +4,32 @@ use mathlib.Core.List.{List}
 use Prim.Native.Nat.{ℕ, zero, suc}
 use lib.Dec.{ltb, leb, eqb}
 use Rattle.tables.specs.Table.{n-of, m-of, head-of, letter-of, target-of, next-of}
-use Rattle.reader.specs.declared.Reading.{Reading}
-use Rattle.reader.specs.declared.Reading.the-variants.{Edge, End}
+use Rattle.reader.specs.declared.ChainItem.{ChainItem}
+use Rattle.reader.specs.declared.ChainItem.the-variants.{Edge, End}
 
 -- records are numbered from 1 to m
 unfoldable pub is-record : List ℕ → (number : ℕ) → Bool
 is-record t r = leb 1 r && leb r (m-of t)
 
 -- the first where the test holds, else the second
-unfoldable pub either-reading : Bool → Reading → Reading → Reading
-either-reading true a b = a
-either-reading false a b = b
+unfoldable pub either-item : Bool → ChainItem → ChainItem → ChainItem
+either-item true a b = a
+either-item false a b = b
 
 -- the edge of a record; elsewhere the end
-unfoldable pub reading-at : List ℕ → (number : ℕ) → Reading
-reading-at t r = either-reading (is-record t r) (Edge (letter-of t r) (target-of t r)) End
+unfoldable pub item-at : List ℕ → (number : ℕ) → ChainItem
+item-at t r = either-item (is-record t r) (Edge (letter-of t r) (target-of t r)) End
 
 -- the record that follows in the chain; zero elsewhere
 unfoldable pub record-after : List ℕ → (number : ℕ) → ℕ
 record-after t r = cond (is-record t r) (next-of t r) 0
 
 -- where a state's chain begins; zero where there is no such state
-unfoldable pub first-record : List ℕ → (state : ℕ) → ℕ
-first-record t q = cond (ltb q (n-of t)) (head-of t q) 0
+unfoldable pub head-record : List ℕ → (state : ℕ) → ℕ
+head-record t q = cond (ltb q (n-of t)) (head-of t q) 0
 
 -- a walk goes on at an edge, for as many turns as there are records
-unfoldable pub goes-on : Reading → (turns records : ℕ) → Bool
+unfoldable pub goes-on : ChainItem → (turns records : ℕ) → Bool
 goes-on (Edge c q) i m = ltb i m
 goes-on End i m = false
 
@@ -38,9 +38,9 @@ unfoldable pub chain-length : (fuel : ℕ) → List ℕ → (r : ℕ) → ℕ
 chain-length zero t r = 0
 chain-length (suc f) t r = cond (is-record t r) (suc (chain-length f t (record-after t r))) 0
 
--- how many edges a state's chain has; no chain of a sound table has more than m
-unfoldable pub edges-of : List ℕ → (state : ℕ) → ℕ
-edges-of t q = chain-length (m-of t) t (first-record t q)
+-- how many records stand in a state's chain, of which some may repeat an edge; no chain of a sound table has more than m
+unfoldable pub records-in-chain : List ℕ → (state : ℕ) → ℕ
+records-in-chain t q = chain-length (m-of t) t (head-record t q)
 
 -- the record at which a reader stands after so many steps from r
 unfoldable pub record-nth : (steps : ℕ) → List ℕ → (r : ℕ) → ℕ
@@ -48,6 +48,6 @@ record-nth zero t r = r
 record-nth (suc i) t r = record-nth i t (record-after t r)
 
 -- what is read is an edge with this letter and target
-unfoldable pub reads : Reading → (letter target : ℕ) → Bool
+unfoldable pub reads : ChainItem → (letter target : ℕ) → Bool
 reads (Edge c q) x y = eqb c x && eqb q y
 reads End x y = false

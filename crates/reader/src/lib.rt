@@ -1,18 +1,18 @@
 // A small reader laid over a chained table: the caller's words and the number of a record (document 01, "The chained table").
-// The checker proves no function over such a struct by itself, so `new`, `edge`, `next` and `count_edges` are proved by hand.
-// The first three are thin: the work is done on the slice and the number, by `first_record`, `edge_at` and `record_after`.
+// The checker proves no function over such a struct by itself, so `new`, `edge`, `next` and `count_records` are proved by hand.
+// The first three are thin: the work is done on the slice and the number, by `head_record`, `edge_at` and `record_after`.
 // Every function answers on every slice: damaged links lead to the end.
 ghost use mathlib.Core.Path.{_≡_};
 ghost use Prim.Native.Nat.{_*_, _≤_};
 ghost use Rattle.basics.specs.Words.{word-bits, largest-word};
 ghost use Rattle.tables.specs.Table.{record-at};
-ghost use Rattle.reader.specs.Chain.{reading-at, record-after, first-record, goes-on, edges-of};
+ghost use Rattle.reader.specs.Chain.{item-at, record-after, head-record, goes-on, records-in-chain};
 use tables::records_of;
 use tables::states_of;
 use tables::word;
 
 // What stands at a record number: an edge, or the end of the chain.
-pub enum Reading {
+pub enum ChainItem {
     Edge { letter: usize, target: usize },
     End,
 }
@@ -26,8 +26,8 @@ pub struct Reader<'a> {
 // ON THE SLICE AND THE NUMBER
 
 // The first record of a state's chain; zero where it has none, or where there is no such state.
-pub fn first_record(table: &[u16], state: usize) -> usize
-    ensures { λ r. ⌜ r ≡ first-record (now (table .entry)) state ⌝ }
+pub fn head_record(table: &[u16], state: usize) -> usize
+    ensures { λ r. ⌜ r ≡ head-record (now (table .entry)) state ⌝ }
 {
     if state < states_of(table) {
         word(table, 4 + 2 * state)
@@ -45,17 +45,17 @@ fn record_place(table: &[u16], number: usize) -> usize
 }
 
 // The edge of a record, or the end where there is no such record.
-pub fn edge_at(table: &[u16], number: usize) -> Reading
-    ensures { λ r. ⌜ r ≡ reading-at (now (table .entry)) number ⌝ }
+pub fn edge_at(table: &[u16], number: usize) -> ChainItem
+    ensures { λ r. ⌜ r ≡ item-at (now (table .entry)) number ⌝ }
 {
     if number < 1 {
-        return Reading::End;
+        return ChainItem::End;
     }
     if number > records_of(table) {
-        return Reading::End;
+        return ChainItem::End;
     }
     let place = record_place(table, number);
-    Reading::Edge {
+    ChainItem::Edge {
         letter: word(table, place),
         target: word(table, place + 1),
     }
@@ -75,15 +75,15 @@ pub fn record_after(table: &[u16], number: usize) -> usize
 }
 
 // A walk goes on at an edge, for as many turns as there are records; so it ends where damaged links lead round.
-fn goes_on(reading: Reading, turns: usize, records: usize) -> bool
-    ensures { λ r. ⌜ r ≡ goes-on reading turns records ⌝ }
+fn goes_on(item: ChainItem, turns: usize, records: usize) -> bool
+    ensures { λ r. ⌜ r ≡ goes-on item turns records ⌝ }
 {
-    match reading {
-        Reading::Edge {
+    match item {
+        ChainItem::Edge {
             letter: _,
             target: _,
         } => turns < records,
-        Reading::End => false,
+        ChainItem::End => false,
     }
 }
 
@@ -91,17 +91,17 @@ fn goes_on(reading: Reading, turns: usize, records: usize) -> bool
 
 // A reader at the head of a state's chain.
 pub fn new<'a>(table: &'a [u16], state: usize) -> Reader<'a>
-    ensures { λ r. ⌜ (r .table ≡ table .entry) × (r .number ≡ first-record (now (table .entry)) state) ⌝ }
+    ensures { λ r. ⌜ (r .table ≡ table .entry) × (r .number ≡ head-record (now (table .entry)) state) ⌝ }
 {
     Reader {
         table,
-        number: first_record(table, state),
+        number: head_record(table, state),
     }
 }
 
 // What stands at the reader.
-pub fn edge<'a>(reader: Reader<'a>) -> Reading
-    ensures { λ r. ⌜ r ≡ reading-at (now (reader .entry .table)) (reader .entry .number) ⌝ }
+pub fn edge<'a>(reader: Reader<'a>) -> ChainItem
+    ensures { λ r. ⌜ r ≡ item-at (now (reader .entry .table)) (reader .entry .number) ⌝ }
 {
     edge_at(reader.table, reader.number)
 }
@@ -117,9 +117,10 @@ pub fn next<'a>(reader: Reader<'a>) -> Reader<'a>
     }
 }
 
-// How many edges a state's chain has. Its parameters are plain, so its callers need no proof by hand.
-pub fn count_edges(table: &[u16], state: usize) -> usize
-    ensures { λ r. ⌜ r ≡ edges-of (now (table .entry)) state ⌝ }
+// How many records stand in a state's chain: an edge that records repeat is counted as often as they do. Where damaged links lead
+// round, the count is that of all records. Its parameters are plain, so its callers need no proof by hand.
+pub fn count_records(table: &[u16], state: usize) -> usize
+    ensures { λ r. ⌜ r ≡ records-in-chain (now (table .entry)) state ⌝ }
 {
     let records = records_of(table);
     let mut reader = new(table, state);

@@ -37,14 +37,14 @@ use denote.Triple.Table.{entered, cited}
 use denote.Triple.Walked.{says, Stays, stay-none, walkOf, goes-none, Walks, ends-at, walked, walk-meets}
 use denote.Exit.{yes}
 use denote.Triple.Clauses.{ensured, lasts}
-use Rattle.reader.specs.Chain.{reading-at}
+use Rattle.reader.specs.Chain.{item-at}
 use Rattle.reader.specs.declared.Reader.{Reader}
-use Rattle.reader.specs.declared.Reading.{Reading}
+use Rattle.reader.specs.declared.ChainItem.{ChainItem}
 use Rattle.reader.proofs.Apart.{B, Own, passed, apart}
 use Rattle.reader.proofs.Reader as T
 use Rattle.reader.proofs.Reader.Laws as T′
-use Rattle.reader.proofs.Reading as S
-use Rattle.reader.proofs.Reading.Laws as S′
+use Rattle.reader.proofs.ChainItem as S
+use Rattle.reader.proofs.ChainItem.Laws as S′
 use Rattle.reader.proofs.edge_at as at
 use Rattle.reader.proofs.edge_at.Symbol as at-def
 use Rattle.reader.proofs.edge_at.Symbol.{name as #reader·edge-at}
@@ -66,8 +66,8 @@ module _ {M : Type 1} (𝓤 : URA M) (H : Heap 𝓤) (A : Atoms 𝓤) (W : Given
   abbrev mach : Val
   mach = T′.lowered d
 
-  abbrev found : Reading
-  found = reading-at (now (d .table)) (d .number)
+  abbrev found : ChainItem
+  found = item-at (now (d .table)) (d .number)
 
   abbrev Post : Val → SProp 𝓤
   Post = walkOf 𝓤 H A edge.ended stayed (edge.clauses 𝓤 H A mem run) .post (((κ, tt), (q, tt), tt, (d, tt), (mach ∷ [], tt)), tt)
@@ -85,10 +85,10 @@ module _ {M : Type 1} (𝓤 : URA M) (H : Heap 𝓤) (A : Atoms 𝓤) (W : Given
       use1 W (‵ (owns (ShrSlice (named 0) κ u16 ∷ usize ∷ []) (d .table, (d .number, tt)) (passed κ d)) ⊛ ‵ (Own κ d)) (apart 𝓤 H A W κ d fits) $ split ! $ move ! (2 ∷ 0 ∷ []) $ use2 W (raw (EdgeAt 𝓤 H A mem run .pre to)) asked $ frame ! $ done !
 
   -- of the callee's `ensured`, the clause alone: it has no `&mut`, so what is said of last values is dropped
-  said : (r : Reading) → ent 𝓤 (ensured 𝓤 H A at.ended (at.clauses 𝓤 H A mem run) (κ, tt) (d .table, (d .number, tt)) tt r) (fact 𝓤 (r ≡ found))
+  said : (r : ChainItem) → ent 𝓤 (ensured 𝓤 H A at.ended (at.clauses 𝓤 H A mem run) (κ, tt) (d .table, (d .number, tt)) tt r) (fact 𝓤 (r ≡ found))
   said r = exE 𝓤 _ (λ ws. snd∗ 𝓤 (sem 𝓤 H A (lasts at.ended (κ, tt) (d .table, (d .number, tt)) ws)) (fact 𝓤 (r ≡ found)))
 
-  exits : (r : Reading) (u : Val) → r ≡ found → ent 𝓤 (⋆ 𝓤 H A (‵ (S.the-row .own r (u ∷ [])) ∷ (‵ (flft κ q) ⊛ ‵ ftrue) ∷ ‵ (Own κ d) ∷ [])) (Post u)
+  exits : (r : ChainItem) (u : Val) → r ≡ found → ent 𝓤 (⋆ 𝓤 H A (‵ (S.the-row .own r (u ∷ [])) ∷ (‵ (flft κ q) ⊛ ‵ ftrue) ∷ ‵ (Own κ d) ∷ [])) (Post u)
   exits r u e =
       qed W (‵ (S.the-row .own r (u ∷ [])) ∷ (‵ (flft κ q) ⊛ ‵ ftrue) ∷ ‵ (Own κ d) ∷ []) ∵
       suffices ! _ (ends-at 𝓤 H A edge.ended stayed (edge.clauses 𝓤 H A mem run) W (((κ, tt), (q, tt), tt, (d, tt), (mach ∷ [], tt)), tt) u r (tt, tt) (tt, tt)) $ says ! e $
@@ -103,7 +103,7 @@ module _ {M : Type 1} (𝓤 : URA M) (H : Heap 𝓤) (A : Atoms 𝓤) (W : Given
         assigns ! (of-opd ! (load ! (from ! (fld ! refl (stop !))) (look-in ! 4 (sub ! 1 refl (whole !))))) (from ! (stop !)) (init ! 0 refl (tt, wt .1 .1 .0)) $
         move ! (8 ∷ []) $ use1 W (raw (EdgeAt 𝓤 H A mem run .pre to) ⊛ ‵ (Own κ d)) (goes (wt .1 .1 .0 .fits)) $ split ! $
         calls-at ! fm (EdgeAt 𝓤 H A mem run) known to (and-then ! (load ! (from ! (stop !)) (look ! 4 refl)) (and-then ! (load ! (from ! (stop !)) (look ! 2 refl)) (no-more !))) (λ u.
-        use1 W (later (some (λ (r : Reading). ((‵ (flft κ q) ⊛ ‵ ftrue) ⊛ ‵ (S.the-row .own r (u ∷ []))) ⊛ raw (ensured 𝓤 H A at.ended (at.clauses 𝓤 H A mem run) (κ, tt) (d .table, (d .number, tt)) tt r)))) (id⊢ 𝓤 _) $ await ! tt $ pick ! (λ r.
+        use1 W (later (some (λ (r : ChainItem). ((‵ (flft κ q) ⊛ ‵ ftrue) ⊛ ‵ (S.the-row .own r (u ∷ []))) ⊛ raw (ensured 𝓤 H A at.ended (at.clauses 𝓤 H A mem run) (κ, tt) (d .table, (d .number, tt)) tt r)))) (id⊢ 𝓤 _) $ await ! tt $ pick ! (λ r.
         split ! $ move ! (1 ∷ []) $ use1 W (raw (fact 𝓤 (r ≡ found))) (said r) $ heard ! (r ≡ found) (λ e. split ! $ move ! (1 ∷ []) $
         -- [the result; the token; what the struct owns; _3; …; _2; …; _1; …; room for _0; …]
         peeks ! S.the-row (Is S.the-row) (shows 𝓤 H A S.the-row) r (u ∷ []) (λ is.

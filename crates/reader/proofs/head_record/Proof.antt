@@ -1,8 +1,8 @@
--- `reader::first_record` meets its contract: a state that is there has its head. Assumes nothing.
+-- `reader::head_record` meets its contract: a state that is there has its head. Assumes nothing.
 use borrow.Author.Needs.{needs}
 use Rattle.reader.proofs.Chain_laws.{read-head, read-none}
-use Rattle.reader.proofs.first_record.Statement.{statement}
-use Rattle.reader.proofs.first_record.Tie as tie
+use Rattle.reader.proofs.head_record.Statement.{statement}
+use Rattle.reader.proofs.head_record.Tie as tie
 
 states-of-requires : tie.Need-states-of-requires
 states-of-requires c κs = search needs
@@ -22,6 +22,6 @@ returns c = read-head _ _ (c .before .before .states-of .ensures) (c .before .if
 returns-2 : tie.Need-returns-2
 returns-2 c = read-none _ _ (c .before .states-of .ensures) (c .if1 .left)
 
-pub first-record-spec : {M : Type 1} → statement M
-first-record-spec =
+pub head-record-spec : {M : Type 1} → statement M
+head-record-spec =
     tie.close (tie.spec states-of-requires mul-word add-word word-requires returns returns-2)

@@ -1,4 +1,4 @@
--- `reader::count_edges` meets its contract: a walk of its MIR, by hand, with a loop. A `Reader` stands in a local; each turn asks what stands at it, and steps on. All that the proof knows of the five functions called is that each meets its contract.
+-- `reader::count_records` meets its contract: a walk of its MIR, by hand, with a loop. A `Reader` stands in a local; each turn asks what stands at it, and steps on. All that the proof knows of the five functions called is that each meets its contract.
 --     goes-…, …-said   of each function called: what it asks, from what is owned, and what is known of its result
 --     Turn, At         the loop's invariant: the reader is over the table passed, and what is counted and what is left make up the whole (`Counted`). Its variant: m less the count (`Nearer`)
 --     turns            a turn from the invariant, up to the test; then `more`, a step and the count, or `ends`, which leaves the loop and runs the rest of the body
@@ -55,15 +55,15 @@ use Rattle.tables.proofs.records_of as records
 use Rattle.tables.proofs.records_of.Symbol as records-def
 use Rattle.tables.proofs.records_of.Symbol.{name as #tables·records-of}
 use Rattle.tables.proofs.records_of.Met as records-thm
-use Rattle.reader.specs.Chain.{first-record, reading-at, record-after, goes-on, edges-of}
+use Rattle.reader.specs.Chain.{head-record, item-at, record-after, goes-on, records-in-chain}
 use Rattle.reader.specs.declared.Reader.{Reader}
-use Rattle.reader.specs.declared.Reading.{Reading}
+use Rattle.reader.specs.declared.ChainItem.{ChainItem}
 use Rattle.reader.proofs.Apart.{B}
 use Rattle.reader.proofs.Counting.{Counted, count-start, count-more, count-done}
 use Rattle.reader.proofs.Reader as T
 use Rattle.reader.proofs.Reader.Laws as T′
-use Rattle.reader.proofs.Reading as S
-use Rattle.reader.proofs.Reading.Laws as S′
+use Rattle.reader.proofs.ChainItem as S
+use Rattle.reader.proofs.ChainItem.Laws as S′
 use Rattle.reader.proofs.new as new
 use Rattle.reader.proofs.new.Symbol as new-def
 use Rattle.reader.proofs.new.Symbol.{name as #reader·new}
@@ -80,11 +80,11 @@ use Rattle.reader.proofs.next as next
 use Rattle.reader.proofs.next.Symbol as next-def
 use Rattle.reader.proofs.next.Symbol.{name as #reader·next}
 use Rattle.reader.proofs.next.Met as next-thm
-use Rattle.reader.proofs.count_edges.Key.{name as #reader·count-edges}
-use Rattle.reader.proofs.count_edges as count
-use Rattle.reader.proofs.count_edges.Statement as stated
-use Rattle.reader.proofs.count_edges.Code as code
-use Rattle.reader.proofs.count_edges.Code.Mir as body
+use Rattle.reader.proofs.count_records.Key.{name as #reader·count-records}
+use Rattle.reader.proofs.count_records as count
+use Rattle.reader.proofs.count_records.Statement as stated
+use Rattle.reader.proofs.count_records.Code as code
+use Rattle.reader.proofs.count_records.Code.Mir as body
 
 abbrev stayed : Stays (count.ended .signature .params) (count.ended .kept)
 stayed = (stay-none-slice (0 ∷ []) tt (plain (λ _. u16)) yes, (stay-none (λ _. usize) yes, tt))
@@ -179,7 +179,7 @@ module _ {M : Type 1} (𝓤 : URA M) (H : Heap 𝓤) (A : Atoms 𝓤) (W : Given
   goes-new = qed W (‵ Own ∷ Token ∷ []) ∵ nothing ! $ owned ! usize (Is usize) (uint-makes 𝓤 H A W w64) n _ (refl, n-fits) $ fjoin ! $ move ! (1 ∷ 0 ∷ []) $ fjoin ! $ move ! (1 ∷ 0 ∷ []) $ join ! $ frame ! $ done !
 
   abbrev Made : Reader → Type 0
-  Made d = (d .table ≡ s) × (d .number ≡ first-record (now s) n)
+  Made d = (d .table ≡ s) × (d .number ≡ head-record (now s) n)
 
   new-said : (d : Reader) → ent 𝓤 (ensured 𝓤 H A new.ended (new.clauses 𝓤 H A mem run) (κ, tt) (s, (n, tt)) tt d) (fact 𝓤 (Made d))
   new-said d = exE 𝓤 _ (λ ws. snd∗ 𝓤 (sem 𝓤 H A (lasts new.ended (κ, tt) (s, (n, tt)) ws)) (fact 𝓤 (Made d)))
@@ -190,21 +190,21 @@ module _ {M : Type 1} (𝓤 : URA M) (H : Heap 𝓤) (A : Atoms 𝓤) (W : Given
   goes-edge : (d : Reader) (u : Val) → ent 𝓤 (⋆ 𝓤 H A (‵ (OwnR d u) ∷ Token ∷ [])) (Edge 𝓤 H A mem run .pre (to-edge d u))
   goes-edge d u = qed W (‵ (OwnR d u) ∷ Token ∷ []) ∵ nothing ! $ move ! (1 ∷ 0 ∷ []) $ fjoin ! $ move ! (1 ∷ 0 ∷ []) $ join ! $ frame ! $ done !
 
-  abbrev Read : Reader → Reading → Type 0
-  Read d e = e ≡ reading-at (now (d .table)) (d .number)
+  abbrev Read : Reader → ChainItem → Type 0
+  Read d e = e ≡ item-at (now (d .table)) (d .number)
 
-  edge-said : (d : Reader) (e : Reading) → ent 𝓤 (ensured 𝓤 H A edge.ended (edge.clauses 𝓤 H A mem run) (κ, tt) (d, tt) tt e) (fact 𝓤 (Read d e))
+  edge-said : (d : Reader) (e : ChainItem) → ent 𝓤 (ensured 𝓤 H A edge.ended (edge.clauses 𝓤 H A mem run) (κ, tt) (d, tt) tt e) (fact 𝓤 (Read d e))
   edge-said d e = exE 𝓤 _ (λ ws. snd∗ 𝓤 (sem 𝓤 H A (lasts edge.ended (κ, tt) (d, tt) ws)) (fact 𝓤 (Read d e)))
 
-  abbrev to-goes : Reading → Val → ℕ → ℕ → Goes 𝓤 H A mem run .Ghost
+  abbrev to-goes : ChainItem → Val → ℕ → ℕ → Goes 𝓤 H A mem run .Ghost
   to-goes e u i m = ((tt, tt, tt, (e, (i, (m, tt))), (u ∷ [], (vint w64 i ∷ [], (vint w64 m ∷ [], tt)))), tt)
 
-  goes-goes : (e : Reading) (u : Val) (i m : ℕ) → i < 2 ^ 64 → m < 2 ^ 64 → ent 𝓤 (⋆ 𝓤 H A (‵ (S.the-row .own e (u ∷ [])) ∷ [])) (Goes 𝓤 H A mem run .pre (to-goes e u i m))
+  goes-goes : (e : ChainItem) (u : Val) (i m : ℕ) → i < 2 ^ 64 → m < 2 ^ 64 → ent 𝓤 (⋆ 𝓤 H A (‵ (S.the-row .own e (u ∷ [])) ∷ [])) (Goes 𝓤 H A mem run .pre (to-goes e u i m))
   goes-goes e u i m i-fits m-fits =
       qed W (‵ (S.the-row .own e (u ∷ [])) ∷ []) ∵ nothing ! $ owned ! usize (Is usize) (uint-makes 𝓤 H A W w64) m _ (refl, m-fits) $ fjoin ! $ owned ! usize (Is usize) (uint-makes 𝓤 H A W w64) i _ (refl, i-fits) $ fjoin ! $
       move ! (1 ∷ 0 ∷ []) $ fjoin ! $ nothing ! $ join ! $ frame ! $ done !
 
-  goes-said : (e : Reading) (i m : ℕ) (b : Bool) → ent 𝓤 (ensured 𝓤 H A goes.ended (goes.clauses 𝓤 H A mem run) tt (e, (i, (m, tt))) tt b) (fact 𝓤 (b ≡ goes-on e i m))
+  goes-said : (e : ChainItem) (i m : ℕ) (b : Bool) → ent 𝓤 (ensured 𝓤 H A goes.ended (goes.clauses 𝓤 H A mem run) tt (e, (i, (m, tt))) tt b) (fact 𝓤 (b ≡ goes-on e i m))
   goes-said e i m b = exE 𝓤 _ (λ ws. snd∗ 𝓤 (sem 𝓤 H A (lasts goes.ended tt (e, (i, (m, tt))) ws)) (fact 𝓤 (b ≡ goes-on e i m)))
 
   abbrev to-next : Reader → Val → Next 𝓤 H A mem run .Ghost
@@ -219,7 +219,7 @@ module _ {M : Type 1} (𝓤 : URA M) (H : Heap 𝓤) (A : Atoms 𝓤) (W : Given
   next-said : (d d′ : Reader) → ent 𝓤 (ensured 𝓤 H A next.ended (next.clauses 𝓤 H A mem run) (κ, tt) (d, tt) tt d′) (fact 𝓤 (Stepped d d′))
   next-said d d′ = exE 𝓤 _ (λ ws. snd∗ 𝓤 (sem 𝓤 H A (lasts next.ended (κ, tt) (d, tt) ws)) (fact 𝓤 (Stepped d d′)))
 
-  exits : (r : ℕ) → r ≡ edges-of (now s) n → r < 2 ^ 64 → ent 𝓤 (⋆ 𝓤 H A (Token ∷ ‵ Own ∷ [])) (Post (vint w64 r))
+  exits : (r : ℕ) → r ≡ records-in-chain (now s) n → r < 2 ^ 64 → ent 𝓤 (⋆ 𝓤 H A (Token ∷ ‵ Own ∷ [])) (Post (vint w64 r))
   exits r e r-fits =
       qed W (Token ∷ ‵ Own ∷ []) ∵
       suffices ! _ (ends-at 𝓤 H A count.ended stayed (count.clauses 𝓤 H A mem run) W (((κ, tt), (q, tt), tt, (s, (n, tt)), at), tt) (vint w64 r) r (tt, (tt, tt)) (tt, (tt, tt))) $ says ! e $
@@ -227,11 +227,11 @@ module _ {M : Type 1} (𝓤 : URA M) (H : Heap 𝓤) (A : Atoms 𝓤) (W : Given
 
   -- THE LOOP
   -- a test's answer, as what the definitions say
-  met : (w : Turn κ s n) {m : ℕ} {e : Reading} {b : Bool} → Word word-bits m (m-of (now s)) → Read (w .d) e → b ≡ goes-on e (w .i) m → b ≡ goes-on (reading-at (now s) (w .d .number)) (w .i) (m-of (now s))
+  met : (w : Turn κ s n) {m : ℕ} {e : ChainItem} {b : Bool} → Word word-bits m (m-of (now s)) → Read (w .d) e → b ≡ goes-on e (w .i) m → b ≡ goes-on (item-at (now s) (w .d .number)) (w .i) (m-of (now s))
   met w m-is e-is b-is = rw (e-is, w .same, m-is .is) at b-is
 
   -- the turn after this one
-  abbrev on-next : (w : Turn κ s n) → goes-on (reading-at (now s) (w .d .number)) (w .i) (m-of (now s)) ≡ true → (d′ : Reader) (u′ : Val) → Stepped (w .d) d′ → Is (B (κ, tt)) d′ (u′ ∷ []) → Turn κ s n
+  abbrev on-next : (w : Turn κ s n) → goes-on (item-at (now s) (w .d .number)) (w .i) (m-of (now s)) ≡ true → (d′ : Reader) (u′ : Val) → Stepped (w .d) d′ → Is (B (κ, tt)) d′ (u′ ∷ []) → Turn κ s n
   on-next w on d′ u′ st is = record {
     d = d′;
     u = u′;
@@ -302,7 +302,7 @@ module _ {M : Type 1} (𝓤 : URA M) (H : Heap 𝓤) (A : Atoms 𝓤) (W : Given
     typed d u is = LL.lawful (T.the-type αᵉ) (T′.the-laws αᵉ) 𝓤 H A W .typed d _ is .0
 
     -- the rest of a turn that goes on: a step, and the count
-    more : (w : Turn κ s n) (u₇ : Val) (b : Bool) → goes-on (reading-at (now s) (w .d .number)) (w .i) (m-of (now s)) ≡ true → Sq W (Tested w u₇ b) (runs C Λ En step (anyQ (Turned w)))
+    more : (w : Turn κ s n) (u₇ : Val) (b : Bool) → goes-on (item-at (now s) (w .d .number)) (w .i) (m-of (now s)) ≡ true → Sq W (Tested w u₇ b) (runs C Λ En step (anyQ (Turned w)))
     unfolding afterTurn
     more w u₇ b on =
         assigns ! (of-opd ! (load ! (from ! (stop !)) (look ! 13 refl))) (from ! (stop !)) (init ! 3 refl (typed (w .d) (w .u) (w .is))) $
@@ -323,7 +323,7 @@ module _ {M : Type 1} (𝓤 : URA M) (H : Heap 𝓤) (A : Atoms 𝓤) (W : Given
         next-fits = omega (arith, less, m-fits)
 
     -- a turn that leaves the loop, and the rest of the body
-    ends : (w : Turn κ s n) (u₇ : Val) (b : Bool) → goes-on (reading-at (now s) (w .d .number)) (w .i) (m-of (now s)) ≡ false → Sq W (Tested w u₇ b) (runs C Λ En body.t-5 (atRet En Post))
+    ends : (w : Turn κ s n) (u₇ : Val) (b : Bool) → goes-on (item-at (now s) (w .d .number)) (w .i) (m-of (now s)) ≡ false → Sq W (Tested w u₇ b) (runs C Λ En body.t-5 (atRet En Post))
     ends w u₇ b off =
         assigns ! (of-opd ! (load ! (from ! (stop !)) (look ! 11 refl))) (from ! (stop !)) (init ! 21 refl (tt, record { fits = i-fits w })) $
         returns ! (look ! 21 refl) $ forget ! 5 refl $ forget ! 7 refl $ forget ! 9 refl $ forget ! 11 refl $ forget ! 13 refl $ forget ! 15 refl $ forget ! 17 refl $ forget ! 19 refl $ forget ! 21 refl $
@@ -337,7 +337,7 @@ module _ {M : Type 1} (𝓤 : URA M) (H : Heap 𝓤) (A : Atoms 𝓤) (W : Given
         use1 W (‵ (OwnR (w .d) (w .u)) ⊛ ‵ (OwnR (w .d) (w .u))) (LL.copy (T.the-type (namedLft 1 0 tt (κ, tt))) (T′.the-copy (namedLft 1 0 tt (κ, tt))) 𝓤 H A W .twice (w .d) (w .u ∷ [])) $ split ! $
         move ! (0 ∷ 2 ∷ []) $ use2 W (raw (Edge 𝓤 H A mem run .pre (to-edge (w .d) (w .u)))) (goes-edge (w .d) (w .u)) $
         calls-at ! fm (Edge 𝓤 H A mem run) known-edge (to-edge (w .d) (w .u)) (and-then ! (load ! (from ! (stop !)) (look ! 5 refl)) (no-more !)) (λ u₇.
-        use1 W (later (some (λ (e : Reading). (Token ⊛ ‵ (S.the-row .own e (u₇ ∷ []))) ⊛ raw (ensured 𝓤 H A edge.ended (edge.clauses 𝓤 H A mem run) (κ, tt) (w .d, tt) tt e)))) (id⊢ 𝓤 _) $ await ! tt $ pick ! (λ e.
+        use1 W (later (some (λ (e : ChainItem). (Token ⊛ ‵ (S.the-row .own e (u₇ ∷ []))) ⊛ raw (ensured 𝓤 H A edge.ended (edge.clauses 𝓤 H A mem run) (κ, tt) (w .d, tt) tt e)))) (id⊢ 𝓤 _) $ await ! tt $ pick ! (λ e.
         split ! $ move ! (1 ∷ []) $ use1 W (raw (fact 𝓤 (Read (w .d) e))) (edge-said (w .d) e) $ heard ! (Read (w .d) e) (λ e-is. split ! $ move ! (1 ∷ []) $
         -- [the reading; the token; what the reader owns; what table owns; room for _9; …; _8; …; room for _7; …; room for _6; …; _5; …; _4; …; _3; …; …]
         peeks ! S.the-row (Is S.the-row) (shows 𝓤 H A S.the-row) e (u₇ ∷ []) (λ is₇.
@@ -396,11 +396,11 @@ module _ {M : Type 1} (𝓤 : URA M) (H : Heap 𝓤) (A : Atoms 𝓤) (W : Given
   count-meets : Meets 𝓤 H A count.signature (WpFn 𝓤 H (𝓣 .C) (𝓣 .Λ) code.function) (count.spec 𝓤 H A mem run)
   count-meets = walk-meets 𝓤 H A count.ended stayed W (goes-none-slice 𝓤 H A W 1 (0 ∷ []) tt (plain (λ _. u16)) yes, (goes-none 𝓤 H A W 1 (λ _. usize) yes (λ κs x f. refl), tt)) (count.clauses 𝓤 H A mem run) (WpFn 𝓤 H (𝓣 .C) (𝓣 .Λ) code.function) (WpFn-mono 𝓤 H (W .laws) 𝓣 code.function) count-walks
 
-pub count-edges-spec : {M : Type 1} → stated.statement M
+pub count-records-spec : {M : Type 1} → stated.statement M
 unfolding code.routine tablesOf
-count-edges-spec 𝓤 H 𝓜 𝓖 𝓡 =
+count-records-spec 𝓤 H 𝓜 𝓖 𝓡 =
     entered 𝓤 H (tripleOf 𝓤 H (𝓖 .A) count.signature (count.spec 𝓤 H (𝓖 .A) (𝓜 .mem) (𝓡 .run)))
-    (tables 𝓤 H 𝓜 𝓡 code.env .C) (tables 𝓤 H 𝓜 𝓡 code.env .Λ) #reader·count-edges code.function (code.unfolded 𝓤 H 𝓜 𝓡)
+    (tables 𝓤 H 𝓜 𝓡 code.env .C) (tables 𝓤 H 𝓜 𝓡 code.env .Λ) #reader·count-records code.function (code.unfolded 𝓤 H 𝓜 𝓡)
     (count-meets 𝓤 H (𝓖 .A) (givenOf 𝓤 H 𝓜 𝓖) (𝓜 .mem) (𝓡 .run) (tablesOf 𝓤 H 𝓜 (tables 𝓤 H 𝓜 𝓡 code.env))
     (cited 𝓤 H (Records 𝓤 H (𝓖 .A) (𝓜 .mem) (𝓡 .run)) 𝓜 𝓡 code.env #tables·records-of records-def.routine code.calls-tables·records-of (records-thm.met 𝓤 H 𝓜 𝓖 𝓡))
     (cited 𝓤 H (New 𝓤 H (𝓖 .A) (𝓜 .mem) (𝓡 .run)) 𝓜 𝓡 code.env #reader·new new-def.routine code.calls-reader·new (new-thm.met 𝓤 H 𝓜 𝓖 𝓡))
