@@ -1,16 +1,19 @@
--- A scan of records from the first on finds the place of a quadruple, which is its number among them. Assumes nothing.
+-- A scan of records from the first on finds the place of a quadruple, which is its number among them; what is found in a run behind the
+-- records that it was filled from is none of them. Assumes nothing.
 use mathlib.Core.Path.{_≡_, refl, ap}
+use mathlib.Core.Logic.{inl, inr}
 use mathlib.Core.Bool.{true, false, cond}
 use mathlib.Core.List.{List, [], _∷_}
-use Prim.Native.Nat.{ℕ, suc, _+_, _≤_, _<_}
+use Prim.Native.Nat.{ℕ, zero, suc, _+_, _≤_, _<_, min}
 use native.Mathlib.Numerals.{add-one}
 use native.Mathlib.Omega.{arith}
-use lib.ListN.{length, getD, drop, drop-of-length-le}
+use lib.ListN.{length, getD, take, drop, drop-of-length-le}
 use lib.Seq.{drop-cons}
+use Rattle.basics.proofs.Booleans.{either}
 use Rattle.automata.specs.System.{number-of}
 use Rattle.ncsb.specs.Successors.{same}
 use Rattle.ncsb.specs.declared.Quadruple.{Quadruple}
-use Rattle.records.specs.Records.{blank, place-of}
+use Rattle.records.specs.Records.{blank, fitted, place-of}
 
 -- the place of a quadruple is the number that exploring gives it (document 01, "Numbering and result")
 pub place-number : (x : Quadruple) (ys : List Quadruple) → place-of x ys ≡ number-of same x ys
@@ -45,3 +48,22 @@ module _ (x : Quadruple) (ys : List Quadruple) where
   scanned-all k e s =
       let m : length ys ≤ k = omega arith in
       let h : place-of x (drop k ys) ≡ 0 = rw (drop-of-length-le ys m) refl in let f = s .left in omega arith
+
+-- AMONG THE FIRST k RECORDS ys: the place in a run of k that is filled from them, unless it lies behind them
+place-held :
+    (k : ℕ) (x : Quadruple) (ys : List Quadruple) → place-of x (take k ys) ≡ min (place-of x (fitted k ys)) (length ys)
+unfolding place-of fitted
+place-held zero x ys = omega arith
+place-held (suc k) x [] = omega arith
+place-held (suc k) x (y ∷ ys) =
+    elim (either (same x y)) [
+      | inl e ↦ rw e (omega arith)
+      | inr e ↦ let h = place-held k x ys in rw e (omega arith)
+    ]
+
+module _ (x : Quadruple) (ys : List Quadruple) (k : ℕ) {p m : ℕ} (place : p ≡ place-of x (fitted k ys)) (held : length ys ≡ m) where
+  pub found-held : p < m → p ≡ place-of x (take k ys)
+  found-held l = let h = place-held k x ys in omega arith
+
+  pub found-behind : m ≤ p → m ≡ place-of x (take k ys)
+  found-behind l = let h = place-held k x ys in omega arith

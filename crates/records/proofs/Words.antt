@@ -1,53 +1,34 @@
--- The records of words, one by one: record i is words 4i to 4i + 3 where they are all there, and blank else. Assumes nothing.
-use mathlib.Core.Path.{_≡_, refl}
-use mathlib.Core.List.{List, [], _∷_}
-use Prim.Native.Nat.{ℕ, zero, suc, _+_, _*_, _/_, _≤_, _<_}
+-- The records of words, one by one: as many as are full, each as it is read; beyond them blank. Assumes nothing.
+use mathlib.Core.Path.{_≡_, refl, sym, _∙_}
+use mathlib.Core.List.{List}
+use Prim.Native.Nat.{ℕ, _≤_, _<_}
 use native.Mathlib.Omega.{arith}
-use lib.ListN.{length, getD}
+use lib.ListN.{length, getD, List·getD-eq-default}
+use Rattle.automata.proofs.Graphs.{tabulate-at, tabulate-length}
 use Rattle.ncsb.specs.Successors.{quadruple}
 use Rattle.ncsb.specs.declared.Quadruple.{Quadruple}
+use Rattle.record_words.specs.Record.{full-records, quadruple-at}
 use Rattle.records.specs.Records.{blank, records-of}
 
--- the words of the record with a number
-abbrev four : List ℕ → (number : ℕ) → Quadruple
-four w i = quadruple (getD w (4 * i) 0) (getD w (4 * i + 1) 0) (getD w (4 * i + 2) 0) (getD w (4 * i + 3) 0)
+-- how many there are
+pub records-length : (w : List ℕ) → length (records-of w) ≡ full-records w
+unfolding records-of
+records-length w = tabulate-length (full-records w) (quadruple-at w)
 
-four-later : (n c s b : ℕ) (w : List ℕ) (i : ℕ) → four (n ∷ c ∷ s ∷ b ∷ w) (suc i) ≡ four w i
-four-later n c s b w i =
-    let e₀ : 4 * suc i ≡ suc (suc (suc (suc (4 * i)))) = omega arith in
-    let e₁ : 4 * suc i + 1 ≡ suc (suc (suc (suc (4 * i + 1)))) = omega arith in
-    let e₂ : 4 * suc i + 2 ≡ suc (suc (suc (suc (4 * i + 2)))) = omega arith in
-    let e₃ : 4 * suc i + 3 ≡ suc (suc (suc (suc (4 * i + 3)))) = omega arith in rw (e₁, e₂, e₃, e₀) refl
-
-full : (w : List ℕ) (i : ℕ) → 4 * i + 4 ≤ length w → getD (records-of w) i blank ≡ four w i
-unfolding records-of quadruple
-full [] i l = absurd (omega arith)
-full (n ∷ []) i l = absurd (omega arith)
-full (n ∷ c ∷ []) i l = absurd (omega arith)
-full (n ∷ c ∷ s ∷ []) i l = absurd (omega arith)
-full (n ∷ c ∷ s ∷ b ∷ w) zero l = refl
-full (n ∷ c ∷ s ∷ b ∷ w) (suc i) l = rw (four-later n c s b w i) (full w i (omega arith))
-
-none : (w : List ℕ) (i : ℕ) → length w < 4 * i + 4 → getD (records-of w) i blank ≡ blank
-unfolding records-of quadruple
-none [] i l = refl
-none (n ∷ []) i l = refl
-none (n ∷ c ∷ []) i l = refl
-none (n ∷ c ∷ s ∷ []) i l = refl
-none (n ∷ c ∷ s ∷ b ∷ w) zero l = absurd (omega arith)
-none (n ∷ c ∷ s ∷ b ∷ w) (suc i) l = none w i (omega arith)
-
--- as the code reads it
+-- as the code reads them, x and m being what the record is read as and how many there are
 pub record-read :
-    (w : List ℕ) (i : ℕ) → i < length w / 4 →
-    _≡_ {A = Quadruple}
-    (record { N = getD w (4 * i) 0; C = getD w (4 * i + 1) 0; S = getD w (4 * i + 2) 0; B = getD w (4 * i + 3) 0 })
-    (getD (records-of w) i blank)
-unfolding quadruple
-record-read w i l = let m : 4 * i + 4 ≤ length w = omega arith in rw (full w i m) refl
+    (w : List ℕ) (i : ℕ) {x : Quadruple} {m : ℕ} → m ≡ full-records w → i < m → x ≡ quadruple-at w i →
+    x ≡ getD (records-of w) i blank
+unfolding records-of
+record-read w i e l is =
+    let inside : i < full-records w = omega arith in
+    is ∙ sym (tabulate-at (full-records w) (quadruple-at w) i blank inside)
 
 pub record-blank :
-    (w : List ℕ) (i : ℕ) → length w / 4 ≤ i →
+    (w : List ℕ) (i : ℕ) {m : ℕ} → m ≡ full-records w → m ≤ i →
     _≡_ {A = Quadruple} (record { N = 0; C = 0; S = 0; B = 0 }) (getD (records-of w) i blank)
 unfolding blank quadruple
-record-blank w i l = let m : length w < 4 * i + 4 = omega arith in rw (none w i m) refl
+record-blank w i e l =
+    let long = records-length w in
+    let past : length (records-of w) ≤ i = omega arith in
+    sym (List·getD-eq-default (records-of w) _ past)

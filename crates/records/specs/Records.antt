@@ -1,21 +1,19 @@
--- A lent run of records, four sets each (document 01, "Numbering and result"). Assumes nothing: these are definitions.
+-- A lent run of records, a quadruple each (document 01, "Numbering and result"). Assumes nothing: these are definitions.
 use mathlib.Core.Bool.{cond}
 use mathlib.Core.List.{List, [], _∷_}
 use Prim.Native.Nat.{ℕ, zero, suc}
+use Rattle.automata.specs.Decision.{tabulate}
 use Rattle.ncsb.specs.Successors.{quadruple, same}
 use Rattle.ncsb.specs.declared.Quadruple.{Quadruple}
+use Rattle.record_words.specs.Record.{full-records, quadruple-at}
 
 -- what stands where no record is: four empty sets
 unfoldable pub blank : Quadruple
 blank = quadruple 0 0 0 0
 
--- the records of words: N, C, S, B in that order; words left over that make no full record count as none
+-- the records of words, in order; words left over that make no full record count as none
 unfoldable pub records-of : (words : List ℕ) → List Quadruple
-records-of [] = []
-records-of (n ∷ []) = []
-records-of (n ∷ c ∷ []) = []
-records-of (n ∷ c ∷ s ∷ []) = []
-records-of (n ∷ c ∷ s ∷ b ∷ words) = quadruple n c s b ∷ records-of words
+records-of w = tabulate (full-records w) (quadruple-at w)
 
 -- so many records that begin with given ones, as many as fit, and are blank beyond them
 unfoldable pub fitted : (count : ℕ) → List Quadruple → List Quadruple

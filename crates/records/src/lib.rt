@@ -1,9 +1,9 @@
-// A lent run of records, four 32-bit sets each, and thin functions over it (document 01, "Numbering and result").
+// A lent run of records, a quadruple each, and thin functions over it (document 01, "Numbering and result").
 use ncsb::Quadruple;
+use record_words::full_records;
 ghost use mathlib.Core.Path.{_≡_};
 ghost use Prim.Native.Nat.{_<_};
-ghost use lib.ListN.{length, getD, set};
-ghost use Rattle.ncsb.specs.Successors.{same};
+ghost use lib.ListN.{length, getD, set, take};
 ghost use Rattle.records.specs.Records.{blank, records-of, fitted, place-of};
 
 // How many records are lent.
@@ -33,14 +33,8 @@ pub fn store(records: &mut [Quadruple], number: usize, x: Quadruple)
 pub fn record_in(sets: &[u32], number: usize) -> Quadruple
     ensures { λ r. ⌜ r ≡ getD (records-of (now (sets .entry))) number blank ⌝ }
 {
-    if number < sets.len() / 4 {
-        let at = 4 * number;
-        return Quadruple {
-            N: sets[at],
-            C: sets[at + 1],
-            S: sets[at + 2],
-            B: sets[at + 3],
-        };
+    if number < full_records(sets) {
+        return record_words::load(sets, number);
     }
     Quadruple {
         N: 0,
@@ -61,20 +55,13 @@ pub fn fill(records: &mut [Quadruple], sets: &[u32])
     }
 }
 
-// Two quadruples are the same: all four sets are compared, with no branch.
-pub fn equal(x: Quadruple, y: Quadruple) -> bool
-    ensures { λ r. ⌜ r ≡ same x y ⌝ }
-{
-    ((x.N == y.N) & (x.C == y.C)) & ((x.S == y.S) & (x.B == y.B))
-}
-
 // The place of the first record that holds a quadruple, or their count.
 pub fn find(records: &[Quadruple], x: Quadruple) -> usize
     ensures { λ r. ⌜ r ≡ place-of x (now (records .entry)) ⌝ }
 {
     let mut number = 0;
     while number < records.len() {
-        if equal(x, records[number]) {
+        if x.equals(records[number]) {
             return number;
         }
         number += 1;
@@ -82,8 +69,9 @@ pub fn find(records: &[Quadruple], x: Quadruple) -> usize
     number
 }
 
-// Looks a quadruple up among the first four records of words: its place, or four. A run of four is filled from the words, and searched.
-pub fn find_in_words(sets: &[u32], x: Quadruple) -> usize
+// Looks a quadruple up in a run of four that is filled from words: its place, or four. Where the words make fewer records, the rest of
+// the run is blank, and a blank quadruple is found there.
+fn find_in_four(sets: &[u32], x: Quadruple) -> usize
     ensures { λ r. ⌜ r ≡ place-of x (fitted 4 (records-of (now (sets .entry)))) ⌝ }
 {
     let mut records = [Quadruple {
@@ -94,6 +82,16 @@ pub fn find_in_words(sets: &[u32], x: Quadruple) -> usize
     }; 4];
     fill(&mut records, sets);
     find(&records, x)
+}
+
+// Looks a quadruple up among the first four records of words: its place, or how many of them there are. What the words do not make is
+// no record, so a place behind them is none. The parameters are plain, so that callers need no proof by hand.
+pub fn find_in_words(sets: &[u32], x: Quadruple) -> usize
+    ensures { λ r. ⌜ r ≡ place-of x (take 4 (records-of (now (sets .entry)))) ⌝ }
+{
+    let place = find_in_four(sets, x);
+    let held = full_records(sets);
+    if place < held { place } else { held }
 }
 
 // The C call: fills the lent records from the sets words of a build, and clears the rest.

@@ -1,4 +1,4 @@
--- `records::find` meets its contract: a walk of its MIR, by hand. All that it knows of `equal` is that it meets its contract.
+-- `records::find` meets its contract: a walk of its MIR, by hand. All that it knows of `Quadruple::equals` is that it meets its contract.
 -- The slice is looked into once, before the loop, and shut where the function returns. Each turn takes one record out of the row, copies it, and puts it back.
 --     Upto, At     the loop's variant, how many records are scanned and that none of them is x (`Scanned`), and its invariant
 --     leave        the locals end, at a place that is the one asked for
@@ -59,10 +59,10 @@ use Rattle.ncsb.proofs.Quadruple.Laws as Q′
 use Rattle.records.specs.Records.{blank, place-of}
 use Rattle.records.proofs.First.{Scanned, scanned-none, scanned-met, scanned-more, scanned-all}
 use Rattle.records.proofs.Machine.{bytes-fit, typed}
-use Rattle.records.proofs.equal as equal
-use Rattle.records.proofs.equal.Symbol as equal-def
-use Rattle.records.proofs.equal.Symbol.{name as #records·equal}
-use Rattle.records.proofs.equal.Met as equal-thm
+use Rattle.ncsb.proofs.Quadruple.equals as equals
+use Rattle.ncsb.proofs.Quadruple.equals.Symbol as equals-def
+use Rattle.ncsb.proofs.Quadruple.equals.Symbol.{name as #ncsb·equals}
+use Rattle.ncsb.proofs.Quadruple.equals.Met as equals-thm
 use Rattle.records.proofs.find.Key.{name as #records·find}
 use Rattle.records.proofs.find as find
 use Rattle.records.proofs.find.Statement as stated
@@ -82,12 +82,12 @@ counts = assign (place 3 []) (op2 (add unsigned) (copy (place 3 [])) (int w64 1)
 
 module _ {M : Type 1} (𝓤 : URA M) (H : Heap 𝓤) (A : Atoms 𝓤) (mem : Memory → SProp 𝓤) (run : Routine → Fun 𝓤) where
   -- the contract that the proof cites
-  abbrev Equal : Contract 𝓤
-  Equal = tripleOf 𝓤 H A equal.signature (equal.spec 𝓤 H A mem run)
+  abbrev Equals : Contract 𝓤
+  Equals = tripleOf 𝓤 H A equals.signature (equals.spec 𝓤 H A mem run)
 
   -- of its `ensured`, the clause alone
-  same-of : (x y : Quadruple) (r : Bool) → ent 𝓤 (ensured 𝓤 H A equal.ended (equal.clauses 𝓤 H A mem run) tt (x, (y, tt)) tt r) (fact 𝓤 (r ≡ same x y))
-  same-of x y r = exE 𝓤 _ (λ ws. snd∗ 𝓤 (sem 𝓤 H A (lasts equal.ended tt (x, (y, tt)) ws)) (fact 𝓤 (r ≡ same x y)))
+  same-of : (x y : Quadruple) (r : Bool) → ent 𝓤 (ensured 𝓤 H A equals.ended (equals.clauses 𝓤 H A mem run) tt (x, (y, tt)) tt r) (fact 𝓤 (r ≡ same x y))
+  same-of x y r = exE 𝓤 _ (λ ws. snd∗ 𝓤 (sem 𝓤 H A (lasts equals.ended tt (x, (y, tt)) ws)) (fact 𝓤 (r ≡ same x y)))
 
 module _ {M : Type 1} (𝓤 : URA M) (H : Heap 𝓤) (A : Atoms 𝓤) (W : Given 𝓤 H A) (at-mem : Memory → SProp 𝓤) (run : Routine → Fun 𝓤)
     (κ : Lft) (q : Share) (b o : ℕ) (γ : GName) (ys : List Quadruple) (x : Quadruple) (is-x : Is Q.the-row x (Q′.lowered x ∷ [])) where
@@ -129,7 +129,7 @@ module _ {M : Type 1} (𝓤 : URA M) (H : Heap 𝓤) (A : Atoms 𝓤) (W : Given
   Nearer-wf : WellFounded Nearer
   Nearer-wf = InvImage·wf (λ (k : Upto). n - k .0) (Nat·lt-wfRel .wf)
 
-  module _ (𝓣 : Tables 𝓤 H) (known : Triple 𝓤 (𝓣 .C #records·equal) (Equal 𝓤 H A at-mem run)) (gn : Room Q.the-row n) (q′ : Share) (l₀ l₁ l₂ l₃ l₄ l₅ l₆ l₇ l₈ : ℕ) where
+  module _ (𝓣 : Tables 𝓤 H) (known : Triple 𝓤 (𝓣 .C #ncsb·equals) (Equals 𝓤 H A at-mem run)) (gn : Room Q.the-row n) (q′ : Share) (l₀ l₁ l₂ l₃ l₄ l₅ l₆ l₇ l₈ : ℕ) where
     abbrev C : Calls 𝓤 H
     C = 𝓣 .C
 
@@ -159,11 +159,11 @@ module _ {M : Type 1} (𝓤 : URA M) (H : Heap 𝓤) (A : Atoms 𝓤) (W : Given
     abbrev Turned : Upto → Out → SProp 𝓤
     Turned k = afterTurn 𝓤 H (Below 𝓤 H A Nearer At k) Left
 
-    abbrev to-equal : ℕ → Equal 𝓤 H A at-mem run .Ghost
-    to-equal k = ((tt, tt, tt, (x, (getD ys k blank, tt)), (Q′.lowered x ∷ [], (Q′.lowered (getD ys k blank) ∷ [], tt))), tt)
+    abbrev to-equals : ℕ → Equals 𝓤 H A at-mem run .Ghost
+    to-equals k = ((tt, tt, tt, (x, (getD ys k blank, tt)), (Q′.lowered x ∷ [], (Q′.lowered (getD ys k blank) ∷ [], tt))), tt)
 
-    goes-equal : (k : ℕ) → Is Q.the-row (getD ys k blank) (Q′.lowered (getD ys k blank) ∷ []) → ent 𝓤 (emp 𝓤) (Equal 𝓤 H A at-mem run .pre (to-equal k))
-    goes-equal k is = qed W [] ∵ nothing ! $ owned ! Q.the-row (Is Q.the-row) (LL.makes Q.the-type Q′.the-plain 𝓤 H A) (getD ys k blank) _ is $ fjoin ! $
+    goes-equals : (k : ℕ) → Is Q.the-row (getD ys k blank) (Q′.lowered (getD ys k blank) ∷ []) → ent 𝓤 (emp 𝓤) (Equals 𝓤 H A at-mem run .pre (to-equals k))
+    goes-equals k is = qed W [] ∵ nothing ! $ owned ! Q.the-row (Is Q.the-row) (LL.makes Q.the-type Q′.the-plain 𝓤 H A) (getD ys k blank) _ is $ fjoin ! $
         owned ! Q.the-row (Is Q.the-row) (LL.makes Q.the-type Q′.the-plain 𝓤 H A) x _ is-x $ fjoin ! $ nothing ! $ join ! $ frame ! $ done !
 
     -- the locals end
@@ -188,9 +188,9 @@ module _ {M : Type 1} (𝓤 : URA M) (H : Heap 𝓤) (A : Atoms 𝓤) (W : Given
         -- [records[number]; what it owns; the others; what shuts; the fractured borrow; res; _8; …; _7; …; _6; …; _5; …; _4; …; _3; …; _2; …; _1; …; _0; …]
         assigns ! (of-opd ! (load ! (from ! (hop ! (look ! 8 refl) (stop !))) (look-raw ! 0 refl))) (from ! (stop !)) (init ! 6 refl (typed 𝓤 H A W is)) $
         elem-back ! Q.the-row q′ ys k blank (Q′.lowered (getD ys k blank) ∷ []) b o less $
-        use0 W (raw (Equal 𝓤 H A at-mem run .pre (to-equal k))) (goes-equal k is) $
-        calls-at ! (fmOf 𝓤 H (W .laws) 𝓣) (Equal 𝓤 H A at-mem run) known (to-equal k) (and-then ! (load ! (from ! (stop !)) (look ! 17 refl)) (and-then ! (load ! (from ! (stop !)) (look ! 5 refl)) (no-more !))) (λ v.
-        use1 W (later (some (λ (r : Bool). (‵ ftrue ⊛ ‵ (bool .own r (v ∷ []))) ⊛ raw (ensured 𝓤 H A equal.ended (equal.clauses 𝓤 H A at-mem run) tt (x, (getD ys k blank, tt)) tt r)))) (id⊢ 𝓤 _) $ await ! tt $ pick ! (λ r.
+        use0 W (raw (Equals 𝓤 H A at-mem run .pre (to-equals k))) (goes-equals k is) $
+        calls-at ! (fmOf 𝓤 H (W .laws) 𝓣) (Equals 𝓤 H A at-mem run) known (to-equals k) (and-then ! (load ! (from ! (stop !)) (look ! 17 refl)) (and-then ! (load ! (from ! (stop !)) (look ! 5 refl)) (no-more !))) (λ v.
+        use1 W (later (some (λ (r : Bool). (‵ ftrue ⊛ ‵ (bool .own r (v ∷ []))) ⊛ raw (ensured 𝓤 H A equals.ended (equals.clauses 𝓤 H A at-mem run) tt (x, (getD ys k blank, tt)) tt r)))) (id⊢ 𝓤 _) $ await ! tt $ pick ! (λ r.
         split ! $ move ! (1 ∷ []) $ use1 W (raw (fact 𝓤 (r ≡ same x (getD ys k blank)))) (same-of 𝓤 H A at-mem run x (getD ys k blank) r) $ heard ! (r ≡ same x (getD ys k blank)) (λ e. split ! $ drop ! $
         facts ! bool (Is bool) (shows 𝓤 H A bool) r (v ∷ []) (λ told.
         land ! (from ! (stop !)) (init ! 8 refl (bool-lawful 𝓤 H A W .typed r _ told .0)) $
@@ -237,7 +237,7 @@ module _ {M : Type 1} (𝓤 : URA M) (H : Heap 𝓤) (A : Atoms 𝓤) (W : Given
     turns : (k : Upto) → Sq W (At k) (runs C Λ En body.turn-1 (anyQ (Turned k)))
     turns k = elim (either (ltb (k .0) n)) [ inl t ↦ more k (ltb-lt (k .0) n t) | inr f ↦ ends k (ltb-ge (k .0) n f) ]
 
-  walk : (𝓣 : Tables 𝓤 H) → Triple 𝓤 (𝓣 .C #records·equal) (Equal 𝓤 H A at-mem run) → Room Q.the-row n
+  walk : (𝓣 : Tables 𝓤 H) → Triple 𝓤 (𝓣 .C #ncsb·equals) (Equals 𝓤 H A at-mem run) → Room Q.the-row n
       → ent 𝓤 (onEntry 𝓤 H A find.signature (κ, tt) (q, tt) args at) (WpFn 𝓤 H (𝓣 .C) (𝓣 .Λ) code.function (sliceVal (b, o) n ∷ Q′.lowered x ∷ []) Post)
   walk 𝓣 known gn =
       qed W ((‵ (flft κ q) ⊛ ‵ ftrue) ∷ ‵ (owns (ShrSlice (named 0) κ Q.the-row ∷ Q.the-row ∷ []) args at) ∷ []) ∵ enter ! (𝓣 .C) (𝓣 .Λ) code.function (sliceVal (b, o) n ∷ Q′.lowered x ∷ []) _ $
@@ -250,7 +250,7 @@ module _ {M : Type 1} (𝓤 : URA M) (H : Heap 𝓤) (A : Atoms 𝓤) (W : Given
       keep ! (0 ∷ 1 ∷ 2 ∷ 4 ∷ 6 ∷ 7 ∷ 8 ∷ 9 ∷ 10 ∷ 11 ∷ 12 ∷ 13 ∷ 14 ∷ 15 ∷ 16 ∷ 17 ∷ 18 ∷ 19 ∷ 20 ∷ 21 ∷ 22 ∷ 23 ∷ []) $
       first ! $ blocks ! $ loops ! 𝓣 Nearer Nearer-wf (At 𝓣 known gn q′ l₀ l₁ l₂ l₃ l₄ l₅ l₆ l₇ l₈) (turns 𝓣 known gn q′ l₀ l₁ l₂ l₃ l₄ l₅ l₆ l₇ l₈) (0, zero-le, scanned-none x ys)))))))))))
 
-module _ {M : Type 1} (𝓤 : URA M) (H : Heap 𝓤) (A : Atoms 𝓤) (W : Given 𝓤 H A) (mem : Memory → SProp 𝓤) (run : Routine → Fun 𝓤) (𝓣 : Tables 𝓤 H) (known : Triple 𝓤 (𝓣 .C #records·equal) (Equal 𝓤 H A mem run)) where
+module _ {M : Type 1} (𝓤 : URA M) (H : Heap 𝓤) (A : Atoms 𝓤) (W : Given 𝓤 H A) (mem : Memory → SProp 𝓤) (run : Routine → Fun 𝓤) (𝓣 : Tables 𝓤 H) (known : Triple 𝓤 (𝓣 .C #ncsb·equals) (Equals 𝓤 H A mem run)) where
   find-walks : Walks 𝓤 H A find.ended stayed (WpFn 𝓤 H (𝓣 .C) (𝓣 .Λ) code.function) (find.clauses 𝓤 H A mem run)
   find-walks = walked 𝓤 H A find.ended stayed (find.clauses 𝓤 H A mem run) (WpFn 𝓤 H (𝓣 .C) (𝓣 .Λ) code.function) (λ κs. (slice-vals, (LL.vals Q.the-type Q′.the-laws, tt))) (λ κs. (shr-slice-tells (named 0) (κs .0) Q.the-row, (LL.tells Q.the-type Q′.the-laws, tt)))
       (λ κs qs bounds a g are. via 𝓤 _ (fst∗ 𝓤 _ (emp 𝓤))
@@ -265,4 +265,4 @@ find-spec 𝓤 H 𝓜 𝓖 𝓡 =
     entered 𝓤 H (tripleOf 𝓤 H (𝓖 .A) find.signature (find.spec 𝓤 H (𝓖 .A) (𝓜 .mem) (𝓡 .run)))
     (tables 𝓤 H 𝓜 𝓡 code.env .C) (tables 𝓤 H 𝓜 𝓡 code.env .Λ) #records·find code.function (code.unfolded 𝓤 H 𝓜 𝓡)
     (find-meets 𝓤 H (𝓖 .A) (givenOf 𝓤 H 𝓜 𝓖) (𝓜 .mem) (𝓡 .run) (tablesOf 𝓤 H 𝓜 (tables 𝓤 H 𝓜 𝓡 code.env))
-    (cited 𝓤 H (Equal 𝓤 H (𝓖 .A) (𝓜 .mem) (𝓡 .run)) 𝓜 𝓡 code.env #records·equal equal-def.routine code.calls-records·equal (equal-thm.met 𝓤 H 𝓜 𝓖 𝓡)))
+    (cited 𝓤 H (Equals 𝓤 H (𝓖 .A) (𝓜 .mem) (𝓡 .run)) 𝓜 𝓡 code.env #ncsb·equals equals-def.routine code.calls-ncsb·Quadruple·equals (equals-thm.met 𝓤 H 𝓜 𝓖 𝓡)))
