@@ -54,7 +54,7 @@ use Rattle.basics.proofs.Booleans.{either, ltb-lt, ltb-ge, lt-ltb, ge-ltb}
 use Rattle.ncsb.specs.declared.Quadruple.{Quadruple}
 use Rattle.ncsb.proofs.Quadruple as Q
 use Rattle.ncsb.proofs.Quadruple.Laws as Q′
-use Rattle.records.specs.Records.{blank, records-of, fitted}
+use Rattle.records.specs.Records.{blank, records-in, fitted}
 use Rattle.records.proofs.Laid.{laid, laid-length, laid-next, laid-all}
 use Rattle.records.proofs.Machine.{bytes-fit}
 use Rattle.records.proofs.record_in as record-in
@@ -83,8 +83,8 @@ module _ {M : Type 1} (𝓤 : URA M) (H : Heap 𝓤) (A : Atoms 𝓤) (mem : Mem
   Record-in = tripleOf 𝓤 H A record-in.signature (record-in.spec 𝓤 H A mem run)
 
   -- of its `ensured`, the clause alone
-  read-of : (κ : Lft) (s : RefT (List ℕ)) (k : ℕ) (r : Quadruple) → ent 𝓤 (ensured 𝓤 H A record-in.ended (record-in.clauses 𝓤 H A mem run) (κ, tt) (s, (k, tt)) tt r) (fact 𝓤 (r ≡ getD (records-of (now s)) k blank))
-  read-of κ s k r = exE 𝓤 _ (λ ws. snd∗ 𝓤 (sem 𝓤 H A (lasts record-in.ended (κ, tt) (s, (k, tt)) ws)) (fact 𝓤 (r ≡ getD (records-of (now s)) k blank)))
+  read-of : (κ : Lft) (s : RefT (List ℕ)) (k : ℕ) (r : Quadruple) → ent 𝓤 (ensured 𝓤 H A record-in.ended (record-in.clauses 𝓤 H A mem run) (κ, tt) (s, (k, tt)) tt r) (fact 𝓤 (r ≡ getD (records-in (now s)) k blank))
+  read-of κ s k r = exE 𝓤 _ (λ ws. snd∗ 𝓤 (sem 𝓤 H A (lasts record-in.ended (κ, tt) (s, (k, tt)) ws)) (fact 𝓤 (r ≡ getD (records-in (now s)) k blank)))
 
 module _ {M : Type 1} (𝓤 : URA M) (H : Heap 𝓤) (A : Atoms 𝓤) (W : Given 𝓤 H A) (at-mem : Memory → SProp 𝓤) (run : Routine → Fun 𝓤)
     (κ κ′ : Lft) (q q′ : Share) (b o : ℕ) (γ : GName) (ys : List Quadruple) (b′ o′ : ℕ) (γ′ : GName) (ws : List ℕ) where
@@ -96,7 +96,7 @@ module _ {M : Type 1} (𝓤 : URA M) (H : Heap 𝓤) (A : Atoms 𝓤) (W : Given
   words = record { ptr = (b′, o′); name = γ′; now = ws }
 
   abbrev xs : List Quadruple
-  xs = records-of ws
+  xs = records-in ws
 
   abbrev x : RefT (List Quadruple) × (RefT (List ℕ) × Unit {0})
   x = (record { ptr = (b, o); name = γ; now = ys }, (words, tt))

@@ -52,11 +52,12 @@ use denote.Triple.Table.{entered, cited}
 use denote.Triple.Walked.{says, Stays, stay-none, stay-none-slice, walkOf, goes-none, goes-none-slice, Walks, ends-at, walked, walk-meets}
 use denote.Exit.{yes}
 use Rattle.basics.proofs.Booleans.{either, T-true, T-false, ltb-lt, ltb-ge, lt-ltb, ge-ltb}
+use Rattle.automata.specs.System.{number-of}
 use Rattle.ncsb.specs.Successors.{same}
 use Rattle.ncsb.specs.declared.Quadruple.{Quadruple}
 use Rattle.ncsb.proofs.Quadruple as Q
 use Rattle.ncsb.proofs.Quadruple.Laws as Q′
-use Rattle.records.specs.Records.{blank, place-of}
+use Rattle.records.specs.Records.{blank}
 use Rattle.records.proofs.First.{Scanned, scanned-none, scanned-met, scanned-more, scanned-all}
 use Rattle.records.proofs.Machine.{bytes-fit, typed}
 use Rattle.ncsb.proofs.Quadruple.equals as equals
@@ -110,7 +111,7 @@ module _ {M : Type 1} (𝓤 : URA M) (H : Heap 𝓤) (A : Atoms 𝓤) (W : Given
   abbrev Shared : Item 𝓤
   Shared = ‵ (fshr-bor κ (λ s. arr-parts (shares Q.the-row) n .part s ys b o))
 
-  exits : (k : ℕ) → k ≡ place-of x ys → k < 2 ^ 64 → Room Q.the-row n → ent 𝓤 (⋆ 𝓤 H A (‵ (flft κ q) ∷ Shared ∷ Res ∷ [])) (Post (vint w64 k))
+  exits : (k : ℕ) → k ≡ number-of same x ys → k < 2 ^ 64 → Room Q.the-row n → ent 𝓤 (⋆ 𝓤 H A (‵ (flft κ q) ∷ Shared ∷ Res ∷ [])) (Post (vint w64 k))
   exits k is gk gn =
       qed W (‵ (flft κ q) ∷ Shared ∷ Res ∷ []) ∵
       suffices ! _ (ends-at 𝓤 H A find.ended stayed (find.clauses 𝓤 H A at-mem run) W (((κ, tt), (q, tt), tt, args, at), tt) (vint w64 k) k (tt, (tt, tt)) (tt, (tt, tt))) $ says ! is $
@@ -167,7 +168,7 @@ module _ {M : Type 1} (𝓤 : URA M) (H : Heap 𝓤) (A : Atoms 𝓤) (W : Given
         owned ! Q.the-row (Is Q.the-row) (LL.makes Q.the-type Q′.the-plain 𝓤 H A) x _ is-x $ fjoin ! $ nothing ! $ join ! $ frame ! $ done !
 
     -- the locals end
-    leave : (k : ℕ) → k ≡ place-of x ys → k < 2 ^ 64 → Sq W (‵ (flft κ q) ∷ Shared ∷ Res ∷ ‵ (froom Q′.mir l₈ 0) ∷ ‵ (fdies Q′.mir l₈) ∷ ‵ (froom tyPtr l₇ 0) ∷ ‵ (fdies tyPtr l₇) ∷ ‵ (froom tyBool l₆ 0) ∷ ‵ (fdies tyBool l₆)
+    leave : (k : ℕ) → k ≡ number-of same x ys → k < 2 ^ 64 → Sq W (‵ (flft κ q) ∷ Shared ∷ Res ∷ ‵ (froom Q′.mir l₈ 0) ∷ ‵ (fdies Q′.mir l₈) ∷ ‵ (froom tyPtr l₇ 0) ∷ ‵ (fdies tyPtr l₇) ∷ ‵ (froom tyBool l₆ 0) ∷ ‵ (fdies tyBool l₆)
         ∷ ‵ (froom tyBool l₅ 0) ∷ ‵ (fdies tyBool l₅) ∷ ‵ (froom (tyInt w64) l₄ 0) ∷ ‵ (fdies (tyInt w64) l₄) ∷ ‵ (froom (tyInt w64) l₃ 0) ∷ ‵ (fdies (tyInt w64) l₃) ∷ ‵ (froom Q′.mir l₂ 0) ∷ ‵ (fdies Q′.mir l₂)
         ∷ ‵ (froom run-ty l₁ 0) ∷ ‵ (fdies run-ty l₁) ∷ ‵ (froom (tyInt w64) l₀ 0) ∷ ‵ (fdies (tyInt w64) l₀) ∷ []) (frees En (prop (Post (vint w64 k))))
     leave k is gk =

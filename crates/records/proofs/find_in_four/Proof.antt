@@ -48,10 +48,12 @@ use denote.Triple.Spec.{Meets, tripleOf}
 use denote.Triple.Table.{entered, cited}
 use denote.Triple.Walked.{says, Stays, stay-none, stay-none-slice, walkOf, goes-none, goes-none-slice, Walks, ends-at, walked, walk-meets}
 use denote.Exit.{yes}
+use Rattle.automata.specs.System.{number-of}
+use Rattle.ncsb.specs.Successors.{same}
 use Rattle.ncsb.specs.declared.Quadruple.{Quadruple}
 use Rattle.ncsb.proofs.Quadruple as Q
 use Rattle.ncsb.proofs.Quadruple.Laws as Q′
-use Rattle.records.specs.Records.{records-of, fitted, place-of}
+use Rattle.records.specs.Records.{records-in, fitted}
 use Rattle.records.proofs.Local.{array-in, array-out}
 use Rattle.records.proofs.Machine.{typed}
 use Rattle.records.proofs.fill as fill
@@ -109,8 +111,8 @@ module _ {M : Type 1} (𝓤 : URA M) (H : Heap 𝓤) (A : Atoms 𝓤) (mem : Mem
   Find = tripleOf 𝓤 H A find.signature (find.spec 𝓤 H A mem run)
 
   -- of `find`'s `ensured`, the clause alone
-  place-found : (κ : Lft) (s : RefT (List Quadruple)) (x : Quadruple) (r : ℕ) → ent 𝓤 (ensured 𝓤 H A find.ended (find.clauses 𝓤 H A mem run) (κ, tt) (s, (x, tt)) tt r) (fact 𝓤 (r ≡ place-of x (now s)))
-  place-found κ s x r = exE 𝓤 _ (λ ws. snd∗ 𝓤 (sem 𝓤 H A (lasts find.ended (κ, tt) (s, (x, tt)) ws)) (fact 𝓤 (r ≡ place-of x (now s))))
+  place-found : (κ : Lft) (s : RefT (List Quadruple)) (x : Quadruple) (r : ℕ) → ent 𝓤 (ensured 𝓤 H A find.ended (find.clauses 𝓤 H A mem run) (κ, tt) (s, (x, tt)) tt r) (fact 𝓤 (r ≡ number-of same x (now s)))
+  place-found κ s x r = exE 𝓤 _ (λ ws. snd∗ 𝓤 (sem 𝓤 H A (lasts find.ended (κ, tt) (s, (x, tt)) ws)) (fact 𝓤 (r ≡ number-of same x (now s))))
 
 module _ {M : Type 1} (𝓤 : URA M) (H : Heap 𝓤) (A : Atoms 𝓤) (W : Given 𝓤 H A) (at-mem : Memory → SProp 𝓤) (run : Routine → Fun 𝓤)
     (κ : Lft) (q : Share) (b o : ℕ) (γ : GName) (ws : List ℕ) (x : Quadruple) (is-x : Is Q.the-row x (Q′.lowered x ∷ [])) where
@@ -119,7 +121,7 @@ module _ {M : Type 1} (𝓤 : URA M) (H : Heap 𝓤) (A : Atoms 𝓤) (W : Given
 
   -- the four records that the words make
   abbrev xs : List Quadruple
-  xs = fitted 4 (records-of ws)
+  xs = fitted 4 (records-in ws)
 
   abbrev at : Vals in-four.signature (κ, tt)
   at = (sliceVal (b, o) (length ws) ∷ [], (Q′.lowered x ∷ [], tt))
@@ -131,7 +133,7 @@ module _ {M : Type 1} (𝓤 : URA M) (H : Heap 𝓤) (A : Atoms 𝓤) (W : Given
   abbrev Words : Item 𝓤
   Words = ‵ (ShrSlice (named 0) κ u32 .own words (at .0))
 
-  exits : (r : ℕ) (v : Val) → r ≡ place-of x xs → ent 𝓤 (⋆ 𝓤 H A (‵ (flft κ q) ∷ Words ∷ ‵ (usize .own r (v ∷ [])) ∷ [])) (Post v)
+  exits : (r : ℕ) (v : Val) → r ≡ number-of same x xs → ent 𝓤 (⋆ 𝓤 H A (‵ (flft κ q) ∷ Words ∷ ‵ (usize .own r (v ∷ [])) ∷ [])) (Post v)
   exits r v e =
       qed W (‵ (flft κ q) ∷ Words ∷ ‵ (usize .own r (v ∷ [])) ∷ []) ∵
       suffices ! _ (ends-at 𝓤 H A in-four.ended stayed (in-four.clauses 𝓤 H A at-mem run) W (((κ, tt), (q, tt), tt, (words, (x, tt)), at), tt) v r (tt, (tt, tt)) (tt, (tt, tt))) $ says ! e $
@@ -182,7 +184,7 @@ module _ {M : Type 1} (𝓤 : URA M) (H : Heap 𝓤) (A : Atoms 𝓤) (W : Given
         ∷ Locals (‵ (fat fullShare shared-run-ty l₉ 0 (sliceVal (l₃, 0) (length xs)))) (‵ (fat fullShare shared-ty l₈ 0 (vptr l₃ 0))) (‵ (fat fullShare tyUnit l₅ 0 u))) (lands C Λ En (place 0 []) v body.t-9 (atRet En Post))
     found four β γ₂ u v =
         use1 W (later (some (λ (r : ℕ). ((‵ (flft (β ∷ []) fullShare) ⊛ ‵ ftrue) ⊛ ‵ (usize .own r (v ∷ []))) ⊛ raw (ensured 𝓤 H A find.ended (find.clauses 𝓤 H A at-mem run) (β ∷ [], tt) (shared γ₂, (x, tt)) tt r)))) (id⊢ 𝓤 _) $ await ! tt $ pick ! (λ r.
-        split ! $ move ! (1 ∷ []) $ use1 W (raw (fact 𝓤 (r ≡ place-of x xs))) (place-found 𝓤 H A at-mem run (β ∷ []) (shared γ₂) x r) $ heard ! (r ≡ place-of x xs) (λ e. split ! $ split ! $ move ! (2 ∷ []) $
+        split ! $ move ! (1 ∷ []) $ use1 W (raw (fact 𝓤 (r ≡ number-of same x xs))) (place-found 𝓤 H A at-mem run (β ∷ []) (shared γ₂) x r) $ heard ! (r ≡ number-of same x xs) (λ e. split ! $ split ! $ move ! (2 ∷ []) $
         peeks ! usize (Is usize) (shows 𝓤 H A usize) r (v ∷ []) (λ told. land ! (from ! (stop !)) (init ! 23 refl (uint-lawful 𝓤 H A W w64 .typed r _ told .0)) $
         move ! (1 ∷ []) $ lft-end ! tt $ move ! (0 ∷ 3 ∷ []) $ lent-back ! tt $ fsplit ! $ drop ! $ use1 W (‵ (froom array-ty l₃ 0)) (array-out 𝓤 H A W 4 l₃ xs four) $
         -- [room for the array; the result; true; the words; their token; _9; …; _8; …; _7; …; _6; …; _5; …; _4; …; the array's end; _2; …; _1; …; _0; …]

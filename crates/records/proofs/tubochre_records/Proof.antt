@@ -38,7 +38,7 @@ use denote.Triple.Walked.{says, Stays, gave-slice, stay-none-slice, walkOf, goes
 use denote.Exit.{yes}
 use Rattle.ncsb.specs.declared.Quadruple.{Quadruple}
 use Rattle.ncsb.proofs.Quadruple as Q
-use Rattle.records.specs.Records.{records-of, fitted}
+use Rattle.records.specs.Records.{records-in, fitted}
 use Rattle.records.proofs.fill as fill
 use Rattle.records.proofs.fill.Symbol as fill-def
 use Rattle.records.proofs.fill.Symbol.{name as #records·fill}
@@ -76,7 +76,7 @@ module _ {M : Type 1} (𝓤 : URA M) (H : Heap 𝓤) (A : Atoms 𝓤) (W : Given
   abbrev Words : Item 𝓤
   Words = ‵ (ShrSlice (named 1) κ′ u32 .own (x .1 .0) (at .1 .0))
 
-  exits : (zs : List Quadruple) → length zs ≡ length ys → zs ≡ fitted (length ys) (records-of ws) → ent 𝓤 (⋆ 𝓤 H A (Tokens ∷ ‵ (finally Q.the-row γ zs) ∷ Words ∷ [])) (Post vunit)
+  exits : (zs : List Quadruple) → length zs ≡ length ys → zs ≡ fitted (length ys) (records-in ws) → ent 𝓤 (⋆ 𝓤 H A (Tokens ∷ ‵ (finally Q.the-row γ zs) ∷ Words ∷ [])) (Post vunit)
   exits zs e is =
       qed W (Tokens ∷ ‵ (finally Q.the-row γ zs) ∷ Words ∷ []) ∵
       suffices ! _ (ends-at 𝓤 H A call.ended stayed (call.clauses 𝓤 H A at-mem run) W (((κ, (κ′, tt)), (q, (q′, tt)), tt, x, at), tt) vunit tt (zs, (tt, tt)) (e, (tt, tt))) $ says ! is $
@@ -101,8 +101,8 @@ module _ {M : Type 1} (𝓤 : URA M) (H : Heap 𝓤) (A : Atoms 𝓤) (W : Given
         move ! (13 ∷ []) $ fsplit ! $ move ! (1 ∷ []) $ fsplit ! $ use1 W (Words ⊛ Words) (shr-slice-copy 𝓤 H A W (named 1) κ′ u32 .twice (x .1 .0) (at .1 .0)) $ split ! $ move ! (3 ∷ 0 ∷ 16 ∷ []) $
         use3 W (raw (Fill 𝓤 H A at-mem run .pre to-fill)) goes-fill $
         calls-at ! fm (Fill 𝓤 H A at-mem run) known to-fill (and-then ! (load ! (from ! (stop !)) (look ! 3 refl)) (and-then ! (load ! (from ! (stop !)) (look ! 9 refl)) (no-more !))) (λ v.
-        use1 W (later (some (λ (u : Unit {0}). (Tokens ⊛ ‵ (unit .own u (v ∷ []))) ⊛ some (λ (zs : Lasts fill.ended (κ, (κ′, tt)) x). ‵ (lasts fill.ended (κ, (κ′, tt)) x zs) ⊛ raw (fact 𝓤 (zs .0 ≡ fitted (length ys) (records-of ws))))))) (id⊢ 𝓤 _) $
-        await ! tt $ pick ! (λ u. split ! $ move ! (1 ∷ []) $ pick ! (λ zs. split ! $ move ! (1 ∷ []) $ heard ! (zs .0 ≡ fitted (length ys) (records-of ws)) (λ is. fsplit ! $ fsplit ! $ move ! (1 ∷ []) $ feqL ! (λ e.
+        use1 W (later (some (λ (u : Unit {0}). (Tokens ⊛ ‵ (unit .own u (v ∷ []))) ⊛ some (λ (zs : Lasts fill.ended (κ, (κ′, tt)) x). ‵ (lasts fill.ended (κ, (κ′, tt)) x zs) ⊛ raw (fact 𝓤 (zs .0 ≡ fitted (length ys) (records-in ws))))))) (id⊢ 𝓤 _) $
+        await ! tt $ pick ! (λ u. split ! $ move ! (1 ∷ []) $ pick ! (λ zs. split ! $ move ! (1 ∷ []) $ heard ! (zs .0 ≡ fitted (length ys) (records-in ws)) (λ is. fsplit ! $ fsplit ! $ move ! (1 ∷ []) $ feqL ! (λ e.
         -- [the run's last list; …; the tokens and the result; the words; true; _5; …; _4; …; _3; …; _2; …; _1; …; _0; …]
         move ! (2 ∷ []) $ split ! $ move ! (1 ∷ []) $ facts ! unit (Is unit) (shows 𝓤 H A unit) u (v ∷ []) (λ told. land ! (from ! (stop !)) (init ! 9 refl (nothing-lawful 𝓤 H A W .typed u _ told .0)) $
         assigns ! (of-opd ! (unit-lit !)) (from ! (stop !)) (init ! 15 refl (tt, tt)) $
