@@ -1,4 +1,4 @@
-// A small reader laid over a chained table: the caller's words and the number of a record (document 01, "The chained table").
+// A small reader laid over a chained table: the caller's words and the number of a record (docs/RULES.md, "The chained table").
 // The checker proves no function over such a struct by itself, so `new`, `edge`, `next` and `count_records` are proved by hand.
 // The first three are thin: the work is done on the slice and the number, by `head_record`, `edge_at` and `record_after`.
 // Every function answers on every slice: damaged links lead to the end.

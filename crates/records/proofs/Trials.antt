@@ -1,4 +1,4 @@
--- The definitions at small values, by computation: the three records of document 01's pattern B, with two words left over. Assumes nothing.
+-- The definitions at small values, by computation: the three records of pattern B of docs/RULES.md, with two words left over. Assumes nothing.
 use mathlib.Core.Path.{_≡_, refl}
 use mathlib.Core.List.{List, [], _∷_}
 use Prim.Native.Nat.{ℕ}

@@ -1,4 +1,4 @@
--- A lent run of records, a quadruple each (document 01, "Numbering and result"). Assumes nothing: these are definitions.
+-- A lent run of records, a quadruple each (docs/RULES.md, "Numbering and result"). Assumes nothing: these are definitions.
 use mathlib.Core.List.{List, [], _∷_}
 use Prim.Native.Nat.{ℕ, zero, suc}
 use Rattle.automata.specs.Decision.{tabulate}

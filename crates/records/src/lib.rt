@@ -1,4 +1,4 @@
-// A lent run of records, a quadruple each, and thin functions over it (document 01, "Numbering and result").
+// A lent run of records, a quadruple each, and thin functions over it (docs/RULES.md, "Numbering and result").
 use ncsb::Quadruple;
 use record_words::full_records;
 ghost use mathlib.Core.Path.{_≡_};
