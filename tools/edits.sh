@@ -6,8 +6,8 @@
 #
 # An edit's first line is `breaks: SENTENCE`. Its name begins with the name of the function or definition, of that crate's src/ or
 # specs/, which the sentence is about, in snake_case, and goes on with what is wrong. (`paper_N_` begins the name of one that breaks
-# the paper's line N, and `build_` that of a wrong build as a whole.) Each `old:` text stands exactly once in its file: an edit that has gone stale is found here in a second, and by
-# rt after minutes.
+# the paper's line N, and `build_` that of a wrong build as a whole.) Each `old:` text stands exactly once in its file: an edit that
+# has gone stale is found here in a second, and by rt after minutes.
 set -eu
 cd "$(dirname "$0")/.."
 export LC_ALL=C
