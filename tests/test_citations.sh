@@ -2,7 +2,7 @@
 # Every citation of the rules leads to a section or a sentence of docs/RULES.md, and none leads outside the repository.
 set -euo pipefail
 cd "$(dirname "$0")/.."
-places=(README.md CONTRIBUTING.md CHANGELOG.md docs include programs tests bench tools)
+places=(README.md CONTRIBUTING.md CHANGELOG.md docs include programs tests bench tools crates)
 failed=0
 
 wrong() {
@@ -13,7 +13,7 @@ wrong() {
 # Sections, cited by their titles: the page, a comma, then one quoted title or several.
 while IFS= read -r title; do
     grep -qxF "## $title" docs/RULES.md || wrong "docs/RULES.md has no section \"$title\""
-done < <(grep -rhoE 'docs/RULES\.md, "[^"]+"( and "[^"]+")*' "${places[@]}" crates | grep -oE '"[^"]+"' | tr -d '"' | sort -u)
+done < <(grep -rhoE 'docs/RULES\.md, "[^"]+"( and "[^"]+")*' "${places[@]}" | grep -oE '"[^"]+"' | tr -d '"' | sort -u)
 
 # Sentences, quoted in a table of docs/THEORY.md.
 while IFS= read -r sentence; do

@@ -11,7 +11,7 @@ use Rattle.basics.proofs.Booleans.{either, clash, and-l, and-r, and-make, eqb-e
 use Rattle.basics.proofs.Bounded.{any-find, any-make}
 use Rattle.automata.specs.Automaton.{Automaton, Takes, Closed}
 use Rattle.automata.specs.Lasso.{letter-at, position-letter, next-position, positions, Walk, stay, onward, Accepting-cycle}
-use Rattle.automata.specs.Decision.{tabulate, marked, row, grown, nodes, leads, product, starts, on-cycle, takes?}
+use Rattle.automata.specs.Decision.{tabulate, marked, row, grown-nodes, nodes, leads, product, starts, on-cycle, takes?}
 use Rattle.automata.proofs.Positions.{first-below, next-below}
 use Rattle.automata.proofs.Graphs.{tabulate-at, tabulate-marked, Reach, start, along, reach-below, grown-reach, reach-grown}
 use Rattle.automata.proofs.Cycles.{takes-cycle, cycle-takes}
@@ -91,7 +91,7 @@ module _ (a : Automaton) (u v : List ℕ) where
 
   -- the nodes that are reached from a start
   reached : List Bool
-  reached = grown (nodes a u v) (nodes a u v) (product a u v) (starts a u v)
+  reached = grown-nodes (nodes a u v) (nodes a u v) (product a u v) (starts a u v)
 
   -- what is asked of a node
   asked : ℕ → Bool

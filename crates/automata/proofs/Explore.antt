@@ -1,4 +1,4 @@
--- Exploring a system finds exactly what document 01 asks for ("Numbering and result"): `explore-exactly`. Assumes nothing.
+-- Exploring a system finds exactly what docs/RULES.md, "Numbering and result", asks for: `explore-exactly`. Assumes nothing.
 use mathlib.Core.Path.{_≡_, refl, sym, _∙_, ap, subst}
 use mathlib.Core.List.{List, [], _∷_, _++_, append-assoc, append-nil}
 use mathlib.Core.Logic.{inl, inr}
@@ -352,7 +352,7 @@ module _ {X : Type 0} (s : System X) where
               (explored-all f (suc i) m (expand s i b) most (omega arith) (explored-step i b l h))
         ]
 
-    -- document 01, "Numbering and result": exploring lists every reached state once, initial states first, then in the order of discovery,
+    -- docs/RULES.md, "Numbering and result": exploring lists every reached state once, initial states first, then in the order of discovery,
     -- and every edge between them, by source, letter and successor
     pub explore-exactly :
         Distinct s (s .starts) → (m fuel : ℕ) → At-most s m → m ≤ fuel → Exactly s (explore fuel s)

@@ -1,4 +1,4 @@
--- Büchi automata and their runs over endless words (document 01, "Runs, and what the third demand compares"). Assumes nothing: these are definitions.
+-- Büchi automata and their runs over endless words (docs/RULES.md, "Runs, and what the third demand compares"). Assumes nothing: these are definitions.
 use mathlib.Core.Path.{_≡_}
 use mathlib.Core.Bool.{Bool, true}
 use Prim.Native.Nat.{ℕ, suc, _≤_, _<_}

@@ -30,9 +30,9 @@ grow n g s =
     let found = any n (λ x. let edge = marked (row g x) y in marked s x && edge) in
     marked s y || found)
 
-unfoldable pub grown : (rounds nodes : ℕ) → (graph : List (List Bool)) → List Bool → List Bool
-grown zero n g s = s
-grown (suc k) n g s = grow n g (grown k n g s)
+unfoldable pub grown-nodes : (rounds nodes : ℕ) → (graph : List (List Bool)) → List Bool → List Bool
+grown-nodes zero n g s = s
+grown-nodes (suc k) n g s = grow n g (grown-nodes k n g s)
 
 -- THE PRODUCT: its node x stands for position x / states and state x % states
 unfoldable pub nodes : Automaton → (u v : List ℕ) → ℕ
@@ -53,14 +53,14 @@ starts a u v = tabulate (nodes a u v) (λ x. eqb (x / a .states) 0 && a .initial
 
 -- the node is reached again from behind one of its edges
 unfoldable pub on-cycle : (nodes : ℕ) → (graph : List (List Bool)) → (node : ℕ) → Bool
-on-cycle n g x = marked (grown n n g (row g x)) x
+on-cycle n g x = marked (grown-nodes n n g (row g x)) x
 
 -- whether the automaton takes the lasso: some node accepts, is reached, and lies on a cycle
 unfoldable pub takes? : Automaton → (u v : List ℕ) → Bool
 takes? a u v =
     let n = nodes a u v in
     let g = product a u v in
-    let reached = grown n n g (starts a u v) in
+    let reached = grown-nodes n n g (starts a u v) in
     any n
     (λ x.
     let cycle = on-cycle n g x in

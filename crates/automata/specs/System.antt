@@ -1,4 +1,4 @@
--- Systems with states of any type, exploring and numbering them (document 01, "Numbering and result"). Assumes nothing: these are definitions.
+-- Systems with states of any type, exploring and numbering them (docs/RULES.md, "Numbering and result"). Assumes nothing: these are definitions.
 use mathlib.Core.Path.{_≡_}
 use mathlib.Core.Bool.{Bool, true, false, _&&_, _||_, cond}
 use mathlib.Core.List.{List, [], _∷_, _++_}

@@ -52,7 +52,7 @@ module _ (t : List ℕ) (passed : check-refusal t ≡ 0) where
   unfolding system-of
   few-quadruples = let (sp, sl) = checked-split t passed in few-reached sp sl
 
-  -- THE SECOND DEMAND at the definitions: every reachable quadruple and edge and no other, once, numbered as document 01 says
+  -- THE SECOND DEMAND at the definitions: every reachable quadruple and edge and no other, once, numbered as docs/RULES.md says
   pub pattern-exactly : Exactly (system-of t) (complement t)
   unfolding system-of complement ncsb moves meaning
   pattern-exactly =

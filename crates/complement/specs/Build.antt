@@ -1,4 +1,4 @@
--- What the build refuses, answers and leaves (document 01, "Refusals": the build uses 2 to 12). Assumes nothing: these are definitions.
+-- What the build refuses, answers and leaves (docs/RULES.md, "Refusals": the build uses 2 to 12). Assumes nothing: these are definitions.
 use mathlib.Core.Path.{_≡_}
 use mathlib.Core.Bool.{Bool, _||_, cond}
 use mathlib.Core.List.{List}

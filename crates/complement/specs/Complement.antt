@@ -1,4 +1,4 @@
--- The reachable NCSB complement of a table, and its words (document 01, "Numbering and result"). Assumes nothing: these are definitions.
+-- The reachable NCSB complement of a table, and its words (docs/RULES.md, "Numbering and result"). Assumes nothing: these are definitions.
 use mathlib.Core.List.{List}
 use Prim.Native.Nat.{ℕ, _^_}
 use lib.ListN.{length}

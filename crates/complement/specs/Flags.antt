@@ -1,4 +1,4 @@
--- Flags of the states, by a test of which accept (document 01, "The chained table": 1 initial, 2 accepting). Assumes nothing: these are
+-- Flags of the states, by a test of which accept (docs/RULES.md, "The chained table": 1 initial, 2 accepting). Assumes nothing: these are
 -- definitions.
 use mathlib.Core.Bool.{Bool, cond}
 use mathlib.Core.List.{List}

@@ -1,4 +1,4 @@
--- What the lasso decision refuses (document 01, "Refusals": 2 to 9 in a range, for the call the wide one, then 13 to 16). Assumes nothing: these are definitions.
+-- What the lasso decision refuses (docs/RULES.md, "Refusals": 2 to 9 in a range, for the call the wide one, then 13 to 16). Assumes nothing: these are definitions.
 use mathlib.Core.Bool.{_&&_, _||_, not, cond}
 use mathlib.Core.List.{List}
 use Prim.Native.Nat.{ℕ, _+_, _*_}

@@ -1,4 +1,4 @@
--- The words of a table whose chains run through consecutive records (document 01, "Numbering and result"). Assumes nothing: these are definitions.
+-- The words of a table whose chains run through consecutive records (docs/RULES.md, "Numbering and result"). Assumes nothing: these are definitions.
 use mathlib.Core.Bool.{_&&_, cond}
 use mathlib.Core.List.{List, [], _∷_, _++_}
 use Prim.Native.Nat.{ℕ, suc, _+_}

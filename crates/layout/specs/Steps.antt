@@ -64,7 +64,7 @@ linked-one n m r w =
     with-head (4 + 2 * getD w (5 + 2 * n + 3 * r) 0) (suc r)
     (set w (5 + 2 * n + 3 * r) (behind n m r w))
 
--- so for the first edges, those below a count: heads and nexts are those of document 01, and every other word is as it was
+-- so for the first edges, those below a count: heads and nexts are those of docs/RULES.md, and every other word is as it was
 pub record Linked (states edges count : ℕ) (w v : List ℕ) : Type 0 where
   pub heads : (q : ℕ) → q < states → getD v (4 + 2 * q) 0 ≡ first-record 1 q (moved-edges w states count)
   pub nexts :

@@ -1,4 +1,4 @@
--- Lemma 1 of document 004: a word that the pattern takes has no accepting run of quadruples. Assumes nothing.
+-- Lemma 1, section 4.3 of "Complementing Semi-Deterministic Büchi Automata": a word that the pattern takes has no accepting run of quadruples. Assumes nothing.
 use mathlib.Core.Path.{_≡_, refl}
 use mathlib.Core.Bool.{true, _||_}
 use mathlib.Core.Logic.{inl, inr}

@@ -1,4 +1,4 @@
--- Lemma 2 of document 004, for lassos: a lasso that the pattern does not take has an accepting run of quadruples. Assumes nothing.
+-- Lemma 2, section 4.3 of "Complementing Semi-Deterministic Büchi Automata", for lassos: a lasso that the pattern does not take has an accepting run of quadruples. Assumes nothing.
 -- A mark that a path meets after more steps than the product has nodes lies on a cycle of the product.
 use mathlib.Core.Path.{_≡_, refl, sym, _∙_, ap}
 use mathlib.Core.Bool.{true, false}

@@ -1,4 +1,4 @@
--- The rational run of section 4.2 of document 004, for a word over which no path of a reached state meets a mark after a bounded
+-- The rational run of section 4.2 of "Complementing Semi-Deterministic Büchi Automata", for a word over which no path of a reached state meets a mark after a bounded
 -- number of steps: N tracks Q1, S holds the states of Q2 whose path meets no mark, C the others. It is accepting. Assumes nothing.
 use mathlib.Core.Path.{_≡_, refl, sym, _∙_, ap}
 use mathlib.Core.Bool.{Bool, true, false, _&&_, _||_, not, cond}

@@ -1,4 +1,4 @@
--- Lemma 3 of document 004: two accepting runs of quadruples over one word are the same at every place. Assumes nothing.
+-- Lemma 3, section 4.3 of "Complementing Semi-Deterministic Büchi Automata": two accepting runs of quadruples over one word are the same at every place. Assumes nothing.
 use mathlib.Core.Path.{_≡_, sym, _∙_, subst}
 use mathlib.Core.Bool.{true, _||_}
 use mathlib.Core.Logic.{_⊎_, inl, inr}

@@ -1,4 +1,4 @@
--- The NCSB construction by membership: one field for each line of section 3.2 of document 004, in its order, with none of the
+-- The NCSB construction by membership: one field for each line of section 3.2 of "Complementing Semi-Deterministic Büchi Automata", in its order, with none of the
 -- helpers that compute successors. Assumes nothing: these are definitions.
 use mathlib.Core.Path.{_≡_}
 use mathlib.Core.Bool.{true, false, _&&_, _||_}

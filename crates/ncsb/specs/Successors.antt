@@ -1,4 +1,4 @@
--- The construction as it computes (document 01, "The quadruple and its step" and "Numbering"): initial quadruples by rising S,
+-- The construction as it computes (docs/RULES.md, "The quadruple and its step" and "Numbering and result"): initial quadruples by rising S,
 -- successors on a letter by rising S', and the system of them. Assumes nothing: these are definitions.
 use mathlib.Core.Bool.{Bool, _&&_, _||_, not, cond}
 use mathlib.Core.List.{List, [], _∷_, map}

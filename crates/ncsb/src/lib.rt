@@ -1,4 +1,4 @@
-// The complement's states: quadruples (N, C, S, B) of sets of pattern states, and their step (document 01, "The quadruple and its step").
+// The complement's states: quadruples (N, C, S, B) of sets of pattern states, and their step (docs/RULES.md, "The quadruple and its step").
 ghost use mathlib.Core.Path.{_≡_};
 ghost use mathlib.Core.List.{[]};
 ghost use Prim.Native.Nat.{_^_};

@@ -11,7 +11,7 @@ use Rattle.tables.specs.Table.{pattern-range, table-refusal, meaning}
 use Rattle.patterns.specs.Check.{check-refusal, as-checked, as-reading, reading, masks-read}
 use Rattle.patterns.specs.Masks.{masks-of}
 use Rattle.patterns.specs.Pattern.{moves}
-use Rattle.patterns.specs.Shape.{shape-of, forked, Shape-asks, Small-shape}
+use Rattle.patterns.specs.Shape.{shape-of, masks-fork, Shape-asks, Small-shape}
 use Rattle.patterns.specs.declared.Checked.the-variants.{Passed, Refused}
 use Rattle.patterns.specs.declared.Reading.{Reading}
 use Rattle.patterns.specs.declared.Reading.the-variants as read
@@ -66,7 +66,7 @@ module _ (t : List ℕ) (number : ℕ) (told : number ≡ table-refusal pattern-
 
     -- then 10 is the answer exactly where a fork is found
     module _
-        (shape : Shape) (shaped : shape ≡ shape-of (moves (meaning t))) (found : Bool) (tested : found ≡ forked masks shape) where
+        (shape : Shape) (shaped : shape ≡ shape-of (moves (meaning t))) (found : Bool) (tested : found ≡ masks-fork masks shape) where
       pub fork-refused : found ≡ true → read.Refused 10 ≡ reading t
       unfolding reading as-reading
       fork-refused h =

@@ -20,7 +20,7 @@ use Rattle.tables.specs.Table.{pattern-range, table-refusal, meaning}
 use Rattle.patterns.specs.Check.{check-refusal}
 use Rattle.patterns.specs.Masks.{mask-rows, masks-of}
 use Rattle.patterns.specs.Pattern.{targets-of, inner-of, forks, semi-deterministic, moves}
-use Rattle.patterns.specs.Shape.{shape-of, two-targets, row-forked, forked}
+use Rattle.patterns.specs.Shape.{shape-of, two-targets, row-forked, masks-fork}
 use Rattle.patterns.specs.declared.Shape.{Shape}
 use Rattle.patterns.proofs.Masks.{Fits-masks, mask-right, targets-lt, pattern-fits}
 
@@ -62,8 +62,8 @@ module _ (masks : List (List ℕ)) (shape : Shape) where
   pub states-hit :
       (state : ℕ) (b : Bool) → state < shape .states →
       b ≡ (has (shape .inner) state && row-forked (shape .letters) (getD masks state [])) → b ≡ true →
-      forked masks shape ≡ true
-  unfolding forked
+      masks-fork masks shape ≡ true
+  unfolding masks-fork
   states-hit state b l e h =
       any-make (shape .states) (λ q. has (shape .inner) q && row-forked (shape .letters) (getD masks q [])) state l (sym e ∙ h)
 
@@ -77,8 +77,8 @@ module _ (masks : List (List ℕ)) (shape : Shape) where
 
   pub states-end :
       (state : ℕ) → shape .states ≤ state → None-below (state-forked masks shape) (shape .states) state →
-      forked masks shape ≡ false
-  unfolding forked state-forked
+      masks-fork masks shape ≡ false
+  unfolding masks-fork state-forked
   states-end state past w = none-end (state-forked masks shape) (shape .states) state past w
 
 -- THE TEST OVER THE MASKS IS THE TEST OVER THE EDGES
@@ -131,8 +131,8 @@ module _ (a : Automaton) (f : Fits-masks a) where
       (λ c m. not-false (not-both (forks a q c) (λ e. clash (fork-row q c m e) (any-no (a .states) row h q l)))))
 
   -- a fork is found exactly if the automaton is not semi-deterministic
-  pub forked-right : forked (masks-of (moves a)) (shape-of (moves a)) ≡ not (semi-deterministic a)
-  unfolding forked row-forked shape-of moves row
+  pub forked-right : masks-fork (masks-of (moves a)) (shape-of (moves a)) ≡ not (semi-deterministic a)
+  unfolding masks-fork row-forked shape-of moves row
   forked-right =
       elim (either (any (a .states) row)) [
         | inl h ↦ let e = fork-found h in cc
@@ -142,7 +142,7 @@ module _ (a : Automaton) (f : Fits-masks a) where
 -- refusals 2 to 9 passed: the check refuses by 10 exactly where a fork is found
 pub check-number :
     (t : List ℕ) → table-refusal pattern-range t ≡ 0 →
-    check-refusal t ≡ cond (forked (masks-of (moves (meaning t))) (shape-of (moves (meaning t)))) 10 0
+    check-refusal t ≡ cond (masks-fork (masks-of (moves (meaning t))) (shape-of (moves (meaning t)))) 10 0
 unfolding check-refusal or-else
 check-number t passed =
     let right = forked-right (meaning t) (pattern-fits t passed) in

@@ -1,4 +1,4 @@
--- What the pattern check answers (document 01, "Refusals": the check uses 2 to 10). Assumes nothing: these are definitions.
+-- What the pattern check answers (docs/RULES.md, "Refusals": the check uses 2 to 10). Assumes nothing: these are definitions.
 use mathlib.Core.Bool.{cond}
 use mathlib.Core.List.{List}
 use Prim.Native.Nat.{ℕ, zero, suc}

@@ -1,4 +1,4 @@
--- The edges spread out by state and by letter (document 01, "Semi-determinism": "a table by state and by letter of target sets"): 32 rows
+-- The edges spread out by state and by letter (docs/RULES.md, "Semi-determinism": "a table by state and by letter of target sets"): 32 rows
 -- of 16 sets, and what is computed over them. Assumes nothing: these are definitions.
 use mathlib.Core.Path.{_≡_}
 use mathlib.Core.List.{List, []}

@@ -1,4 +1,4 @@
--- Q2, semi-determinism, and what the construction reads (document 01, "Semi-determinism"), of any automaton. Assumes nothing: these are definitions.
+-- Q2, semi-determinism, and what the construction reads (docs/RULES.md, "Semi-determinism"), of any automaton. Assumes nothing: these are definitions.
 use mathlib.Core.Bool.{Bool, _&&_, _||_, not}
 use Prim.Native.Nat.{ℕ, zero, suc}
 use lib.Dec.{ltb}

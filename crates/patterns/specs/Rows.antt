@@ -1,4 +1,4 @@
--- Trial tables with what the check answers, zero where it passes (document 01, "Trial pieces"). Assumes nothing: these are definitions.
+-- Trial tables with what the check answers, zero where it passes (docs/RULES.md, "Trial pieces"). Assumes nothing: these are definitions.
 use mathlib.Core.List.{List, [], _∷_}
 use Prim.Native.Nat.{ℕ}
 use lib.ListN.{getD}

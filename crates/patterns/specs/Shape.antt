@@ -27,8 +27,8 @@ unfoldable pub row-forked : (letters : ℕ) → (row : List ℕ) → Bool
 row-forked k r = any k (two-targets r)
 
 -- some state of Q2 has two targets on one letter
-unfoldable pub forked : (masks : List (List ℕ)) → Shape → Bool
-forked m s = any (s .states) (λ q. has (s .inner) q && row-forked (s .letters) (getD m q []))
+unfoldable pub masks-fork : (masks : List (List ℕ)) → Shape → Bool
+masks-fork m s = any (s .states) (λ q. has (s .inner) q && row-forked (s .letters) (getD m q []))
 
 -- what is read off a pattern: it is one, and the masks are its own
 pub record Shape-asks (table : List ℕ) (masks : List (List ℕ)) : Type 0 where

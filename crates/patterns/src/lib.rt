@@ -18,7 +18,7 @@ ghost use Rattle.tables.specs.Table.{pattern-range, table-refusal, meaning};
 ghost use Rattle.patterns.specs.Check.{check-refusal, as-checked, reading, masks-read};
 ghost use Rattle.patterns.specs.Masks.{mask-rows, mask-letters, row-of, masks-of, joined, joined-in, Row-asks};
 ghost use Rattle.patterns.specs.Pattern.{initial-states, accepting-states, moves};
-ghost use Rattle.patterns.specs.Shape.{shape-of, row-forked, forked, Shape-asks, Small-shape};
+ghost use Rattle.patterns.specs.Shape.{shape-of, row-forked, masks-fork, Shape-asks, Small-shape};
 
 // What the check answers: it passed, or the number of the refusal.
 pub enum Checked {
@@ -182,7 +182,7 @@ fn state_forks(row: [u32; 16], shape: Shape, state: usize) -> bool
 // Some state of Q2 has two targets on one letter: the pattern is not semi-deterministic.
 fn some_fork(masks: &[[u32; 16]; 32], shape: Shape) -> bool
     requires { ⌜ Small-shape shape ⌝ }
-    ensures { λ r. ⌜ r ≡ forked (now (masks .entry)) shape ⌝ }
+    ensures { λ r. ⌜ r ≡ masks-fork (now (masks .entry)) shape ⌝ }
 {
     let states = shape.states;
     let mut state = 0;

@@ -1,4 +1,4 @@
--- What is stored for a state: a record of words in a run of them (document 01, "Numbering and result": record i has N, C, S, B). Assumes
+-- What is stored for a state: a record of words in a run of them (docs/RULES.md, "Numbering and result": record i has N, C, S, B). Assumes
 -- nothing: these are definitions.
 use mathlib.Core.List.{List, [], _++_, _∷_}
 use Prim.Native.Nat.{ℕ, _+_, _*_, _/_}

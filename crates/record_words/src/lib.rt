@@ -1,4 +1,4 @@
-// What is stored for a state of the complement: a record of words in a lent run of them (document 01, "Numbering and result").
+// What is stored for a state of the complement: a record of words in a lent run of them (docs/RULES.md, "Numbering and result").
 use ncsb::Quadruple;
 ghost use mathlib.Core.Path.{_≡_};
 ghost use Prim.Native.Nat.{_<_};

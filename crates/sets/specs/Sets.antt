@@ -1,4 +1,4 @@
--- Sets of states, written as numbers: state q adds 2^q (document 01, "The quadruple and its step"). Assumes nothing: these are definitions.
+-- Sets of states, written as numbers: state q adds 2^q (docs/RULES.md, "The quadruple and its step"). Assumes nothing: these are definitions.
 -- Meet and join of two sets are the numbers' bitAnd and bitOr.
 use mathlib.Core.Bool.{Bool, cond}
 use mathlib.Core.List.{List, [], _∷_, _++_, map}

@@ -12,7 +12,7 @@ use Rattle.basics.proofs.Booleans.{and-l, and-r, eqb-eq, leb-le, true-not}
 use Rattle.basics.proofs.Bounded.{each-all}
 use Rattle.sets.specs.Sets.{has, size, without, set-of, union, subsets}
 use Rattle.automata.specs.Automaton.{Closed}
-use Rattle.automata.specs.Decision.{takes?, nodes, product, starts, leads, grown as grown-nodes, grow, row, marked, tabulate, on-cycle}
+use Rattle.automata.specs.Decision.{takes?, nodes, product, starts, leads, grown-nodes, grow, row, marked, tabulate, on-cycle}
 use Rattle.automata.specs.Lasso.{positions, position-letter, next-position}
 use Rattle.automata.specs.System.{an-edge, built, number-of, with-state, with-states, add-edge, add-all, by-letters, expand, state-at, explore-from, begin, explore, edge-at, listed, numbered}
 use Rattle.automata.proofs.Decision.{takes-right, takes-not}
@@ -127,6 +127,6 @@ piece-right (refused t r) h = eqb-eq (check-refusal t) r h
 piece-right (pattern-only t u v) h = lasso-right t (complement-words t) u v h
 piece-right (complement-only t u v) h = lasso-right (complement-words t) t u v h
 
--- every starred piece is as document 01 has it
+-- every starred piece is as docs/RULES.md has it
 pub pieces-right : (i : ℕ) → i < length pieces → Right (piece i)
 pieces-right i l = piece-right (piece i) (each-all (length pieces) (λ i. piece-test (piece i)) pieces-pass i l)

@@ -1,4 +1,4 @@
--- The starred trial pieces of document 01 ("Trial pieces"), a row for each star, as one list. Assumes nothing: these are definitions.
+-- The starred trial pieces of docs/RULES.md, "Trial pieces", a row for each star, as one list. Assumes nothing: these are definitions.
 use mathlib.Core.Path.{_≡_}
 use mathlib.Core.List.{List, [], _∷_}
 use Prim.Native.Nat.{ℕ}

@@ -1,1 +1,1 @@
-// The starred trial pieces of document 01.
+// The starred trial pieces of docs/RULES.md, "Trial pieces".

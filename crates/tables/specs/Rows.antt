@@ -1,4 +1,4 @@
--- Trial tables with the refusal that each meets, zero where it passes 2 to 9 (document 01, "Trial pieces"). Assumes nothing: these are definitions.
+-- Trial tables with the refusal that each meets, zero where it passes 2 to 9 (docs/RULES.md, "Trial pieces"). Assumes nothing: these are definitions.
 use mathlib.Core.List.{List, [], _∷_}
 use Prim.Native.Nat.{ℕ}
 use lib.ListN.{replicate}

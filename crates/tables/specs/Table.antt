@@ -1,4 +1,4 @@
--- Chained tables and refusals 2 to 9 (document 01, "The chained table" and "Refusals"). Assumes nothing: these are definitions.
+-- Chained tables and refusals 2 to 9 (docs/RULES.md, "The chained table" and "Refusals"). Assumes nothing: these are definitions.
 use mathlib.Core.Bool.{Bool, false, _&&_, _||_, not, cond}
 use mathlib.Core.List.{List}
 use Prim.Native.Nat.{ℕ, zero, suc, _+_, _*_, _-_, _%_, _≤_}

@@ -1,4 +1,4 @@
-// The chained table of document 01: a lent slice of 16-bit words.
+// The chained table of docs/RULES.md, "The chained table": a lent slice of 16-bit words.
 ghost use mathlib.Core.Path.{_≡_};
 ghost use Prim.Native.Nat.{_≤_};
 ghost use lib.ListN.{getD, length};
@@ -7,7 +7,7 @@ ghost use Rattle.tables.specs.Access.{Word, Sized, State-asks, Record-as
 ghost use Rattle.tables.specs.Marks.{mark-words, Mark-asks, Mark, Heads-named, Nexts-named};
 ghost use Rattle.tables.specs.Table.{n-of, k-of, m-of, flags-of, head-of, letter-of, target-of, next-of, sizes-refusal, flags-good, records-good, leads-on, chains-good, table-refusal};
 
-// THE LIMITS of document 01's tables.
+// THE LIMITS of tables (docs/RULES.md, "The chained table").
 
 // The largest 16-bit word.
 pub const WORD_MOST: usize = u16::MAX as usize;

@@ -1,5 +1,5 @@
 -- The second and the third demand, as statements over what the check, the build and the lasso decision answer and leave
--- (document 01, "Numbering and result" and "Runs, and what the third demand compares"). Assumes nothing: these are definitions.
+-- (docs/RULES.md, "Numbering and result" and "Runs, and what the third demand compares"). Assumes nothing: these are definitions.
 use mathlib.Core.Path.{_≡_}
 use mathlib.Core.Bool.{true}
 use mathlib.Core.List.{List}
