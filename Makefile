@@ -83,7 +83,7 @@ install: $(ARCHIVE) $(RECORDS) $(LISTING) $(OUT)/tubochre-bench
 	install -m 644 $(RECORDS) $(DESTDIR)$(PREFIX)/lib/libtubochre_records.a
 	install -m 644 include/tubochre.h $(DESTDIR)$(PREFIX)/include/tubochre.h
 	install -m 644 docs/RULES.md $(DESTDIR)$(PREFIX)/share/doc/tubochre/RULES.md
-	sed -e 's|@PREFIX@|$(PREFIX)|' -e 's|@VERSION@|$(VERSION)|' include/tubochre.pc.in > $(DESTDIR)$(PREFIX)/lib/pkgconfig/tubochre.pc
+	sed -e 's|@PREFIX@|$(abspath $(PREFIX))|' -e 's|@VERSION@|$(VERSION)|' include/tubochre.pc.in > $(DESTDIR)$(PREFIX)/lib/pkgconfig/tubochre.pc
 
 clean:
 	rm -rf target

@@ -1,13 +1,21 @@
 #include "fast.h"
 
 #include "room.h"
+#include "tubochre.h"
 
 #include <stdbool.h>
 #include <stdio.h>
 #include <stdlib.h>
 #include <string.h>
 
-enum { STATES = 32, LETTERS = 16, RECORDS = 4096, WIDE = 65535, PART = 4096 };
+enum {
+    STATES = TUBOCHRE_PATTERN_STATES_MOST,
+    RECORDS = TUBOCHRE_PATTERN_RECORDS_MOST,
+    LETTERS = TUBOCHRE_LETTERS_MOST,
+    WIDE = TUBOCHRE_WIDE_STATES_MOST, /* records too */
+    PART = TUBOCHRE_LASSO_PART_MOST,
+    SETS = TUBOCHRE_RECORD_WORDS /* N, C, S, B */
+};
 
 /* ---- The table. */
 
@@ -112,11 +120,11 @@ static bool find_inner(struct pattern *p)
         const uint32_t q = lowest(waiting);
         waiting &= waiting - 1;
         for (c = 0; c < p->k; c++) {
-            const uint32_t targets = p->mask[q][c];
-            if (targets & (targets - 1))
+            const uint32_t here = p->mask[q][c];
+            if (here & (here - 1))
                 return false;
-            waiting |= targets & ~p->inner;
-            p->inner |= targets;
+            waiting |= here & ~p->inner;
+            p->inner |= here;
         }
     }
     return true;
@@ -147,7 +155,7 @@ struct edge {
 struct build {
     const struct pattern *pattern;
     enum fast_lookup lookup;
-    uint32_t *sets; /* four words a state, in the lent buffer */
+    uint32_t *sets; /* the lent buffer */
     uint32_t states, most;
     uint32_t *slot; /* hash table: state number plus one */
     uint32_t slots; /* a power of two, at least twice the states */
@@ -155,17 +163,22 @@ struct build {
     size_t edges, room;
 };
 
-static uint32_t hash(const uint32_t q[4])
+static uint32_t *sets_of(const struct build *b, uint32_t state)
+{
+    return b->sets + tubochre_sets_words(state);
+}
+
+static uint32_t hash(const uint32_t q[SETS])
 {
     uint64_t h = (((uint64_t)q[0] << 32) | q[1]) * UINT64_C(0x9e3779b97f4a7c15);
     h ^= (((uint64_t)q[2] << 32) | q[3]) * UINT64_C(0xc2b2ae3d27d4eb4f);
     return (uint32_t)((h ^ (h >> 29)) * UINT64_C(0xff51afd7ed558ccd) >> 32);
 }
 
-static uint32_t *slot_for(const struct build *b, const uint32_t q[4])
+static uint32_t *slot_for(const struct build *b, const uint32_t q[SETS])
 {
     uint32_t at = hash(q) & (b->slots - 1);
-    while (b->slot[at] != 0 && memcmp(b->sets + 4 * (size_t)(b->slot[at] - 1), q, 16) != 0)
+    while (b->slot[at] != 0 && memcmp(sets_of(b, b->slot[at] - 1), q, SETS * sizeof *q) != 0)
         at = (at + 1) & (b->slots - 1);
     return &b->slot[at];
 }
@@ -178,27 +191,27 @@ static void widen(struct build *b)
     b->slot = room_for(b->slots, sizeof *b->slot);
     memset(b->slot, 0, b->slots * sizeof *b->slot);
     for (i = 0; i < b->states; i++)
-        *slot_for(b, b->sets + 4 * (size_t)i) = i + 1;
+        *slot_for(b, sets_of(b, i)) = i + 1;
 }
 
-static uint32_t append(struct build *b, const uint32_t q[4])
+static uint32_t append(struct build *b, const uint32_t q[SETS])
 {
     if (b->states < b->most)
-        memcpy(b->sets + 4 * (size_t)b->states, q, 16);
+        memcpy(sets_of(b, b->states), q, SETS * sizeof *q);
     return b->states++;
 }
 
-static uint32_t scan(struct build *b, const uint32_t q[4])
+static uint32_t scan(struct build *b, const uint32_t q[SETS])
 {
     const uint32_t *at = b->sets;
     uint32_t i;
-    for (i = 0; i < b->states; i++, at += 4)
+    for (i = 0; i < b->states; i++, at += SETS)
         if (at[1] == q[1] && at[2] == q[2] && at[0] == q[0] && at[3] == q[3])
             return i;
     return append(b, q);
 }
 
-static uint32_t find(struct build *b, const uint32_t q[4])
+static uint32_t find(struct build *b, const uint32_t q[SETS])
 {
     uint32_t *slot;
     if (b->lookup == FAST_SCAN)
@@ -248,17 +261,17 @@ static bool has_dead_end(const struct pattern *p, uint32_t set, uint32_t letter)
 static void expand(struct build *b, uint32_t source, uint32_t letter)
 {
     const struct pattern *const p = b->pattern;
-    const uint32_t *const x = b->sets + 4 * (size_t)source;
+    const uint32_t *const x = sets_of(b, source);
     const uint32_t from_n = targets(p, x[0], letter), must_c = targets(p, x[1] & ~p->accepting, letter);
-    const uint32_t must_s = targets(p, x[2], letter), enter = from_n & p->inner;
-    const uint32_t fresh = enter | targets(p, x[1] & p->accepting, letter);
+    const uint32_t must_s = targets(p, x[2], letter);
+    const uint32_t fresh = (from_n & p->inner) | targets(p, x[1] & p->accepting, letter);
     const uint32_t all = fresh | must_c | must_s, free_targets = fresh & ~p->accepting & ~must_s & ~must_c;
     const uint32_t b_targets = targets(p, x[3], letter), refill = x[3] == 0;
     uint32_t chosen = 0;
     if ((must_s & (p->accepting | must_c)) != 0 || has_dead_end(p, x[1] & ~p->accepting, letter))
         return;
     do {
-        uint32_t next[4];
+        uint32_t next[SETS];
         next[0] = from_n & ~p->inner;
         next[2] = must_s | chosen;
         next[1] = all & ~next[2];
@@ -274,7 +287,7 @@ static void start(struct build *b)
     const uint32_t inner = p->initial & p->inner, choice = inner & ~p->accepting;
     uint32_t s = 0;
     do {
-        const uint32_t q[4] = {p->initial & ~p->inner, inner & ~s, s, inner & ~s};
+        const uint32_t q[SETS] = {p->initial & ~p->inner, inner & ~s, s, inner & ~s};
         find(b, q);
         s = (s - choice) & choice;
     } while (s != 0 && b->states <= b->most);
@@ -288,7 +301,7 @@ static void write_table(const struct build *b, uint32_t initials, uint16_t *word
     words[1] = (uint16_t)b->pattern->k;
     words[2] = (uint16_t)b->edges;
     for (i = 0; i < b->states; i++) {
-        words[3 + 2 * i] = (uint16_t)((i < initials) + 2 * (b->sets[4 * (size_t)i + 3] == 0));
+        words[3 + 2 * i] = (uint16_t)((i < initials) + 2 * (sets_of(b, i)[3] == 0));
         words[4 + 2 * i] = 0;
     }
     for (i = 0; i < b->edges; i++, record += 3) {
@@ -320,8 +333,8 @@ struct fast_counts fast_build(const uint16_t *table, size_t len, uint16_t *words
     struct fast_counts counts = {read_pattern(table, len, &p), 0, 0};
     struct build b = {&p, lookup, sets, 0, WIDE, NULL, 512, NULL, 0, 0};
     size_t used_words = 0, used_sets = 0;
-    if (sets_len / 4 < b.most)
-        b.most = (uint32_t)(sets_len / 4);
+    if (sets_len / SETS < b.most)
+        b.most = (uint32_t)(sets_len / SETS);
     if (counts.number == 0) {
         uint32_t initials;
         widen(&b);
@@ -331,7 +344,7 @@ struct fast_counts fast_build(const uint16_t *table, size_t len, uint16_t *words
         if (counts.number == 0) {
             counts.states = b.states;
             counts.edges = (uint32_t)b.edges;
-            used_sets = 4 * (size_t)b.states;
+            used_sets = tubochre_sets_words(b.states);
             write_table(&b, initials, words);
         } else {
             used_words = 0;

@@ -95,7 +95,6 @@ struct input {
     const uint8_t *prefix, *loop; /* a decision's lasso */
     size_t prefix_len, loop_len;
     uint32_t *work; /* a decision's room, for the reference too */
-    size_t work_len;
     enum fast_lookup lookup;
     volatile uint32_t answer; /* so that no call is left out */
 };
@@ -427,8 +426,8 @@ static void print_spread(const char *what, struct spread s, int within)
 }
 
 /* Each call also reads its whole table once, however long the lasso is. So growth is shown in three ways: over whole
- * calls, beside what the first of them would grow to in proportion; by what a unit of them costs, the dearest beside the
- * cheapest; and over what each row has more than the row before it. */
+ * calls, beside what the first of them would grow to in proportion; by what a unit of them costs, the dearest beside
+ * the cheapest; and over what each row has more than the row before it. */
 static void print_growth(const char *what, const struct cost *cost, int count)
 {
     const double first = cost[0].seconds / cost[0].units;
@@ -541,7 +540,7 @@ static const struct built_case {
 
 enum { CASES = sizeof cases / sizeof cases[0] };
 
-/* Builds with so few states, on 16 letters, that looking quadruples up hardly counts: what a build costs apart from that. */
+/* Builds with so few states, on 16 letters, that looking quadruples up hardly counts: what a build costs besides. */
 static void small_build_rows(void)
 {
     static const uint32_t seeds[] = {0, 5, 3};

@@ -50,7 +50,7 @@
  *     Then all work words are cleared, those beyond the need too, and also where it refuses.
  *
  * The calls are proved against contracts that say the same. This header, the programs that call, and the compiler's
- * back end are outside those proofs. The archives are for x86-64 Linux.
+ * back end are outside those proofs. The header is C99 and C++11; the archives are for x86-64 Linux.
  */
 #ifndef TUBOCHRE_H
 #define TUBOCHRE_H
@@ -94,7 +94,7 @@ enum tubochre_refusal {
     TUBOCHRE_WORK = 16         /* the work words are fewer than 4 n (prefix length + loop length) */
 };
 
-/* The largest tables and lassos. */
+/* The largest tables and lassos, and what a build stores for a state. */
 enum tubochre_limit {
     TUBOCHRE_LETTERS_MOST = 16,
     TUBOCHRE_PATTERN_STATES_MOST = 32,
@@ -103,6 +103,7 @@ enum tubochre_limit {
     TUBOCHRE_WIDE_STATES_MOST = 65535,
     TUBOCHRE_WIDE_RECORDS_MOST = 65535,
     TUBOCHRE_WIDE_WORDS_MOST = 327678, /* 3 + 2 * 65,535 + 3 * 65,535 */
+    TUBOCHRE_RECORD_WORDS = 4,         /* sets words for each state of a complement: N, C, S, B */
     TUBOCHRE_LASSO_PART_MOST = 4096,   /* letters of a prefix, and of a loop */
     TUBOCHRE_WORK_WORDS_MOST = 2147450880 /* 4 * 65,535 * (4,096 + 4,096): the largest table, the longest lasso */
 };
@@ -127,8 +128,8 @@ uint32_t tubochre_check(const uint16_t *table, size_t table_len);
 /* Builds the complement of a pattern, refusing by 2 to 12.
  *
  * words  receives the complement as a wide table: 3 + 2 states + 3 edges words.
- * sets   receives four words for each state of the complement, its sets N, C, S, B of pattern states, in which state q
- *        adds 2^q. Words left over that make no full four count for no state.
+ * sets   receives a record for each state of the complement: TUBOCHRE_RECORD_WORDS words, its sets N, C, S, B of
+ *        pattern states, in which state q adds 2^q. Words left over that make no full record count for no state.
  *
  * Initial states come first, by rising S; then, for each state in number order and each letter in rising order, the
  * successors by rising S; a state not met before gets the next number. Edges are numbered in that same order.
@@ -150,7 +151,7 @@ struct tubochre_quadruple {
     uint32_t N, C, S, B;
 };
 
-/* Fills records from the sets words of a build, one for each full four words. Records beyond those become zero, and
+/* Fills records from the sets words of a build, one for each full record there. Records beyond those become zero, and
  * words beyond the last record are not read. It refuses nothing. It stands in an archive of its own, which is installed
  * as libtubochre_records.a. */
 void tubochre_records(struct tubochre_quadruple *records, size_t records_len, const uint32_t *sets, size_t sets_len);
@@ -189,7 +190,7 @@ static inline size_t tubochre_table_words(uint32_t states, uint32_t records)
 /* The sets words to lend for a complement of so many states. */
 static inline size_t tubochre_sets_words(uint32_t states)
 {
-    return 4 * (size_t)states;
+    return TUBOCHRE_RECORD_WORDS * (size_t)states;
 }
 
 /* The work words to lend for a lasso on a table of so many states (word 0 of the table). */

@@ -3,6 +3,7 @@
 #define COMMON_H
 
 #include <stddef.h>
+#include <stdio.h>
 
 /* Exit statuses: all was answered; something was refused; wrong use, or a file, memory or output that failed. */
 enum { FINE = 0, REFUSED = 1, TROUBLE = 2 };
@@ -10,13 +11,16 @@ enum { FINE = 0, REFUSED = 1, TROUBLE = 2 };
 /* The name that messages begin with; each program's main file defines it. */
 extern const char program_name[];
 
-/* Prints "program: what: why" on standard error and ends the program with status 2. */
+/* Prints a word of the command line whole, on one line: a control byte as \x and its two digits, no byte as ''. */
+void print_word(FILE *out, const char *word);
+
+/* Prints "program: what: why" on standard error and ends the program with status 2. What is printed as a word. */
 _Noreturn void trouble(const char *what, const char *why);
 
 /* Memory for so many things of a size, or trouble with what it was for. The caller frees it. */
 void *memory(size_t count, size_t size, const char *what_for);
 
-/* Ends the output: the status, or 2 with a message where not all of it could be written. */
+/* Ends the output: the status, or 2 where not all of it could be written, on standard output or on standard error. */
 int finish(int status);
 
 #endif

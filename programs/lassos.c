@@ -9,69 +9,72 @@
 
 /* ---- Reading. */
 
-/* Which lasso is being read, and which of its parts, for messages. */
-struct reading {
-    size_t number;
-    const struct lasso *lasso;
-    const char *part;
+static const char form_of_a_part[] = "a part is digits, or numbers divided by commas";
+
+/* The part that is being read: of which lasso, which one, and its text. */
+struct part {
+    const char *lasso_name, *name, *text;
 };
 
-static _Noreturn void bad_part(const struct reading *r, const char *why)
+static _Noreturn void bad_part(const struct part *p, const char *at, const char *why)
 {
-    const size_t room = strlen(r->lasso->prefix_text) + strlen(r->lasso->loop_text) + 60;
+    const size_t room = strlen(p->lasso_name) + 60;
     char *const what = memory(room, 1, "a message");
-    snprintf(what, room, "lasso %zu (%s %s), its %s", r->number, r->lasso->prefix_text, r->lasso->loop_text, r->part);
+    snprintf(what, room, "%s, byte %zu of its %s", p->lasso_name, (size_t)(at - p->text) + 1, p->name);
     trouble(what, why);
 }
 
 /* One letter for each digit. */
-static void read_digits(const struct reading *r, const char *text, struct letters *l)
+static void read_digits(const struct part *p, struct letters *l)
 {
-    for (; *text != '\0'; text++) {
-        if (*text < '0' || *text > '9')
-            bad_part(r, "a part is digits, or numbers divided by commas");
-        l->letter[l->len++] = (uint8_t)(*text - '0');
+    const char *at;
+    for (at = p->text; *at != '\0'; at++) {
+        if (*at < '0' || *at > '9')
+            bad_part(p, at, form_of_a_part);
+        l->letter[l->len++] = (uint8_t)(*at - '0');
     }
 }
 
 /* One letter for each number; the last may have a comma behind it. */
-static void read_numbers(const struct reading *r, const char *text, struct letters *l)
+static void read_numbers(const struct part *p, struct letters *l)
 {
-    while (*text != '\0') {
-        const char *const start = text;
+    const char *at = p->text;
+    while (*at != '\0') {
+        const char *const start = at;
         unsigned value = 0;
-        for (; *text >= '0' && *text <= '9' && value <= UINT8_MAX; text++)
-            value = 10 * value + (unsigned)(*text - '0');
+        for (; *at >= '0' && *at <= '9' && value <= UINT8_MAX; at++)
+            value = 10 * value + (unsigned)(*at - '0');
         if (value > UINT8_MAX)
-            bad_part(r, "a letter is a number from 0 to 255");
-        if (text == start || (*text != '\0' && *text != ','))
-            bad_part(r, "a part is digits, or numbers divided by commas");
+            bad_part(p, start, "a letter is a number from 0 to 255");
+        if (at == start || (*at != '\0' && *at != ','))
+            bad_part(p, at, form_of_a_part);
         l->letter[l->len++] = (uint8_t)value;
-        text += *text == ',';
+        at += *at == ',';
     }
 }
 
-static struct letters read_part(const struct reading *r, const char *text)
+static struct letters read_part(const struct part *p)
 {
-    struct letters l = {memory(strlen(text), 1, "a lasso"), 0};
-    if (strcmp(text, "-") == 0)
+    struct letters l = {memory(strlen(p->text), 1, "a lasso"), 0};
+    if (strcmp(p->text, "-") == 0)
         return l;
-    if (strchr(text, ',') == NULL)
-        read_digits(r, text, &l);
+    if (strchr(p->text, ',') == NULL)
+        read_digits(p, &l);
     else
-        read_numbers(r, text, &l);
+        read_numbers(p, &l);
     return l;
 }
 
 static struct lasso read_lasso(size_t number, char **arguments)
 {
+    const char *const prefix = arguments[0][0] == '\0' ? "-" : arguments[0];
+    const char *const loop = arguments[1][0] == '\0' ? "-" : arguments[1];
+    const size_t room = strlen(prefix) + strlen(loop) + 40;
     struct lasso l;
-    struct reading r = {number, &l, "prefix"};
-    l.prefix_text = arguments[0][0] == '\0' ? "-" : arguments[0];
-    l.loop_text = arguments[1][0] == '\0' ? "-" : arguments[1];
-    l.prefix = read_part(&r, l.prefix_text);
-    r.part = "loop";
-    l.loop = read_part(&r, l.loop_text);
+    l.name = memory(room, 1, "a lasso");
+    snprintf(l.name, room, "lasso %zu (%s %s)", number, prefix, loop);
+    l.prefix = read_part(&(struct part){l.name, "prefix", prefix});
+    l.loop = read_part(&(struct part){l.name, "loop", loop});
     return l;
 }
 
@@ -88,6 +91,7 @@ void free_lassos(struct lasso *all, size_t count)
 {
     size_t i;
     for (i = 0; i < count; i++) {
+        free(all[i].name);
         free(all[i].prefix.letter);
         free(all[i].loop.letter);
     }

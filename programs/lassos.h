@@ -13,11 +13,12 @@ struct letters {
 };
 
 struct lasso {
-    const char *prefix_text, *loop_text; /* as they are shown: "-" where a part is empty */
+    char *name; /* its number and both parts as they were written, "-" for an empty one: "lasso 1 (- 01)" */
     struct letters prefix, loop;
 };
 
-/* Reads so many lassos, two arguments each. A part that is none is trouble, and the whole lasso is quoted. */
+/* Reads so many lassos, two arguments each. A part that is none is trouble: the lasso is quoted whole, and the place of
+ * the first byte that may not stand there is said. */
 struct lasso *read_lassos(size_t count, char **arguments);
 void free_lassos(struct lasso *all, size_t count);
 

@@ -1,5 +1,7 @@
 #include "places.h"
 
+#include "table.h"
+
 #include <stdarg.h>
 #include <stdio.h>
 
@@ -26,29 +28,6 @@ static struct place nowhere(uint32_t number)
     return place(NO_WORD, "%s", tubochre_refusal_text(number));
 }
 
-/* ---- The words of a table. */
-
-static size_t flags_word(unsigned state)
-{
-    return 3 + 2 * (size_t)state;
-}
-
-static size_t head_word(unsigned state)
-{
-    return 4 + 2 * (size_t)state;
-}
-
-/* The first of a record's three words: letter, target, next. */
-static size_t record_word(const uint16_t *t, unsigned record)
-{
-    return 3 + 2 * (size_t)t[0] + 3 * (size_t)(record - 1);
-}
-
-static size_t next_word(const uint16_t *t, unsigned record)
-{
-    return record_word(t, record) + 2;
-}
-
 /* ---- 2 to 8: sizes, flags and records. */
 
 static struct place bad_length(const uint16_t *t, size_t len)
@@ -62,8 +41,9 @@ static struct place bad_flags(const uint16_t *t)
 {
     unsigned q;
     for (q = 0; q < t[0]; q++)
-        if (t[flags_word(q)] > 3)
-            return place(flags_word(q), "state %u has flags %u, and flags are 0 to 3", q, t[flags_word(q)]);
+        if (t[flags_word(q)] > FLAGS_MOST)
+            return place(flags_word(q), "state %u has flags %u, and flags are 0 to %d", q, t[flags_word(q)],
+                         FLAGS_MOST);
     return nowhere(TUBOCHRE_FLAGS);
 }
 
@@ -71,11 +51,11 @@ static struct place bad_record(const uint16_t *t)
 {
     unsigned r;
     for (r = 1; r <= t[2]; r++) {
-        const size_t at = record_word(t, r);
-        if (t[at] >= t[1])
-            return place(at, "record %u has letter %u, and the letters are 0 to %u", r, t[at], t[1] - 1U);
-        if (t[at + 1] >= t[0])
-            return place(at + 1, "record %u has target %u, and the states are 0 to %u", r, t[at + 1], t[0] - 1U);
+        const size_t letter = letter_word(t, r), target = target_word(t, r);
+        if (t[letter] >= t[1])
+            return place(letter, "record %u has letter %u, and the letters are 0 to %u", r, t[letter], t[1] - 1U);
+        if (t[target] >= t[0])
+            return place(target, "record %u has target %u, and the states are 0 to %u", r, t[target], t[0] - 1U);
     }
     return nowhere(TUBOCHRE_RECORD);
 }
@@ -101,31 +81,24 @@ static struct place bad_link(const uint16_t *t)
     return nowhere(TUBOCHRE_CHAIN);
 }
 
-/* The first link from a word on that names a record, heads before nexts; NO_WORD where there is none. */
-static size_t naming(const uint16_t *t, unsigned record, size_t from)
+/* A state's head or a record's next, and its word; NO_WORD where there is none. */
+struct link {
+    size_t word;
+    const char *is, *of;
+    unsigned number;
+};
+
+/* The first link from a word on that names a record, heads before nexts. */
+static struct link naming(const uint16_t *t, unsigned record, size_t from)
 {
     unsigned q, r;
     for (q = 0; q < t[0]; q++)
         if (head_word(q) >= from && t[head_word(q)] == record)
-            return head_word(q);
+            return (struct link){head_word(q), "head", "state", q};
     for (r = 1; r <= t[2]; r++)
         if (next_word(t, r) >= from && t[next_word(t, r)] == record)
-            return next_word(t, r);
-    return NO_WORD;
-}
-
-/* What a link is: a state's head or a record's next. */
-struct link {
-    const char *of, *is;
-    size_t number;
-};
-
-static struct link link_at(const uint16_t *t, size_t word)
-{
-    const size_t records = record_word(t, 1);
-    if (word < records)
-        return (struct link){"state", "head", (word - 4) / 2};
-    return (struct link){"record", "next", (word - records) / 3 + 1};
+            return (struct link){next_word(t, r), "next", "record", r};
+    return (struct link){NO_WORD, "", "", 0};
 }
 
 static struct place bad_chain(const uint16_t *t)
@@ -135,14 +108,14 @@ static struct place bad_chain(const uint16_t *t)
     if (wrong.word != NO_WORD)
         return wrong;
     for (r = 1; r <= t[2]; r++) {
-        const size_t first = naming(t, r, 0), second = first == NO_WORD ? NO_WORD : naming(t, r, first + 1);
-        if (first == NO_WORD)
+        const struct link first = naming(t, r, 0);
+        struct link second;
+        if (first.word == NO_WORD)
             return place(NO_WORD, "record %u is in no chain: no head and no next names it", r);
-        if (second != NO_WORD) {
-            const struct link a = link_at(t, first), b = link_at(t, second);
-            return place(second, "record %u is named twice, by the %s of %s %zu and by the %s of %s %zu", r, a.is, a.of,
-                         a.number, b.is, b.of, b.number);
-        }
+        second = naming(t, r, first.word + 1);
+        if (second.word != NO_WORD)
+            return place(second.word, "record %u is named twice, by the %s of %s %u and by the %s of %s %u", r,
+                         first.is, first.of, first.number, second.is, second.of, second.number);
     }
     return nowhere(TUBOCHRE_CHAIN);
 }
@@ -160,7 +133,7 @@ static struct edges edges_of(const uint16_t *t)
     unsigned q, r;
     for (q = 0; q < t[0]; q++)
         for (r = t[head_word(q)]; r != 0; r = t[next_word(t, r)])
-            e.targets[q][t[record_word(t, r)]] |= UINT32_C(1) << t[record_word(t, r) + 1];
+            e.targets[q][t[letter_word(t, r)]] |= UINT32_C(1) << t[target_word(t, r)];
     return e;
 }
 
@@ -170,7 +143,7 @@ static uint32_t accepting_and_behind(const uint16_t *t, const struct edges *e)
     uint32_t set = 0, before;
     unsigned q, c;
     for (q = 0; q < t[0]; q++)
-        set |= t[flags_word(q)] >= 2 ? UINT32_C(1) << q : 0;
+        set |= t[flags_word(q)] & ACCEPTING_FLAG ? UINT32_C(1) << q : 0;
     do {
         before = set;
         for (q = 0; q < t[0]; q++)

@@ -1,23 +1,26 @@
 #include "print.h"
 
 #include "common.h"
+#include "table.h"
 
 #include <inttypes.h>
 #include <stdio.h>
 #include <stdlib.h>
 
-static unsigned flags_of(const uint16_t *words, uint32_t state)
+static void print_numbers(const uint32_t *sets)
 {
-    return words[3 + 2 * (size_t)state];
+    int i;
+    for (i = 0; i < TUBOCHRE_RECORD_WORDS; i++)
+        printf(" %" PRIu32, sets[i]);
 }
 
 void print_states(const struct complement *c)
 {
     uint32_t q;
     for (q = 0; q < c->counts.states; q++) {
-        const uint32_t *const set = c->sets + tubochre_sets_words(q);
-        printf("%" PRIu32 " %" PRIu32 " %" PRIu32 " %" PRIu32 " %" PRIu32 " %u\n", q, set[0], set[1], set[2], set[3],
-               flags_of(c->words, q));
+        printf("%" PRIu32, q);
+        print_numbers(c->sets + tubochre_sets_words(q));
+        printf(" %u\n", c->words[flags_word(q)]);
     }
 }
 
@@ -40,14 +43,12 @@ static int by_ends_and_letter(const void *a, const void *b)
 /* All edges of a table, in the order of their ends, then of their letters. */
 static struct edge *sorted_edges(const uint16_t *words)
 {
-    const size_t states = words[0], records = words[2];
-    struct edge *const all = memory(records, sizeof *all, "the edges");
-    size_t q, r, count = 0;
-    for (q = 0; q < states; q++)
-        for (r = words[4 + 2 * q]; r != 0; r = words[2 + 2 * states + 3 * r]) {
-            const uint16_t *const record = words + 2 * states + 3 * r;
-            all[count++] = (struct edge){(uint16_t)q, record[1], record[0]};
-        }
+    struct edge *const all = memory(words[2], sizeof *all, "the edges");
+    uint32_t q, r;
+    size_t count = 0;
+    for (q = 0; q < words[0]; q++)
+        for (r = words[head_word(q)]; r != 0; r = words[next_word(words, r)])
+            all[count++] = (struct edge){(uint16_t)q, words[target_word(words, r)], words[letter_word(words, r)]};
     qsort(all, count, sizeof *all, by_ends_and_letter);
     return all;
 }
@@ -73,7 +74,7 @@ static void print_set(uint32_t set)
     const char *between = "";
     unsigned q;
     putchar('{');
-    for (q = 0; q < 32; q++)
+    for (q = 0; q < TUBOCHRE_PATTERN_STATES_MOST; q++)
         if (set >> q & 1) {
             printf("%s%u", between, q);
             between = ",";
@@ -81,12 +82,12 @@ static void print_set(uint32_t set)
     putchar('}');
 }
 
-/* The four sets of a state, below its number. */
+/* The sets of a state, below its number. */
 static void print_sets(const uint32_t *sets)
 {
     int i;
     fputs("\\n", stdout);
-    for (i = 0; i < 4; i++) {
+    for (i = 0; i < TUBOCHRE_RECORD_WORDS; i++) {
         fputs(i > 0 ? " " : "", stdout);
         print_set(sets[i]);
     }
@@ -96,11 +97,12 @@ static void print_nodes(const uint16_t *words, const uint32_t *sets)
 {
     uint32_t q;
     for (q = 0; q < words[0]; q++) {
+        const unsigned flags = words[flags_word(q)];
         printf("    s%" PRIu32 " [label=\"%" PRIu32, q, q);
         if (sets != NULL)
             print_sets(sets + tubochre_sets_words(q));
-        printf("\"%s];\n", flags_of(words, q) >= 2 ? ", peripheries=2" : "");
-        if (flags_of(words, q) % 2 == 1)
+        printf("\"%s];\n", flags & ACCEPTING_FLAG ? ", peripheries=2" : "");
+        if (flags & INITIAL_FLAG)
             printf("    i%" PRIu32 " [shape=none, label=\"\"];\n    i%" PRIu32 " -> s%" PRIu32 ";\n", q, q, q);
     }
 }

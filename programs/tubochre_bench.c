@@ -49,10 +49,14 @@ static const char statuses[] =
     "2 wrong use, or a file, memory or output that failed.\n";
 
 /* Prints why a command line is wrong, with the word at fault if there is one, and how one looks. */
-static _Noreturn void wrong_use(const char *what, const char *why)
+static _Noreturn void wrong_use(const char *why, const char *word)
 {
-    fprintf(stderr, "%s: %s%s%s\n%s%s --help says more\n", program_name, what, why != NULL ? ": " : "",
-            why != NULL ? why : "", synopsis, program_name);
+    fprintf(stderr, "%s: %s", program_name, why);
+    if (word != NULL) {
+        fputs(": ", stderr);
+        print_word(stderr, word);
+    }
+    fprintf(stderr, "\n%s%s --help says more\n", synopsis, program_name);
     exit(TROUBLE);
 }
 
@@ -64,6 +68,8 @@ static void ask_states(struct request *r, const char *value)
 
 static void ask_graph(struct request *r, const char *value)
 {
+    if (r->graph != NO_GRAPH)
+        wrong_use("--dot writes one graph, and this is a second", value);
     if (strcmp(value, "pattern") == 0)
         r->graph = PATTERN_GRAPH;
     else if (strcmp(value, "complement") == 0)
@@ -218,21 +224,18 @@ static int draw_complement(const struct words *w)
 /* ---- Answers. */
 
 /* Says which of the two takes a lasso; both are asked, though each answer decides the other. */
-static int answer_lasso(const struct words *w, const struct complement *c, size_t number, const struct lasso *l)
+static int answer_lasso(const struct words *w, const struct complement *c, const struct lasso *l)
 {
     const size_t used = tubochre_table_words(c->counts.states, c->counts.edges);
     const struct tubochre_decision by_pattern = decide(w->word, w->len, l);
     struct tubochre_decision by_complement;
-    if (by_pattern.number != TUBOCHRE_OK) {
-        printf("lasso %zu (%s %s): refused (%u): %s\n", number, l->prefix_text, l->loop_text,
-               (unsigned)by_pattern.number, place_in_lasso(by_pattern.number, w->word, l).sentence);
-        return REFUSED;
-    }
+    if (by_pattern.number != TUBOCHRE_OK)
+        return say_refused(stdout, l->name, by_pattern.number, NULL,
+                           place_in_lasso(by_pattern.number, w->word, l).sentence);
     by_complement = decide(c->words, used, l);
     if (by_complement.number != TUBOCHRE_OK || by_complement.taken == by_pattern.taken)
-        trouble("lasso", "pattern and complement contradict each other, which the library rules out");
-    printf("lasso %zu (%s %s): the %s takes it\n", number, l->prefix_text, l->loop_text,
-           by_pattern.taken == TUBOCHRE_TAKEN ? "pattern" : "complement");
+        trouble(l->name, "pattern and complement contradict each other, which the library rules out");
+    printf("%s: the %s takes it\n", l->name, by_pattern.taken == TUBOCHRE_TAKEN ? "pattern" : "complement");
     return FINE;
 }
 
@@ -249,7 +252,7 @@ static int answer_complement(const struct request *r, const struct words *w, con
         if (r->states)
             print_states(&c);
         for (i = 0; i < count; i++)
-            if (answer_lasso(w, &c, i + 1, &lassos[i]) != FINE)
+            if (answer_lasso(w, &c, &lassos[i]) != FINE)
                 status = REFUSED;
     }
     free_complement(&c);

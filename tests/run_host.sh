@@ -33,18 +33,37 @@ run_tests() {
     "$1/test_null"
     "$1/test_records"
     "$1/test_places"
-    tests/programs/test_bench.sh "$1/tubochre-bench"
+    tests/programs/test_bench.sh "$1/tubochre-bench" "$listing"
+}
+
+# The header by itself in each language that may include it.
+try_header() {
+    local standard
+    for standard in c99 c11 c++11 c++20; do
+        case $standard in
+        c++*) c++ -std="$standard" -Wall -Wextra -Wpedantic -Werror -fsyntax-only -x c++ include/tubochre.h ;;
+        *) cc -std="$standard" -Wall -Wextra -Wpedantic -Werror -fsyntax-only -x c include/tubochre.h ;;
+        esac || fail "the header is not $standard"
+    done
+    echo 'ok: the header in C and C++, older and newer'
+}
+
+# readme_shows WHAT TEXT: the README has this text, four blanks further in
+readme_shows() {
+    [ -n "$2" ] || fail "there is nothing where the README shows $1"
+    # shellcheck disable=SC2001 # at the beginning of each line that is not empty
+    [[ $(cat README.md) = *"$(sed 's/^\(.\)/    \1/' <<<"$2")"* ]] || fail "the README does not show $1: $2"
 }
 
 # An installed copy, the example compiled as a user would, and the installed programs.
 try_install() {
-    local prefix flags version
-    prefix=$(realpath "$out")/installed
+    local prefix=$out/installed flags version
     make -s install OUT="$out" PREFIX="$prefix" "${made[@]}"
     version=$("$prefix/bin/tubochre-bench" --version)
     if command -v pkg-config >/dev/null; then
         export PKG_CONFIG_PATH="$prefix/lib/pkgconfig"
         flags=$(pkg-config --cflags --libs tubochre)
+        [ "$(pkg-config --variable=prefix tubochre)" = "$(realpath "$prefix")" ] || fail 'pkg-config has another place'
         [ "tubochre-bench $(pkg-config --modversion tubochre)" = "$version" ] || fail 'pkg-config has another version'
     else
         say 'pkg-config is not here: its file is not tried'
@@ -53,11 +72,11 @@ try_install() {
     # shellcheck disable=SC2086 # the flags are words
     cc -std=c11 -Wall -Wextra -Wpedantic -Werror examples/example.c $flags -o "$prefix/example"
     [ "$("$prefix/example")" = '2 states, 4 edges; the lasso is taken' ] || fail 'the example prints something else'
-    # The README shows the whole example, four blanks further in.
-    [[ $(cat README.md) = *"$(sed 's/^\(.\)/    \1/' examples/example.c)"* ]] || fail 'the README has another example'
-    [[ $("$prefix/bin/tubochre-bench" examples/pattern-a.txt) = *'states 2, edges 4' ]] || fail 'installed tubochre-bench'
-    [[ $("$prefix/bin/tubochre-listing" <examples/pattern-a.txt) = 'states 2 edges 4'* ]] || fail 'installed listing'
-    echo 'ok: an installed copy, the example compiled with it, and its programs'
+    readme_shows 'the example' "$(cat examples/example.c)"
+    readme_shows 'the listing' "$("$prefix/bin/tubochre-listing" <examples/pattern-a.txt)"
+    readme_shows 'the answers' "$("$prefix/bin/tubochre-bench" examples/pattern-a.txt - 0 11 01)"
+    readme_shows 'the refusal' "$(printf '2 1 1\n0 1\n0 0\n0 7 0\n' | "$prefix/bin/tubochre-bench" -)"
+    echo 'ok: an installed copy, the example compiled with it, its programs, and what the README shows of them'
 }
 
 if [ -z "${ARCHIVE:-}" ]; then
@@ -72,6 +91,7 @@ tests/test_citations.sh
 say 'tests of the C calls and programs'
 build "$out" -O2 -g
 run_tests "$out"
+try_header
 try_install
 tests/programs/test_listing.sh "$listing"
 if command -v python3 >/dev/null; then

@@ -13,16 +13,22 @@ from collections import defaultdict
 
 STEP, RADIUS, LEFT = 150, 26, 70
 MOST_BYTES = 4000000  # no listing, and no pattern without needless zeros, is as long
-STATES_MOST, LETTERS_MOST, RECORDS_MOST = 32, 16, 4096
+STATES_MOST, LETTERS_MOST, RECORDS_MOST, FLAGS_MOST = 32, 16, 4096, 3
+STATE_FIELDS, EDGE_FIELDS = 6, 3  # number, N, C, S, B, flags; source, letter, target
+STANDARD_INPUT = 0
 
 
 def stop(sentence):
     sys.exit("draw.py: " + sentence)
 
 
-def read_text(file, name):
-    """The text of a file, of which no more is read than can be right."""
-    data = file.read(MOST_BYTES + 1)
+def read_text(place, name):
+    """The text of a file, or of standard input, of which no more is read than can be right."""
+    try:
+        with open(place, "rb") as file:
+            data = file.read(MOST_BYTES + 1)
+    except OSError as error:
+        stop("%s: %s" % ("standard input" if place == STANDARD_INPUT else place or "''", error.strerror))
     if len(data) > MOST_BYTES:
         stop("%s is longer than %d bytes" % (name, MOST_BYTES))
     try:
@@ -43,50 +49,57 @@ def numbers(words, name):
 
 def read_listing(text):
     """The names of the states, their flags, and the edges."""
-    lines = text.split("\n")[:-1]
-    refused = re.fullmatch("refused ([0-9]+)", lines[0]) if lines else None
+    lines = text.split("\n")
+    if lines[-1] == "":
+        lines.pop()
+    refused = re.fullmatch("refused ([0-9]{1,2})", text.rstrip("\n"))
     if refused:
         stop("the pattern is refused by %s, so there is nothing to draw" % refused.group(1))
     head = re.fullmatch("states ([0-9]{1,5}) edges ([0-9]{1,5})", lines[0]) if lines else None
     if not head:
         stop("standard input is no listing: pass on what the listing program prints")
     n, m = int(head.group(1)), int(head.group(2))
+    if n == 0:
+        stop("the listing has no states, and every complement has one")
     if len(lines) != 1 + n + m:
         stop("the listing has %d lines, and %d states and %d edges take %d" % (len(lines), n, m, 1 + n + m))
     rows = [numbers(line.split(" "), "the listing") for line in lines[1:]]
     states, edges = rows[:n], rows[n:]
-    if any(len(row) != 6 or row[0] != q or row[5] > 3 for q, row in enumerate(states)):
+    if any(len(row) != STATE_FIELDS or row[0] != q or row[-1] > FLAGS_MOST for q, row in enumerate(states)):
         stop("the listing's states are not numbered lines of six fields with flags from 0 to 3")
-    if any(len(row) != 3 or row[0] >= n or row[2] >= n for row in edges):
+    if any(len(row) != EDGE_FIELDS or row[0] >= n or row[1] >= LETTERS_MOST or row[2] >= n for row in edges):
         stop("the listing's edges are not lines of source, letter and target")
-    return ["%d,%d,%d,%d" % tuple(row[1:5]) for row in states], [row[5] for row in states], [tuple(row) for row in edges]
+    return [",".join(map(str, row[1:-1])) for row in states], [row[-1] for row in states], [tuple(row) for row in edges]
 
 
 # ---- The pattern, read with no trust in its chains.
 
 
-def chain(words, n, m, q):
+def chain(words, q):
     """The edges of a state: each next is larger than its own record, so a chain ends."""
+    n, k, m = words[:3]
     record = words[4 + 2 * q]
     while record:
         if record > m:
             stop("the pattern is no valid table: a link leads to record %d of %d" % (record, m))
         letter, target, link = words[2 * n + 3 * record : 2 * n + 3 * record + 3]
-        if target >= n or (link and link <= record):
-            stop("the pattern is no valid table: record %d has target %d and next %d" % (record, target, link))
+        if letter >= k or target >= n or (link and link <= record):
+            stop("the pattern is no valid table: record %d is %d %d %d" % (record, letter, target, link))
         yield q, letter, target
         record = link
 
 
 def read_pattern(text):
-    words = numbers(text.split(), "the pattern")
+    words = numbers(re.findall("[^ \n]+", text), "the pattern")
     if len(words) < 3:
         stop("the pattern has fewer than three words")
     n, k, m = words[:3]
     if not (1 <= n <= STATES_MOST and 1 <= k <= LETTERS_MOST and m <= RECORDS_MOST and len(words) == 3 + 2 * n + 3 * m):
         stop("the pattern is no valid table: its first words are %d %d %d, and it has %d" % (n, k, m, len(words)))
-    edges = [edge for q in range(n) for edge in chain(words, n, m, q)]
-    return [str(q) for q in range(n)], [words[3 + 2 * q] for q in range(n)], edges
+    flags = [words[3 + 2 * q] for q in range(n)]
+    if max(flags) > FLAGS_MOST:
+        stop("the pattern is no valid table: a state has flags %d" % max(flags))
+    return [str(q) for q in range(n)], flags, [edge for q in range(n) for edge in chain(words, q)]
 
 
 # ---- The picture.
@@ -139,20 +152,25 @@ def picture(pattern, complement):
     ])
 
 
-def main():
-    if len(sys.argv) != 2:
-        sys.exit(__doc__)
-    if sys.stdin is None or sys.stdout is None:
-        stop("standard input or standard output is closed")
+def write(text):
     try:
-        complement = read_listing(read_text(sys.stdin.buffer, "the listing"))
-        with open(sys.argv[1], "rb") as file:
-            pattern = read_pattern(read_text(file, "the pattern"))
-        sys.stdout.write(picture(pattern, complement))
+        sys.stdout.write(text)
         sys.stdout.flush()
     except OSError as error:
         os.dup2(os.open(os.devnull, os.O_WRONLY), sys.stdout.fileno())  # what is left to write is not tried again
-        stop("%s: %s" % (error.filename or "standard output", error.strerror))
+        stop("standard output: " + error.strerror)
+
+
+def main():
+    if sys.stdin is None or sys.stdout is None:
+        stop("standard input or standard output is closed")
+    if sys.argv[1:] in (["-h"], ["--help"]):
+        write(__doc__)
+    elif len(sys.argv) != 2:
+        sys.exit(__doc__)
+    else:
+        complement = read_listing(read_text(STANDARD_INPUT, "the listing"))
+        write(picture(read_pattern(read_text(sys.argv[1], "the pattern")), complement))
 
 
 main()

@@ -121,7 +121,8 @@ void built_free(struct built *b)
 static struct tubochre_decision lasso_once(const uint16_t *table, size_t len, struct lasso l, size_t work_len,
                                            enum fence_side side)
 {
-    const struct fence table_fence = fence_make(len * sizeof *table), work_fence = fence_make(work_len * 4);
+    const struct fence table_fence = fence_make(len * sizeof *table);
+    const struct fence work_fence = fence_make(work_len * sizeof(uint32_t));
     const struct fence prefix_fence = fence_make(l.prefix_len), loop_fence = fence_make(l.loop_len);
     uint32_t *const work = spoilt(&work_fence, work_len * sizeof *work, side);
     const uint16_t *const copy = copied(&table_fence, table, len * sizeof *table, side);

@@ -33,6 +33,7 @@ static void try_sizes(void)
     expect(tubochre_table_words(65535, 65535) == TUBOCHRE_WIDE_WORDS_MOST, "the largest wide table");
     expect(tubochre_table_words(2, 4) == 19, "pattern A");
     expect(tubochre_sets_words(3) == 12, "three records");
+    expect(tubochre_sets_words(1) == TUBOCHRE_RECORD_WORDS, "one record");
     expect(tubochre_work_words(65535, 4096, 4096) == TUBOCHRE_WORK_WORDS_MOST, "the most work words");
     expect(tubochre_work_words(32, 4096, 4096) == 1048576, "the most work words of a pattern");
     expect(tubochre_bound(1, 1, 0) == 6, "the bound of pattern A");
@@ -57,6 +58,7 @@ int main(void)
     try_sentences();
     try_sizes();
     expect(sizeof(struct tubochre_counts) == 12 && sizeof(struct tubochre_decision) == 8, "answers have no gaps");
+    expect(sizeof(struct tubochre_quadruple) == TUBOCHRE_RECORD_WORDS * sizeof(uint32_t), "a record has no gaps");
     puts(failed ? "test_header: FAILED" : "ok: the header\ntest_header: all expectations held");
     return failed;
 }

@@ -80,11 +80,12 @@ static void try_most_records(void)
 /* ---- All three calls on one pattern, in memory of one's own. */
 
 enum { P = 7, R = 8, K = 2, PATTERN_LEN = 3 + (2 + 3 * K) * (P + R + 1) };
+enum { SETS_LEN = TUBOCHRE_RECORD_WORDS * (P << R) + 100 };
 
 struct job {
     uint16_t pattern[PATTERN_LEN];
     uint16_t words[20000];
-    uint32_t sets[8000], work[400000];
+    uint32_t sets[SETS_LEN], work[400000];
     uint32_t check;
     struct tubochre_counts counts;
     struct tubochre_decision by_pattern, by_complement;
@@ -103,7 +104,7 @@ static void *all_calls(void *data)
     struct job *const j = data;
     j->check = tubochre_check(j->pattern, PATTERN_LEN);
     j->counts = tubochre_build(j->pattern, PATTERN_LEN, j->words, sizeof j->words / sizeof j->words[0],
-                               j->sets, sizeof j->sets / sizeof j->sets[0]);
+                               j->sets, SETS_LEN);
     j->by_pattern = decide_in(j, j->pattern, PATTERN_LEN);
     j->by_complement = decide_in(j, j->words, tubochre_table_words(j->counts.states, j->counts.edges));
     return NULL;

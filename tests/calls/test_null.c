@@ -5,7 +5,7 @@
 
 #include <string.h>
 
-enum { WORDS = 40, SETS = 16, WORK = 64, RECORDS = 3 };
+enum { WORDS = 40, SETS = 4 * TUBOCHRE_RECORD_WORDS, WORK = 64, RECORDS = 3 };
 
 static const uint16_t pattern[] = {2, 2, 4, 1, 1, 2, 4, 0, 0, 2, 1, 0, 3, 0, 1, 0, 0, 1, 0};
 static const uint8_t letters[] = {0, 1};

@@ -21,7 +21,8 @@ static void try_fill(const struct built *b, size_t words, size_t records, enum f
     memset(lent, 0xa5, records * sizeof *lent);
     tubochre_records(lent, records, sets, words);
     for (i = 0; i < records; i++) {
-        const struct tubochre_quadruple *const want = i < words / 4 && i < 3 ? &states_b[i] : &none;
+        const struct tubochre_quadruple *const want =
+            i < words / TUBOCHRE_RECORD_WORDS && i < 3 ? &states_b[i] : &none;
         expect(memcmp(&lent[i], want, sizeof none) == 0, "record %zu of %zu, from %zu words", i, records, words);
     }
     fence_free(sets_fence);

@@ -1,7 +1,8 @@
 #!/usr/bin/env bash
-# Tries tubochre-bench: what it prints, where, and its exit statuses. Usage: test_bench.sh PROGRAM
+# Tries tubochre-bench: what it prints, where, and its exit statuses. Usage: test_bench.sh PROGRAM LISTING
 set -uo pipefail
 program=$1
+listing=$2
 here=$(dirname "$0")
 # shellcheck source=tests/programs/trials.sh
 . "$here/trials.sh"
@@ -16,7 +17,9 @@ complement: states 2, edges 4'
 
 expect 'a file' 0 "$passes" '' "$program" "$folder/a"
 expect 'standard input' 0 "$passes" '' "$program" - <<<"$a"
-expect 'leading zeros' 0 "$passes" '' "$program" - <<<"000000000000000000000000000000$a"
+expect 'leading zeros' 0 "$passes" '' "$program" - <<<"$(zeros 700)$a"
+expect 'no newline at the end' 0 "$passes" '' "$program" - < <(printf '%s' "$a")
+expect 'a pipe with a name' 0 "$passes" '' "$program" <(echo "$a")
 expect 'blanks everywhere' 0 "$passes" '' "$program" - <<<"
   ${a// /  
 }
@@ -77,7 +80,9 @@ expect 'a record twice is one arrow with one letter' 0 'digraph pattern {
     s0 -> s0 [label="0"];
 }' '' "$program" --dot pattern - <<<'1 1 2 3 1 0 0 2 0 0 0'
 if command -v dot >/dev/null; then
-    "$program" --dot complement "$folder/a" | dot -Tsvg >/dev/null || wrong 'a viewer' 'dot does not take the graph' ''
+    for graph in pattern complement; do
+        "$program" --dot "$graph" "$folder/a" | dot -Tsvg >/dev/null || wrong 'a viewer' 'dot does not take the graph' "$graph"
+    done
 fi
 
 # ---- Refusals of the text: 1.
@@ -91,12 +96,21 @@ text 'a tab' 2 2 "a tab stands here, $divide" $'2 2\n4\t1'
 text 'CR LF' 1 39 'the line ends with CR LF, and it has to end with LF alone' "${a%0}0 "$'\r\n'
 text 'CR LF behind a number' 1 2 'the line ends with CR LF, and it has to end with LF alone' $'2\r\n2 4\r\n'
 text 'a carriage return' 1 2 "a carriage return stands here, $divide" $'2\r2'
+expect 'a carriage return at the end' 1 "pattern: refused (1) in line 1, column 2: a carriage return stands here, $divide" '' \
+    "$program" - < <(printf '2\r')
 text 'a byte order mark' 1 1 'the file begins with a byte order mark, and may not' $'\xef\xbb\xbf'"$a"
 text 'half a byte order mark' 1 1 'the byte 0xef is no digit, space or newline' $'\xef\xbb'"$a"
 text 'a byte order mark later' 1 3 'the byte 0xef is no digit, space or newline' $'2 \xef\xbb\xbf'
 text 'UTF-16, little end first' 1 1 'the file begins with a byte order mark of UTF-16' $'\xff\xfe2'
 text 'UTF-16, big end first' 1 1 'the file begins with a byte order mark of UTF-16' $'\xfe\xff2'
-text 'a minus sign' 1 3 'a minus sign stands here, and a word is a number from 0 to 65535' '2 -2'
+minus='a minus sign stands here, and a word is a number from 0 to 65535'
+text 'a minus sign' 1 3 "$minus" '2 -2'
+text 'a minus sign behind a number' 1 2 "$minus" '2-'
+text 'a plus sign' 1 3 "'+' is no digit, space or newline" '2 +2'
+text 'a form feed' 2 1 'the byte 0x0c is no digit, space or newline' $'2\n\f2'
+text 'a hard space' 1 2 'the byte 0xc2 is no digit, space or newline' $'2\xc2\xa02'
+expect 'a zero byte' 1 'pattern: refused (1) in line 1, column 2: the byte 0x00 is no digit, space or newline' '' \
+    "$program" - < <(printf '2\0002')
 text 'a letter' 1 1 "'x' is no digit, space or newline" 'x'
 text 'a letter behind a number' 3 3 "'x' is no digit, space or newline" $'2\n\n12x'
 text 'a comma' 1 2 "',' is no digit, space or newline" '2,2'
@@ -104,6 +118,7 @@ text 'a byte above 127' 1 3 'the byte 0x80 is no digit, space or newline' $'2 \x
 text '65536' 1 5 'the number 65536 is above 65535' '1 1 65536'
 text 'zeros before 65536' 2 1 'the number 65536 is above 65535' $'1 1\n00000065536 1'
 text 'a long number' 1 1 'the number 12345678901234567890... is above 65535' '12345678901234567890123'
+text 'a very long number' 1 3 'the number 90000000000000000000... is above 65535' "1 $(zeros 500)9$(zeros 500) x"
 text 'too many numbers' 1 63025 'number 12356 begins here, and a pattern has at most 12355' "$(seq -s ' ' 12356)"
 expect 'endless zero bytes' 1 'pattern: refused (1) in line 1, column 1: the byte 0x00 is no digit, space or newline' '' \
     "$program" /dev/zero
@@ -167,30 +182,19 @@ expect 'a refused table is not drawn' 1 '' \
     'pattern: refused (3) in line 1, column 1: the number of states is 0, and a pattern has 1 to 32' \
     "$program" --dot pattern - <<<'0 1 0'
 
-# ---- Refusals of the complement: 11 and 12. Rings of states have complements of a known size.
+# ---- Refusals of the complement: 11 and 12.
 
-rings() { # P R K: p outer states, r inner ones, one accepting; each of k letters moves every state on
-    local p=$1 r=$2 k=$3 n=$(($1 + $2 + 1)) q c flags target
-    echo "$n $k $((n * k))"
-    for q in $(seq 0 $((n - 1))); do
-        flags=0
-        if [ "$q" -eq 0 ] || { [ "$q" -ge "$p" ] && [ "$q" -lt $((p + r)) ]; }; then flags=1; fi
-        if [ "$q" -eq $((p + r)) ]; then flags=2; fi
-        echo "$flags $((q * k + 1))"
-    done
-    for q in $(seq 0 $((n - 1))); do
-        target=$((q + 1))
-        if [ "$target" -eq "$p" ]; then target=0; fi
-        if [ "$target" -ge $((p + r)) ]; then target=$p; fi
-        for c in $(seq 0 $((k - 1))); do echo "$c $target $((c + 1 < k ? q * k + c + 2 : 0))"; done
-    done
-}
 rings 7 10 1 >"$folder/rings"
 expect 'a complement of 7,168 states' 0 'pattern: passes the check (states 18, letters 1, records 18)
 complement: states 7168, edges 7168
 lasso 1 (- 0): the complement takes it' '' "$program" "$folder/rings" - 0
 count=$("$program" --states "$folder/rings" | wc -l)
 [ "$count" -eq 7170 ] || wrong 'all states are printed' 'lines' "$count"
+rings 8 7 2 >"$folder/rings"
+expect 'the states as the listing has them' 0 'pattern: passes the check (states 16, letters 2, records 32)
+complement: states 1024, edges 2048
+'"$("$listing" <"$folder/rings" | sed -n '2,1025p')" '' "$program" --states "$folder/rings"
+rings 7 10 1 >"$folder/rings"
 count=$("$program" --dot complement "$folder/rings" | grep -c -- '-> s.*label')
 [ "$count" -eq 7168 ] || wrong 'all edges are drawn' 'arrows' "$count"
 # A limit on memory, where the program bears one (its sanitizers do not).
@@ -224,6 +228,12 @@ lasso 1 (- $(zeros 4097)): refused (14): the loop has 4097 letters, and a part h
 expect 'a prefix of 5,000' 1 "$passes
 lasso 1 ($(zeros 5000) 1): refused (14): the prefix has 5000 letters, and a part has at most 4096" '' \
     "$program" "$folder/a" "$(zeros 5000)" 1
+nought=$(printf '0,%.0s' $(seq 4096))
+expect 'a loop of 4,096 numbers' 0 "$passes
+lasso 1 (- $nought): the pattern takes it" '' "$program" "$folder/a" - "$nought"
+expect 'a loop of 4,097 numbers' 1 "$passes
+lasso 1 (- ${nought}1): refused (14): the loop has 4097 letters, and a part has at most 4096" '' \
+    "$program" "$folder/a" - "${nought}1"
 expect 'both parts of 4,096' 0 "$passes
 lasso 1 ($(zeros 4096) $(zeros 4096)): the pattern takes it" '' "$program" "$folder/a" "$(zeros 4096)" "$(zeros 4096)"
 
@@ -242,13 +252,23 @@ misuse 'no pattern is named' --
 misuse 'no pattern is named' --states
 misuse 'a prefix has no loop beside it: 0' "$folder/a" 0
 misuse 'a prefix has no loop beside it: 1' "$folder/a" 0 1 1
+misuse "a prefix has no loop beside it: ''" "$folder/a" ''
+misuse 'a prefix has no loop beside it: 0' "$folder/a" 0 --
 misuse 'unknown option: --stats' --stats "$folder/a"
 misuse 'unknown option: -x' "$folder/a" -x 0
 misuse 'unknown option: -help' -help
+misuse 'unknown option: -1' "$folder/a" -1 0
+misuse 'unknown option: -h=1' -h=1
+misuse 'unknown option: --hel' --hel
+misuse 'unknown option: --a\x0ab\x1b[31m\x7f' $'--a\nb\x1b[31m\x7f'
+misuse 'unknown option: --none' --help --none
 misuse 'this option takes no value: --states=1' --states=1 "$folder/a"
+misuse 'this option takes no value: --help=1' --help=1
 misuse 'a value is missing behind this option: --dot' "$folder/a" --dot
 misuse 'this is no graph, which is pattern or complement: svg' --dot svg "$folder/a"
-misuse 'this is no graph, which is pattern or complement: ' --dot= "$folder/a"
+misuse "this is no graph, which is pattern or complement: ''" --dot= "$folder/a"
+misuse 'this is no graph, which is pattern or complement: --' --dot -- "$folder/a"
+misuse '--dot writes one graph, and this is a second: complement' --dot pattern --dot complement "$folder/a"
 misuse '--dot writes a graph alone, without lassos and states' --dot pattern "$folder/a" 0 1
 misuse '--dot writes a graph alone, without lassos and states' --dot pattern --states "$folder/a"
 
@@ -260,13 +280,26 @@ trouble() {
 }
 trouble "$folder/none: No such file or directory" "$folder/none"
 trouble "$folder: Is a directory" "$folder"
+trouble "$folder/a/: Not a directory" "$folder/a/"
+trouble "'': No such file or directory" ''
+trouble "$folder/\\x1b[31m\\x0a: No such file or directory" "$folder/"$'\x1b[31m\n'
+touch "$folder/closed"
+chmod 000 "$folder/closed"
+[ -r "$folder/closed" ] || trouble "$folder/closed: Permission denied" "$folder/closed"
+expect 'standard input is a directory' 2 '' 'tubochre-bench: standard input: Is a directory' "$program" - </
+expect 'standard input is closed' 2 '' 'tubochre-bench: standard input: Bad file descriptor' "$program" - <&-
 parts='a part is digits, or numbers divided by commas'
-trouble "lasso 1 (0 1x1), its loop: $parts" "$folder/a" 0 1x1
-trouble "lasso 2 (a 1), its prefix: $parts" "$folder/a" 0 1 a 1
-trouble "lasso 1 (0 1,,1), its loop: $parts" "$folder/a" 0 1,,1
-trouble "lasso 1 (,1 1), its prefix: $parts" "$folder/a" ,1 1
-trouble "lasso 1 (0 3,256,1), its loop: a letter is a number from 0 to 255" "$folder/a" 0 3,256,1
-trouble "lasso 1 (0 99999999999999999999,), its loop: a letter is a number from 0 to 255" "$folder/a" 0 99999999999999999999,
+trouble "lasso 1 (0 1x1), byte 2 of its loop: $parts" "$folder/a" 0 1x1
+trouble "lasso 2 (a 1), byte 1 of its prefix: $parts" "$folder/a" 0 1 a 1
+trouble "lasso 1 (0 1F), byte 2 of its loop: $parts" "$folder/a" 0 1F
+trouble "lasso 1 (0 1,,1), byte 3 of its loop: $parts" "$folder/a" 0 1,,1
+trouble "lasso 1 (,1 1), byte 1 of its prefix: $parts" "$folder/a" ,1 1
+trouble "lasso 1 (-1 1), byte 1 of its prefix: $parts" -- "$folder/a" -1 1
+trouble "lasso 1 (0 1,+1), byte 3 of its loop: $parts" "$folder/a" 0 1,+1
+trouble "lasso 1 (0 1\\x0a\\x1b1), byte 2 of its loop: $parts" "$folder/a" 0 $'1\n\x1b1'
+trouble "lasso 1 ($(zeros 5000)x 1), byte 5001 of its prefix: $parts" "$folder/a" "$(zeros 5000)x" 1
+trouble "lasso 1 (0 3,256,1), byte 3 of its loop: a letter is a number from 0 to 255" "$folder/a" 0 3,256,1
+trouble "lasso 1 (0 99999999999999999999,), byte 1 of its loop: a letter is a number from 0 to 255" "$folder/a" 0 99999999999999999999,
 
 expect '--version' 0 "tubochre-bench $(sed -n 's/^.define TUBOCHRE_VERSION_[A-Z]* //p' "$here/../../include/tubochre.h" | paste -sd. -)" \
     '' "$program" --version
@@ -284,7 +317,22 @@ for arguments in --help --version "$folder/a" "--states $folder/a" "--dot patter
     expect "a full disk: $arguments" 2 '' 'tubochre-bench: standard output: No space left on device' \
         sh -c "exec \"\$0\" \"\$@\" >/dev/full" "$program" $arguments <<<'x'
 done
-expect 'a closed output' 2 '' 'tubochre-bench: standard output: Bad file descriptor' sh -c "exec \"\$0\" --version >&-" "$program"
+for arguments in --help --version "$folder/a" "--states $folder/a" "--dot pattern $folder/a" "--dot complement $folder/a" ; do
+    # shellcheck disable=SC2086 # words
+    expect "a closed output: $arguments" 2 '' 'tubochre-bench: standard output: Bad file descriptor' \
+        sh -c "exec \"\$0\" \"\$@\" >&-" "$program" $arguments
+done
+# A pipe whose reader has ended; the signal of it ends the program, unless it is ignored.
+expect 'a reader that is gone' 2 '' 'tubochre-bench: standard output: Broken pipe' \
+    bash -c "trap '' PIPE; exec 3> >(:); wait \$!; exec \"\$0\" \"\$@\" >&3" "$program" --states "$folder/a"
+# Why there is no graph is told on standard error.
+echo '2 1 2 1 0 2 1 0 0 2 0 1 0' >"$folder/fork"
+for errors in '/dev/full' '&-'; do
+    expect "a refusal that cannot be told: $errors" 2 '' '' \
+        sh -c "exec \"\$0\" --dot complement \"\$1\" 2>$errors" "$program" "$folder/fork"
+    expect "nothing to be told: $errors" 0 "$passes" '' sh -c "exec \"\$0\" \"\$1\" 2>$errors" "$program" "$folder/a"
+    expect "wrong use: $errors" 2 '' '' sh -c "exec \"\$0\" 2>$errors" "$program"
+done
 
 # ---- A terminal shows that a long build goes on; nothing else does.
 
@@ -294,7 +342,7 @@ complement: refused (12): it has more than 65535 edges, the most that a table ha
 if command -v script >/dev/null; then
     # It is shown after half a second. Where all took less than one and a half, the machine may be too fast for anything to be seen.
     start=$(date +%s%N)
-    script -qec "$program $folder/rings" /dev/null >"$folder/out" </dev/null
+    script -qec "'$program' '$folder/rings'" /dev/null >"$folder/out" </dev/null
     if [ $(($(date +%s%N) - start)) -gt 1500000000 ]; then
         grep -q '^tubochre-bench: building the complement \.' "$folder/out" ||
             wrong 'progress on a terminal' 'it showed' "$(cat "$folder/out")"

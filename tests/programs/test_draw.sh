@@ -22,25 +22,41 @@ draw() {
 }
 good=$(cat "$a")
 draw 'the pattern is refused by 10, so there is nothing to draw' 'x' <<<'refused 10'
+draw 'the pattern is refused by 1, so there is nothing to draw' 'x' < <(printf 'refused 1')
 draw 'standard input is no listing: pass on what the listing program prints' "$good" </dev/null
 draw 'standard input is no listing: pass on what the listing program prints' "$good" <<<'hello'
 draw 'standard input is no listing: pass on what the listing program prints' "$good" <<<'states 9999999999 edges 4'
+draw 'standard input is no listing: pass on what the listing program prints' "$good" <<<$'refused 10\nstates 2 edges 4'
 draw 'the listing has 1 lines, and 65535 states and 65535 edges take 131071' "$good" <<<'states 65535 edges 65535'
+draw 'the listing has no states, and every complement has one' "$good" <<<'states 0 edges 0'
 draw "the listing has 'x' where a number should stand" "$good" <<<"${listed/3/x}"
 draw "the listing's states are not numbered lines of six fields with flags from 0 to 3" "$good" <<<"${listed/0 3/0 4}"
 draw "the listing's edges are not lines of source, letter and target" "$good" <<<"${listed/0 0 1/0 0 2}"
+draw "the listing's edges are not lines of source, letter and target" "$good" <<<"${listed/0 0 1/0 16 1}"
+draw "the listing has '' where a number should stand" "$good" <<<"${listed/0 0 1/0  1}"
 draw 'the listing is no plain text: byte 0 is 0xff' "$good" <<<$'\xff'
 draw 'the listing is longer than 4000000 bytes' "$good" < <(yes 2>/dev/null)
 draw 'the pattern has fewer than three words' '' <<<"$listed"
 draw "the pattern has 'x' where a number should stand" '2 x' <<<"$listed"
 draw "the pattern has '-1' where a number should stand" '2 2 -1' <<<"$listed"
+draw "the pattern has '2\\t2' where a number should stand" $'2\t2 4' <<<"$listed"
 draw 'the pattern is no plain text: byte 0 is 0xef' $'\xef\xbb\xbf1' <<<"$listed"
 draw 'the pattern is no valid table: its first words are 65535 2 4, and it has 3' '65535 2 4' <<<"$listed"
 draw 'the pattern is no valid table: a link leads to record 9 of 1' '1 1 1 0 9 0 0 0' <<<"$listed"
-draw 'the pattern is no valid table: record 1 has target 0 and next 1' '1 1 1 0 1 0 0 1' <<<"$listed"
-draw 'the pattern is no valid table: record 1 has target 7 and next 0' '1 1 1 0 1 0 7 0' <<<"$listed"
+draw 'the pattern is no valid table: record 1 is 0 0 1' '1 1 1 0 1 0 0 1' <<<"$listed"
+draw 'the pattern is no valid table: record 1 is 0 7 0' '1 1 1 0 1 0 7 0' <<<"$listed"
+draw 'the pattern is no valid table: record 1 is 1 0 0' '1 1 1 0 1 1 0 0' <<<"$listed"
+draw 'the pattern is no valid table: a state has flags 4' '1 1 0 4 0' <<<"$listed"
 expect 'a pattern that is not there' 1 '' 'draw.py: none: No such file or directory' tools/draw.py none <<<"$listed"
+expect 'a pattern without a name' 1 '' "draw.py: '': No such file or directory" tools/draw.py '' <<<"$listed"
+expect 'a pattern that is a folder' 1 '' 'draw.py: docs: Is a directory' tools/draw.py docs <<<"$listed"
+expect 'a pattern that cannot be read' 1 '' 'draw.py: /proc/self/mem: Input/output error' tools/draw.py /proc/self/mem <<<"$listed"
 expect 'an endless pattern' 1 '' 'draw.py: the pattern is longer than 4000000 bytes' timeout 20 tools/draw.py /dev/zero <<<"$listed"
 expect 'a full disk' 1 '' 'draw.py: standard output: No space left on device' sh -c "exec tools/draw.py $a >/dev/full" <<<"$listed"
-expect 'no argument' 1 '' "$(sed -n '2,/^"""/p' tools/draw.py | sed 's/^"""//')" tools/draw.py
+expect 'a closed output' 1 '' 'draw.py: standard input or standard output is closed' \
+    sh -c "exec tools/draw.py $a >&-" <<<"$listed"
+help=$(sed -n '2,/^"""/p' tools/draw.py | sed 's/^"""//')
+expect 'no argument' 1 '' "$help" tools/draw.py
+expect 'two arguments' 1 '' "$help" tools/draw.py "$a" "$a" <<<"$listed"
+expect '--help' 0 "$help" '' tools/draw.py --help </dev/null
 end_trials tools/draw.py

@@ -35,6 +35,15 @@ refused 7 '1 1 0 4 0'
 refused 8 '1 1 1 0 1 1 0 0'
 refused 9 '1 1 1 0 0 0 0 0'
 refused 10 '2 1 2 1 0 2 1 0 0 2 0 1 0'
+refused 11 "$(rings 9 7 1)"
+refused 12 "$(rings 8 7 5)"
+refused 1 $'2 2\r\n'
+refused 1 $'\xef\xbb\xbf'"$a"
+expect 'refusal 1, a zero byte' 0 'refused 1' '' "$program" < <(printf '%s\0' "$a")
+expect 'leading zeros' 0 'refused 2' '' "$program" < <(printf '0%.0s' $(seq 700))
+expect 'as many states as there is room for' 0 'states 1024 edges 1024' '' bash -c "\"\$0\" | head -n 1" "$program" < <(rings 8 7 1)
 expect 'an input that cannot be read' 0 '' 'listing: reading standard input failed' "$program" </
+expect 'a closed input' 0 '' 'listing: reading standard input failed' "$program" <&-
 expect 'a full disk' 0 '' 'listing: writing standard output failed' sh -c "exec \"\$0\" >/dev/full" "$program" <<<"$a"
+expect 'a closed output' 0 '' 'listing: writing standard output failed' sh -c "exec \"\$0\" >&-" "$program" <<<"$a"
 end_trials 'the listing program'

@@ -24,7 +24,7 @@ enum {
     WIDE_LASSOS = 2, /* for each table that is no pattern */
     DAMAGES = 2,     /* for each pattern */
     WORDS_ROOM = 700000,
-    SETS_ROOM = 300000,
+    SETS_ROOM = TUBOCHRE_RECORD_WORDS * TUBOCHRE_WIDE_STATES_MOST + 100,
     WORK_ROOM = 40 * 1000 * 1000
 };
 

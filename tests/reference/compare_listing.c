@@ -10,6 +10,7 @@
 #include "reference.h"
 #include "rings.h"
 #include "room.h"
+#include "tubochre.h"
 
 #include <errno.h>
 #include <fcntl.h>
@@ -24,7 +25,7 @@
 
 extern char **environ;
 
-enum { TRIALS = 4000, MOST_NUMBERS = 12355, TEXT_ROOM = 400000 };
+enum { TRIALS = 4000, MOST_NUMBERS = TUBOCHRE_PATTERN_WORDS_MOST, TEXT_ROOM = 400000 };
 
 static const uint64_t default_seed = 20160404;
 
@@ -318,7 +319,7 @@ static void compare_rings(struct random *r)
     for (i = 0; i < sizeof rings / sizeof rings[0]; i++) {
         const uint32_t states = rings[i][0] + rings[i][1] + 1;
         ring_pattern(table.words, rings[i][0], rings[i][1], rings[i][2]);
-        table.len = 3 + (2 + 3 * (size_t)rings[i][2]) * states;
+        table.len = tubochre_table_words(states, states * rings[i][2]);
         write_table(r, &t, &table);
         compare_text(r, &t, 0);
     }

@@ -452,10 +452,11 @@ static void write_states(const struct reference_complement *x, uint16_t *words, 
     words[2] = (uint16_t)x->edges;
     for (q = 0; q < x->states; q++) {
         const struct quadruple *const set = &x->state[q].quadruple;
-        sets[4 * q] = set->n;
-        sets[4 * q + 1] = set->c;
-        sets[4 * q + 2] = set->s;
-        sets[4 * q + 3] = set->b;
+        uint32_t *const record = sets + RECORD_WORDS * (size_t)q;
+        record[0] = set->n;
+        record[1] = set->c;
+        record[2] = set->s;
+        record[3] = set->b;
         words[3 + 2 * q] = (uint16_t)((q < x->initials ? 1 : 0) + (set->b == 0 ? 2 : 0));
     }
 }
@@ -501,7 +502,7 @@ struct reference_counts reference_sizes(const struct reference_complement *compl
 struct reference_counts reference_lay(const struct reference_complement *complement, uint16_t *words, size_t words_len,
                                       uint32_t *sets, size_t sets_len)
 {
-    const struct reference_counts counts = counts_in(complement, words_len, sets_len / 4);
+    const struct reference_counts counts = counts_in(complement, words_len, sets_len / RECORD_WORDS);
     size_t i;
     for (i = 0; i < words_len; i++)
         words[i] = 0;

@@ -7,7 +7,7 @@
 #include <stdio.h>
 #include <stdlib.h>
 
-enum { NUMBERS_MOST = 12355, LISTING_STATES = 1024, LISTING_WORDS = 16384 };
+enum { NUMBERS_MOST = 12355, LISTING_WORDS = 16384, LISTING_SETS = RECORD_WORDS * 1024 };
 
 struct page {
     char *text;
@@ -88,13 +88,13 @@ char *reference_listing(const char *text, size_t len, size_t *printed)
     struct page page = {NULL, 0, 0};
     uint16_t *const table = room_for(NUMBERS_MOST + 1, sizeof *table);
     uint16_t *const words = room_for(LISTING_WORDS, sizeof *words);
-    uint32_t *const sets = room_for(4 * LISTING_STATES, sizeof *sets);
+    uint32_t *const sets = room_for(LISTING_SETS, sizeof *sets);
     size_t count;
     if (!read_words(text, len, table, &count)) {
         print(&page, "refused 1\n");
     } else {
         struct reference_complement *const x = reference_explore(table, count);
-        const uint32_t number = reference_lay(x, words, LISTING_WORDS, sets, 4 * LISTING_STATES).number;
+        const uint32_t number = reference_lay(x, words, LISTING_WORDS, sets, LISTING_SETS).number;
         if (number != 0)
             print(&page, "refused %u\n", (unsigned)number);
         else

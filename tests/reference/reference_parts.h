@@ -6,7 +6,7 @@
 #include <stddef.h>
 #include <stdint.h>
 
-enum { PATTERN_STATES = 32, PATTERN_RECORDS = 4096, WIDE_MOST = 65535, LETTERS_MOST = 16 };
+enum { PATTERN_STATES = 32, PATTERN_RECORDS = 4096, WIDE_MOST = 65535, LETTERS_MOST = 16, RECORD_WORDS = 4 };
 
 /* Which of 2 to 9 refuses a table, or 0. */
 uint32_t reference_table_refusal(const uint16_t *t, size_t len, uint32_t states_most, uint32_t records_most);

@@ -1,5 +1,7 @@
 #include "draw.h"
 
+#include "tubochre.h"
+
 #include <string.h>
 
 enum { MOST_EDGES = 4200, MOST_STATES = 64 };
@@ -57,10 +59,10 @@ void draw_garbage(struct random *r, void *bytes, size_t len)
 void draw_from_edges(struct drawn_table *t, uint32_t states, uint32_t letters, const uint8_t *flags,
                      const struct drawn_edge *edges, uint32_t count)
 {
-    uint16_t *const records = t->words + 3 + 2 * states;
+    uint16_t *const records = t->words + tubochre_table_words(states, 0);
     uint32_t q, i;
     memset(t->words, 0, sizeof t->words);
-    t->len = 3 + 2 * (size_t)states + 3 * (size_t)count;
+    t->len = tubochre_table_words(states, count);
     t->words[0] = (uint16_t)states;
     t->words[1] = (uint16_t)letters;
     t->words[2] = (uint16_t)count;
@@ -262,10 +264,9 @@ static void damage_word(struct random *r, struct drawn_table *t)
 static void damage_field(struct random *r, struct drawn_table *t)
 {
     const uint32_t states = t->len < 3 ? 0 : t->words[0], records = t->len < 3 ? 0 : t->words[2];
-    const size_t first = 3 + 2 * (size_t)states;
     size_t at;
     if (records > 0 && random_chance(r, 70))
-        at = first + 3 * (size_t)random_below(r, records) + random_below(r, 3);
+        at = tubochre_table_words(states, random_below(r, records)) + random_below(r, 3);
     else
         at = 3 + random_below(r, 2 * states);
     if (at < t->len)
@@ -290,7 +291,7 @@ static void damage_counts(struct random *r, struct drawn_table *t)
         return;
     t->words[at] = edge_values[random_below(r, sizeof edge_values / sizeof edge_values[0])];
     if (t->len >= 3 && random_chance(r, 70)) /* let it come past the length */
-        set_length(t, 3 + 2 * (size_t)t->words[0] + 3 * (size_t)t->words[2]);
+        set_length(t, tubochre_table_words(t->words[0], t->words[2]));
 }
 
 static void damage_length(struct random *r, struct drawn_table *t)

@@ -1,13 +1,14 @@
 #include "rings.h"
 
 #include "draw.h"
+#include "tubochre.h"
 
 #include <stddef.h>
 #include <string.h>
 
 static void begin(uint16_t *words, uint32_t n, uint32_t k, uint32_t m)
 {
-    memset(words, 0, (3 + 2 * (size_t)n + 3 * (size_t)m) * sizeof *words);
+    memset(words, 0, tubochre_table_words(n, m) * sizeof *words);
     words[0] = (uint16_t)n;
     words[1] = (uint16_t)k;
     words[2] = (uint16_t)m;
@@ -15,7 +16,7 @@ static void begin(uint16_t *words, uint32_t n, uint32_t k, uint32_t m)
 
 static uint16_t *record_of(uint16_t *words, uint32_t record)
 {
-    return words + 3 + 2 * (size_t)words[0] + 3 * (size_t)(record - 1);
+    return words + tubochre_table_words(words[0], record - 1);
 }
 
 /* State q gets an edge on each letter to one target: k records in a row, the first of them number q * k + 1. */

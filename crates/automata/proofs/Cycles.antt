@@ -7,9 +7,8 @@ use mathlib.Core.Logic.{inl, inr}
 use Prim.Native.Nat.{ℕ, zero, suc, _+_, _*_, _≤_, _<_}
 use native.Mathlib.Omega.{arith}
 use lib.Arith.{digits-lt}
-use lib.Dec.{eqb}
 use lib.ListN.{length}
-use Rattle.basics.proofs.Booleans.{either, eqb-eq, eqb-ne}
+use Rattle.basics.proofs.Booleans.{same-or}
 use Rattle.basics.proofs.Bounded.{pigeonhole}
 use Rattle.basics.proofs.Radix.{digits-same}
 use Rattle.basics.proofs.Upward.{upward}
@@ -63,9 +62,9 @@ module _ (a : Automaton) (u v : List ℕ) (o : 1 ≤ length v) (run : ℕ → �
     place-rises i zero l = absurd (omega arith)
     place-rises i (suc j) l =
         let h = often (suc (place j)) .1 in
-        elim (either (eqb i j)) [
-          | inl e ↦ rw (eqb-eq i j e) h
-          | inr e ↦ let ne = eqb-ne i j e in let r = place-rises i j (omega arith) in omega arith
+        elim (same-or i j) [
+          | inl e ↦ rw e h
+          | inr ne ↦ let r = place-rises i j (omega arith) in omega arith
         ]
 
     -- among more accepting places than there are nodes, two have the same node

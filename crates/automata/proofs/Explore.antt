@@ -4,10 +4,10 @@ use mathlib.Core.List.{List, [], _∷_, _++_, append-assoc, append-nil}
 use mathlib.Core.Logic.{inl, inr}
 use Prim.Native.Nat.{ℕ, zero, suc, _+_, _≤_, _<_}
 use native.Mathlib.Omega.{arith}
-use lib.Dec.{ltb, leb, eqb}
+use lib.Dec.{leb}
 use lib.ListN.{length, length-append, List·getD-append}
 use lib.Seq.{append-snoc, getD-append-seam}
-use Rattle.basics.proofs.Booleans.{either, eqb-eq, eqb-ne, ltb-lt, ltb-ge, leb-le, leb-gt, le-leb, gt-leb}
+use Rattle.basics.proofs.Booleans.{either, leb-le, leb-gt, le-leb, gt-leb, same-or, below-or}
 use Rattle.automata.specs.System.{System, Decides, Member, here, there, Reached, at-start, onward}
 use Rattle.automata.specs.System.{state-at, Distinct, At-most, Edge, an-edge, Built, built, number-of, with-state, with-states}
 use Rattle.automata.specs.System.{add-edge, add-all, by-letters, expand, explore-from, begin, explore, edges-to, edges-on, edges-of, edge-at, Exactly}
@@ -76,11 +76,10 @@ targets-snoc :
     (es : List Edge) (e : Edge) (n m : ℕ) → ((r : ℕ) → r < length es → edge-at es r .target < n) → n ≤ m → e .target < m →
     (r : ℕ) → r < length (es ++ (e ∷ [])) → edge-at (es ++ (e ∷ [])) r .target < m
 targets-snoc es e n m old grown new r l =
-    elim (either (ltb r (length es))) [
-      | inl b ↦
-          let l′ = ltb-lt r (length es) b in let h = old r l′ in rw (edge-kept es (e ∷ []) r l′) (omega arith)
-      | inr b ↦
-          let g = ltb-ge r (length es) b in
+    elim (below-or r (length es)) [
+      | inl l′ ↦
+          let h = old r l′ in rw (edge-kept es (e ∷ []) r l′) (omega arith)
+      | inr g ↦
           let l′ : r < length es + 1 = rw length-append at l in
           let q : r ≡ length es = omega arith in rw (q, edge-last es e) new
     ]
@@ -182,10 +181,9 @@ module _ {X : Type 0} (s : System X) where
     by-letters-covers zero i x b c l = absurd (omega arith)
     by-letters-covers (suc d) i x b c l =
         let before = by-letters s d i x b in
-        elim (either (eqb c d)) [
-          | inl e ↦ rw (eqb-eq c d e) (add-all-covers i d (s .nexts x d) before)
-          | inr e ↦
-              let ne = eqb-ne c d e in
+        elim (same-or c d) [
+          | inl e ↦ rw e (add-all-covers i d (s .nexts x d) before)
+          | inr ne ↦
               covers-prefix (add-all-prefix i d (s .nexts x d) before) (by-letters-covers d i x b c (omega arith))
         ]
 
@@ -231,10 +229,9 @@ module _ {X : Type 0} (s : System X) where
             number-of (s .same) y (b .states) ≡ length (b .states) → (k : ℕ) → length (s .starts) ≤ k →
             k < length (b .states ++ (y ∷ [])) → First-edge (b .edges ++ (e ∷ [])) k
         new q k m l =
-            elim (either (ltb k (length (b .states)))) [
-              | inl d ↦ kept k m (ltb-lt k (length (b .states)) d)
-              | inr d ↦
-                  let g = ltb-ge k (length (b .states)) d in
+            elim (below-or k (length (b .states))) [
+              | inl d ↦ kept k m d
+              | inr g ↦
                   let l′ : k < length (b .states) + 1 = rw length-append at l in
                   let z : number-of (s .same) y (b .states) ≡ k = omega arith in
                   subst (λ (n : ℕ). First-edge (b .edges ++ (e ∷ [])) n) z
@@ -282,9 +279,9 @@ module _ {X : Type 0} (s : System X) where
             Covers s (by-letters s (s .letters) i x b .states) (s .nexts (state-at s (by-letters s (s .letters) i x b .states) k) c)
         covers k m c lc =
             rw (state-prefix s p k (omega arith))
-            (elim (either (eqb k i)) [
-              | inl e ↦ rw (eqb-eq k i e) (by-letters-covers (s .letters) i x b c lc)
-              | inr e ↦ let ne = eqb-ne k i e in covers-prefix p (h .closed .covers k (omega arith) c lc)
+            (elim (same-or k i) [
+              | inl e ↦ rw e (by-letters-covers (s .letters) i x b c lc)
+              | inr ne ↦ covers-prefix p (h .closed .covers k (omega arith) c lc)
             ])
 
     -- the initial states alone

@@ -1,15 +1,15 @@
 -- Reaching in a finite graph: as many rounds as there are nodes find exactly the nodes that edges lead to. Assumes nothing.
 use mathlib.Core.Path.{_≡_, refl, ap}
-use mathlib.Core.Bool.{Bool, true, false, _&&_, _||_, not}
-use mathlib.Core.List.{List}
-use mathlib.Core.Logic.{_⊎_, inl, inr}
-use Prim.Native.Nat.{ℕ, zero, suc, _≤_, _<_}
+use mathlib.Core.Bool.{Bool, true, false, _&&_, _||_}
+use mathlib.Core.List.{List, [], _∷_, _++_}
+use mathlib.Core.Logic.{inl, inr}
+use Prim.Native.Nat.{ℕ, zero, suc, _<_}
 use native.Mathlib.Omega.{arith}
 use lib.ListN.{length, getD}
-use Rattle.basics.specs.Bounded.{any, count}
-use Rattle.basics.proofs.Booleans.{either, clash, and-l, and-r, and-make, or-l, or-r, or-true, not-false, true-not}
-use Rattle.basics.proofs.Bounded.{any-find, any-make, count-le, count-less, search-to}
-use Rattle.basics.proofs.Upward.{upward}
+use Rattle.basics.specs.Bounded.{any}
+use Rattle.basics.proofs.Booleans.{and-l, and-r, and-make, or-l, or-r, or-true}
+use Rattle.basics.proofs.Bounded.{any-find, any-make}
+use Rattle.basics.proofs.Growing.{Still, rounds-keep, still-by}
 use Rattle.automata.specs.Decision.{tabulate, marked, row, grow, grown-nodes}
 
 pub tabulate-at : {A : Type 0} (k : ℕ) (f : ℕ → A) (i : ℕ) (d : A) → i < k → getD (tabulate k f) i d ≡ f i
@@ -22,6 +22,27 @@ pub tabulate-length : {A : Type 0} (k : ℕ) (f : ℕ → A) → length (tabulat
 unfolding tabulate
 tabulate-length zero f = refl
 tabulate-length (suc k) f = ap suc (tabulate-length k (λ i. f (suc i)))
+
+-- one more at the end
+pub tabulate-snoc : {A : Type 0} (k : ℕ) (f : ℕ → A) → tabulate (suc k) f ≡ tabulate k f ++ (f k ∷ [])
+unfolding tabulate
+tabulate-snoc zero f = refl
+tabulate-snoc {A} (suc k) f = ap (λ (l : List A). f 0 ∷ l) (tabulate-snoc k (λ i. f (suc i)))
+
+-- what is the same below the limit
+pub tabulate-same :
+    {A : Type 0} (k : ℕ) (f g : ℕ → A) → ((i : ℕ) → i < k → f i ≡ g i) → tabulate k f ≡ tabulate k g
+unfolding tabulate
+tabulate-same zero f g h = refl
+tabulate-same (suc k) f g h =
+    let first = h 0 (omega arith) in
+    let others = tabulate-same k (λ i. f (suc i)) (λ i. g (suc i)) (λ i l. h (suc i) (omega arith)) in cc
+
+-- a list's own items
+pub tabulate-items : {A : Type 0} (xs : List A) (d : A) → tabulate (length xs) (λ i. getD xs i d) ≡ xs
+unfolding tabulate
+tabulate-items [] d = refl
+tabulate-items {A} (x ∷ xs) d = ap (λ (l : List A). x ∷ l) (tabulate-items xs d)
 
 pub tabulate-marked : (k : ℕ) (f : ℕ → Bool) (i : ℕ) → i < k → marked (tabulate k f) i ≡ f i
 unfolding marked
@@ -69,60 +90,22 @@ module _ (n : ℕ) (g : List (List Bool)) where
               along (grown-reach k x m (and-l (marked (row g x) y) f)) l (and-r (marked t x) f)
         ]
 
-    grown-keeps : (j k y : ℕ) → j ≤ k → y < n → marked (grown-nodes j n g s) y ≡ true → marked (grown-nodes k n g s) y ≡ true
-    unfolding grown-nodes
-    grown-keeps j k y l m e =
-        upward (λ k. marked (grown-nodes k n g s) y ≡ true) j e (λ k _ h. grow-keeps (grown-nodes k n g s) y m h) k l
+    -- a round keeps what is marked, so that after at most n of them one adds nothing
+    abbrev after : (rounds node : ℕ) → Bool
+    after k y = marked (grown-nodes k n g s) y
 
-    -- a round that adds nothing: by then every reached node is marked
-    record Still (k : ℕ) : Type 0 where
-      no-more : (y : ℕ) → y < n → marked (grown-nodes (suc k) n g s) y ≡ true → marked (grown-nodes k n g s) y ≡ true
-
-    still-reach : (k : ℕ) → Still k → (y : ℕ) → Reach n g s y → marked (grown-nodes k n g s) y ≡ true
+    kept : (k y : ℕ) → y < n → after k y ≡ true → after (suc k) y ≡ true
     unfolding grown-nodes
-    still-reach k h y (start l e) = grown-keeps 0 k y (omega arith) l e
+    kept k y l h = grow-keeps (grown-nodes k n g s) y l h
+
+    -- once a round adds nothing, every reached node is marked
+    still-reach : (k : ℕ) → Still n after kept k → (y : ℕ) → Reach n g s y → after k y ≡ true
+    unfolding grown-nodes
+    still-reach k h y (start l e) = rounds-keep n after kept 0 k y (omega arith) l e
     still-reach k h y (along {x} r l e) =
         h .no-more y l (grow-adds (grown-nodes k n g s) x y (reach-below r) l (still-reach k h x r) e)
 
-    -- each round adds a node, or one has added nothing
-    rounds : (k : ℕ) → ((j : ℕ) × (j < k) × Still j) ⊎ (k ≤ count n (λ y. marked (grown-nodes k n g s) y))
-    rounds zero = inr (omega arith)
-    rounds (suc k) = go (rounds k) (search-to n new)
-      where
-        new : ℕ → Bool
-        new y = marked (grown-nodes (suc k) n g s) y && not (marked (grown-nodes k n g s) y)
-
-        go :
-            ((j : ℕ) × (j < k) × Still j) ⊎ (k ≤ count n (λ y. marked (grown-nodes k n g s) y)) →
-            ((y : ℕ) × (y < n) × (new y ≡ true)) ⊎ ((y : ℕ) → y < n → new y ≡ false) →
-            ((j : ℕ) × (j < suc k) × Still j) ⊎ (suc k ≤ count n (λ y. marked (grown-nodes (suc k) n g s) y))
-        go (inl (j, l, h)) found = inl (j, (omega arith), h)
-        go (inr c) (inl (y, l, e)) =
-            let more =
-            count-less n (λ y. marked (grown-nodes k n g s) y) (λ y. marked (grown-nodes (suc k) n g s) y)
-            (λ x m f. grown-keeps k (suc k) x (omega arith) m f) y l
-            (true-not (marked (grown-nodes k n g s) y) (and-r (marked (grown-nodes (suc k) n g s) y) e))
-            (and-l (not (marked (grown-nodes k n g s) y)) e) in
-            inr (omega arith)
-        go (inr c) (inr none) =
-            inl (
-              k,
-              (omega arith),
-              record {
-                no-more = λ y l e.
-                    elim (either (marked (grown-nodes k n g s) y)) [
-                      | inl f ↦ f
-                      | inr f ↦ absurd (clash (and-make e (not-false f)) (none y l))
-                    ];
-              },
-            )
-
-    -- every reached node is marked: n + 1 rounds that each add a node would mark more than n
-    pub reach-grown : (y : ℕ) → Reach n g s y → marked (grown-nodes n n g s) y ≡ true
-    reach-grown y r = go (rounds (suc n))
-      where
-        go :
-            ((j : ℕ) × (j < suc n) × Still j) ⊎ (suc n ≤ count n (λ y. marked (grown-nodes (suc n) n g s) y)) →
-            marked (grown-nodes n n g s) y ≡ true
-        go (inl (j, l, h)) = grown-keeps j n y (omega arith) (reach-below r) (still-reach j h y r)
-        go (inr c) = let most = count-le n (λ y. marked (grown-nodes (suc n) n g s) y) in absurd (omega arith)
+    pub reach-grown : (y : ℕ) → Reach n g s y → after n y ≡ true
+    reach-grown y r =
+        let (k, l, still) = still-by n after kept in
+        rounds-keep n after kept k n y l (reach-below r) (still-reach k still y r)

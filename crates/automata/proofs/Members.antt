@@ -5,11 +5,11 @@ use mathlib.Core.List.{List, [], _∷_, _++_, append-assoc, append-nil}
 use mathlib.Core.Logic.{inl, inr}
 use Prim.Native.Nat.{ℕ, zero, suc, _+_, _≤_, _<_}
 use native.Mathlib.Omega.{arith}
-use lib.Dec.{ltb}
 use lib.ListN.{length, getD, take, drop, length-append, take-append-drop, List·getD-append}
 use lib.Seq.{append-snoc, getD-append-seam, take-append-seam}
-use Rattle.basics.proofs.Booleans.{either, ltb-lt, ltb-ge, lt-ltb, ge-ltb}
+use Rattle.basics.proofs.Booleans.{either, lt-ltb, ge-ltb, below-or}
 use Rattle.automata.specs.Decision.{tabulate}
+use Rattle.automata.proofs.Graphs.{tabulate-at, tabulate-length}
 use Rattle.automata.specs.System.{System, Decides, Member, here, there, state-at, Distinct, number-of, with-state, with-states}
 
 -- PREFIXES: the second list goes on from the first
@@ -48,30 +48,49 @@ module _ {X : Type 0} where
             sym (take-append-drop (length xs) ys) ∙ ap (λ (l : List X). l ++ drop (length xs) ys) e;
       }
 
-  -- MEMBERS: each stands at some index
+  -- MEMBERS: each stands at some index, and what stands at an index is one
   pub member-index :
       {x : X} {xs : List X} (blank : X) → Member x xs → (i : ℕ) × (i < length xs) × (getD xs i blank ≡ x)
   member-index blank here = (0, (omega arith), refl)
   member-index blank (there m) =
       let r = member-index blank m in (suc (r .0), (let l = r .1 in omega arith), r .2)
 
--- THE NUMBER of the first state in a row that is the same
+  pub index-member : (xs : List X) (blank : X) (i : ℕ) → i < length xs → Member (getD xs i blank) xs
+  index-member [] blank i l = absurd (omega arith)
+  index-member (x ∷ xs) blank zero l = here
+  index-member (x ∷ xs) blank (suc i) l = there (index-member xs blank i (omega arith))
+
+-- THE NUMBER of the first state in a list that is the same
 module _ {X : Type 0} (same : X → X → Bool) (x : X) where
+  pub number-here :
+      (ys : List X) (blank : X) (r : ℕ) → r < length ys → ((i : ℕ) → i < r → same x (getD ys i blank) ≡ false) →
+      same x (getD ys r blank) ≡ true → number-of same x ys ≡ r
+  unfolding number-of
+  number-here [] blank r l before met = absurd (omega arith)
+  number-here (y ∷ ys) blank zero l before met = rw met refl
+  number-here (y ∷ ys) blank (suc r) l before met =
+      rw (before 0 (omega arith)) (ap suc (number-here ys blank r (omega arith) (λ i m. before (suc i) (omega arith)) met))
+
+  pub number-nowhere :
+      (ys : List X) (blank : X) → ((i : ℕ) → i < length ys → same x (getD ys i blank) ≡ false) → number-of same x ys ≡ length ys
+  unfolding number-of
+  number-nowhere [] blank before = refl
+  number-nowhere (y ∷ ys) blank before =
+      rw (before 0 (omega arith)) (ap suc (number-nowhere ys blank (λ i m. before (suc i) (omega arith))))
+
+  -- in a row of states
   pub number-met :
       (n r : ℕ) (f : ℕ → X) → r < n → ((i : ℕ) → i < r → same x (f i) ≡ false) → same x (f r) ≡ true →
       number-of same x (tabulate n f) ≡ r
-  unfolding number-of tabulate
-  number-met zero r f l before met = absurd (omega arith)
-  number-met (suc n) zero f l before met = rw met refl
-  number-met (suc n) (suc r) f l before met =
-      rw (before 0 (omega arith))
-      (ap suc (number-met n r (λ i. f (suc i)) (omega arith) (λ i m. before (suc i) (omega arith)) met))
+  number-met n r f l before met =
+      number-here (tabulate n f) x r (rw (tabulate-length n f) l)
+      (λ i m. rw (tabulate-at n f i x (omega arith)) (before i m)) (rw (tabulate-at n f r x l) met)
 
   pub number-missed : (n : ℕ) (f : ℕ → X) → ((i : ℕ) → i < n → same x (f i) ≡ false) → number-of same x (tabulate n f) ≡ n
-  unfolding number-of tabulate
-  number-missed zero f before = refl
-  number-missed (suc n) f before =
-      rw (before 0 (omega arith)) (ap suc (number-missed n (λ i. f (suc i)) (λ i m. before (suc i) (omega arith))))
+  number-missed n f before =
+      number-nowhere (tabulate n f) x
+      (λ i m. let l : i < n = rw (tabulate-length n f) at m in rw (tabulate-at n f i x l) (before i l))
+      ∙ tabulate-length n f
 
 module _ {X : Type 0} (same : X → X → Bool) where
   -- THE NUMBER OF A STATE is below the length exactly if the state is listed
@@ -108,10 +127,9 @@ module _ {X : Type 0} (same : X → X → Bool) where
       (number-of same x xs < length xs → P xs) → (number-of same x xs ≡ length xs → P (xs ++ (x ∷ []))) →
       P (with-state same x xs)
   with-cases P x xs known new =
-      elim (either (ltb (number-of same x xs) (length xs))) [
-        | inl e ↦ let l = ltb-lt (number-of same x xs) (length xs) e in rw (with-known x xs l) (known l)
-        | inr e ↦
-            let g = ltb-ge (number-of same x xs) (length xs) e in
+      elim (below-or (number-of same x xs) (length xs)) [
+        | inl l ↦ rw (with-known x xs l) (known l)
+        | inr g ↦
             let h = number-le x xs in let q : number-of same x xs ≡ length xs = omega arith in
             rw (with-new x xs g) (new q)
       ]
@@ -134,9 +152,7 @@ module _ {X : Type 0} (same : X → X → Bool) where
 module _ {X : Type 0} (s : System X) where
   pub member-at : (xs : List X) (i : ℕ) → i < length xs → Member (state-at s xs i) xs
   unfolding state-at
-  member-at [] i l = absurd (omega arith)
-  member-at (x ∷ xs) zero l = here
-  member-at (x ∷ xs) (suc i) l = there (member-at xs i (omega arith))
+  member-at xs i l = index-member xs (s .blank) i l
 
   pub state-prefix : {xs ys : List X} → Prefix xs ys → (i : ℕ) → i < length xs → state-at s ys i ≡ state-at s xs i
   unfolding state-at
@@ -155,10 +171,9 @@ module _ {X : Type 0} (s : System X) where
     where
       more : (i : ℕ) → i < length (xs ++ (x ∷ [])) → P (state-at s (xs ++ (x ∷ [])) i)
       more i l =
-          elim (either (ltb i (length xs))) [
-            | inl e ↦ let l′ = ltb-lt i (length xs) e in rw (state-prefix (prefix-append xs (x ∷ [])) i l′) (all i l′)
-            | inr e ↦
-                let g = ltb-ge i (length xs) e in
+          elim (below-or i (length xs)) [
+            | inl l′ ↦ rw (state-prefix (prefix-append xs (x ∷ [])) i l′) (all i l′)
+            | inr g ↦
                 let h : i < length xs + 1 = rw length-append at l in
                 let q : i ≡ length xs = omega arith in rw (q, state-seam xs x []) one
           ]
@@ -194,12 +209,12 @@ module _ {X : Type 0} (s : System X) where
     number-at xs distinct i l =
         let n = number-of (s .same) (state-at s xs i) xs in
         let h : n ≤ i = number-first xs i l in
-        elim (either (ltb n i)) [
+        elim (below-or n i) [
           | inl e ↦
               absurd
-              (distinct .apart n i (ltb-lt n i e) l
-              (number-found (state-at s xs i) xs (let l′ = ltb-lt n i e in omega arith)))
-          | inr e ↦ let g = ltb-ge n i e in omega arith
+              (distinct .apart n i e l
+              (number-found (state-at s xs i) xs (let l′ = e in omega arith)))
+          | inr g ↦ omega arith
         ]
 
     pub number-none :
@@ -207,9 +222,9 @@ module _ {X : Type 0} (s : System X) where
     number-none x xs none =
         let n = number-of (s .same) x xs in
         let h : n ≤ length xs = number-le (s .same) x xs in
-        elim (either (ltb n (length xs))) [
-          | inl e ↦ let l = ltb-lt n (length xs) e in absurd (none n l (number-found x xs l))
-          | inr e ↦ let g = ltb-ge n (length xs) e in omega arith
+        elim (below-or n (length xs)) [
+          | inl l ↦ absurd (none n l (number-found x xs l))
+          | inr g ↦ omega arith
         ]
 
     pub distinct-once :
@@ -247,12 +262,10 @@ module _ {X : Type 0} (s : System X) where
                   λ i j l m e.
                   let m′ : j < length xs + 1 = rw length-append at m in
                   let e′ : state-at s xs i ≡ state-at s (xs ++ (x ∷ [])) j = sym (state-prefix (prefix-append xs (x ∷ [])) i (omega arith)) ∙ e in
-                  elim (either (ltb j (length xs))) [
-                    | inl b ↦
-                        let l′ = ltb-lt j (length xs) b in
+                  elim (below-or j (length xs)) [
+                    | inl l′ ↦
                         distinct .apart i j l l′ (e′ ∙ state-prefix (prefix-append xs (x ∷ [])) j l′)
-                    | inr b ↦
-                        let g = ltb-ge j (length xs) b in
+                    | inr g ↦
                         let z : j ≡ length xs = omega arith in
                         let e″ : state-at s xs i ≡ x = rw (z, state-seam xs x []) at e′ in
                         let n = number-first xs i (omega arith) in

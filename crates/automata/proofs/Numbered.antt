@@ -7,11 +7,11 @@ use Prim.Native.Nat.{ℕ, zero, suc, _≤_, _<_}
 use native.Mathlib.Omega.{arith}
 use lib.Dec.{ltb, eqb}
 use lib.ListN.{length}
-use Rattle.basics.proofs.Booleans.{clash, and-l, and-r, and-make, or-l, or-r, or-true, eqb-eq, eqb-self, ltb-lt, lt-ltb, either, eqb-ne}
-use Rattle.automata.specs.Automaton.{Run, Takes, Single-run, Closed}
+use Rattle.basics.proofs.Booleans.{clash, and-l, and-r, and-make, or-l, or-r, or-true, eqb-eq, eqb-self, ltb-lt, lt-ltb, same-or}
+use Rattle.automata.specs.Automaton.{Run, Takes, Single-run}
 use Rattle.automata.specs.System.{System, Decides, Member, here, there, Reached, at-start, onward, state-at}
 use Rattle.automata.specs.System.{Edge, an-edge, edge-at, Built, number-of, edges-to, edges-on, edges-of, Exactly, listed, numbered, System-run}
-use Rattle.automata.proofs.Members.{Prefix, prefix-length, prefix-same, member-at, number-found, number-first, number-at, number-member, number-prefix, state-prefix}
+use Rattle.automata.proofs.Members.{Prefix, prefix-same, member-at, number-found, number-first, number-at, number-member, number-prefix, state-prefix}
 use Rattle.automata.proofs.Explore.{exactly-distinct}
 
 -- EDGES that are listed
@@ -85,13 +85,11 @@ module _ {X : Type 0} (s : System X) (all : List X) where
   listed-on {y} (suc d) i c x l m =
       let n = number-of (s .same) y all in
       let before = edges-on s all d i x in
-      elim (either (eqb c d)) [
-        | inl e ↦
-            let q = eqb-eq c d e in
+      elim (same-or c d) [
+        | inl q ↦
             let m′ : Member y (s .nexts x d) = rw q at m in
             rw q (listed-right i d n before (edges-to (s .same) all i d (s .nexts x d)) (listed-to i d m′))
-        | inr e ↦
-            let ne = eqb-ne c d e in
+        | inr ne ↦
             listed-left i c n before (edges-to (s .same) all i d (s .nexts x d)) (listed-on d i c x (omega arith) m)
       ]
 
@@ -103,13 +101,11 @@ module _ {X : Type 0} (s : System X) (all : List X) where
   listed-of {y} (suc k) i c l lc m =
       let n = number-of (s .same) y all in
       let last = edges-on s all (s .letters) k (state-at s all k) in
-      elim (either (eqb i k)) [
-        | inl e ↦
-            let q = eqb-eq i k e in
+      elim (same-or i k) [
+        | inl q ↦
             let m′ : Member y (s .nexts (state-at s all k) c) = rw q at m in
             rw q (listed-right k c n (edges-of s all k) last (listed-on (s .letters) k c (state-at s all k) lc m′))
-        | inr e ↦
-            let ne = eqb-ne i k e in
+        | inr ne ↦
             listed-left i c n (edges-of s all k) last (listed-of k i c (omega arith) lc m)
       ]
 
@@ -190,16 +186,6 @@ module _ {X : Type 0} (s : System X) (decides : Decides s) (b : Built X) (exactl
         let n = number-at s decides (b .states) (exactly-distinct s b exactly) j lj in
         rw (exactly .edges) (rw n at (listed-of s (b .states) (length (b .states)) i c li lc m)),
   )
-
-  pub numbered-closed : Closed (numbered s b)
-  unfolding numbered
-  numbered-closed =
-      record {
-        initial =
-            λ q e.
-            let l = ltb-lt q (length (s .starts)) e in let g = prefix-length starts-first in omega arith;
-        edge = λ p c q e. let h = numbered-leads p c q e in (h .0, h .1, h .2);
-      }
 
   -- RUNS over a word of the system's letters
   module _ (w : ℕ → ℕ) (letters : (i : ℕ) → w i < s .letters) where

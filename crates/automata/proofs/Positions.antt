@@ -9,7 +9,7 @@ use native.Mathlib.Omega.{arith}
 use native.Mathlib.Nat.{add-suc, add-zero, mod-lt, mod-eq-of-lt, mod-self, suc-mod, zero-mod}
 use lib.Dec.{ltb}
 use lib.ListN.{length, getD}
-use Rattle.basics.proofs.Booleans.{either, lt-ltb, ge-ltb, ltb-lt, ltb-ge}
+use Rattle.basics.proofs.Booleans.{either, lt-ltb, ge-ltb, ltb-lt, ltb-ge, below-or}
 use Rattle.basics.proofs.Bounded.{each-all}
 use Rattle.automata.specs.Lasso.{Lasso, all-below, letter-at, position-at, position-letter, next-position, positions}
 
@@ -53,13 +53,11 @@ round :
     next-position u v (length u + m) ≡ length u + suc m % length v
 unfolding next-position positions
 round u v o m l =
-    elim (either (ltb (suc m) (length v))) [
-      | inl e ↦
-          let b = ltb-lt (suc m) (length v) e in
+    elim (below-or (suc m) (length v)) [
+      | inl b ↦
           let t : suc (length u + m) < length u + length v = omega arith in
           rw (lt-ltb t, mod-eq-of-lt b) (omega arith)
-      | inr e ↦
-          let b = ltb-ge (suc m) (length v) e in
+      | inr b ↦
           let f : length u + length v ≤ suc (length u + m) = omega arith in
           let s : suc m ≡ length v = omega arith in rw (ge-ltb f, s, mod-self (length v)) (omega arith)
     ]

@@ -1,10 +1,14 @@
--- Laws of Booleans as facts: b ≡ true and b ≡ false. Assumes nothing.
+-- Laws of Booleans as facts: b ≡ true and b ≡ false. Those of tests of numbers are the logic's own, under the names that they have here.
+-- Assumes nothing.
 use mathlib.Core.Path.{_≡_, refl, sym, _∙_}
 use mathlib.Core.Bool.{Bool, true, false, _&&_, _||_, not, true≢false}
 use mathlib.Core.Logic.{_⊎_, inl, inr}
-use Prim.Native.Nat.{ℕ, _≤_, _<_}
-use lib.Dec.{ltb, leb, eqb, T, leb→le, nleb→lt, ltb→lt, nltb→le, eqb→eq, eqb-refl}
+use Prim.Native.Nat.{ℕ, suc, _≤_, _<_}
 use native.Mathlib.Omega.{arith}
+use borrow.Author.Tests as tests
+use lib.Dec.{ltb, leb, eqb, T}
+pub use mathlib.Core.Bool.{or-assoc, or-false as or-none}
+pub use borrow.Author.Tests.{not-true as true-not, not-false as false-not, ltb-true as ltb-lt, ltb-false as ltb-ge, leb-true as leb-le, leb-false as leb-gt, eqb-true as eqb-eq, eqb-false as eqb-ne, ne-eqb}
 
 pub either : (b : Bool) → (b ≡ true) ⊎ (b ≡ false)
 either true = inl refl
@@ -58,27 +62,11 @@ or-false-r false c p = p
 pub or-false : {b c : Bool} → b ≡ false → c ≡ false → (b || c) ≡ false
 or-false p q = cc
 
-pub or-none : (b : Bool) → (b || false) ≡ b
-or-none true = refl
-or-none false = refl
-
-pub or-assoc : (a b c : Bool) → ((a || b) || c) ≡ (a || (b || c))
-or-assoc true b c = refl
-or-assoc false b c = refl
-
 pub not-true : {b : Bool} → b ≡ true → not b ≡ false
 not-true p = cc
 
 pub not-false : {b : Bool} → b ≡ false → not b ≡ true
 not-false p = cc
-
-pub true-not : (b : Bool) → not b ≡ true → b ≡ false
-true-not true p = sym p
-true-not false p = refl
-
-pub false-not : (b : Bool) → not b ≡ false → b ≡ true
-false-not true p = refl
-false-not false p = sym p
 
 -- two Booleans that are true together are equal
 pub same-truth : (b c : Bool) → (b ≡ true → c ≡ true) → (c ≡ true → b ≡ true) → b ≡ c
@@ -90,7 +78,7 @@ pub not-both : (b : Bool) → (b ≡ true → ⊥) → b ≡ false
 not-both true f = absurd (f refl)
 not-both false f = refl
 
--- tests of numbers as facts
+-- a test that was taken or left, as a walk of the code has it
 pub T-true : (b : Bool) → T b → b ≡ true
 T-true true t = refl
 T-true false t = absurd t
@@ -99,52 +87,24 @@ pub T-false : (b : Bool) → T (not b) → b ≡ false
 T-false true t = absurd t
 T-false false t = refl
 
-true-T : (b : Bool) → b ≡ true → T b
-true-T true p = tt
-true-T false p = absurd (true≢false (sym p))
-
-T-not-false : (b : Bool) → b ≡ false → T (not b)
-T-not-false true p = absurd (true≢false p)
-T-not-false false p = tt
-
-pub ltb-lt : (m n : ℕ) → ltb m n ≡ true → m < n
-ltb-lt m n p = ltb→lt m n (true-T (ltb m n) p)
-
-pub ltb-ge : (m n : ℕ) → ltb m n ≡ false → n ≤ m
-ltb-ge m n p = nltb→le m n (T-not-false (ltb m n) p)
-
-pub leb-le : (m n : ℕ) → leb m n ≡ true → m ≤ n
-leb-le m n p = leb→le m n (true-T (leb m n) p)
-
-pub leb-gt : (m n : ℕ) → leb m n ≡ false → n < m
-leb-gt m n p = nleb→lt m n (T-not-false (leb m n) p)
-
-pub eqb-eq : (m n : ℕ) → eqb m n ≡ true → m ≡ n
-eqb-eq m n p = eqb→eq m n (true-T (eqb m n) p)
+-- tests of numbers as facts
+pub eq-eqb : {m n : ℕ} → m ≡ n → eqb m n ≡ true
+eq-eqb {m} {n} p = tests.eq-eqb m n p
 
 pub eqb-self : (n : ℕ) → eqb n n ≡ true
-eqb-self n = T-true (eqb n n) (eqb-refl n)
-
-pub eq-eqb : {m n : ℕ} → m ≡ n → eqb m n ≡ true
-eq-eqb {m} {n} p = rw p (eqb-self n)
-
-pub eqb-ne : (m n : ℕ) → eqb m n ≡ false → m ≡ n → ⊥
-eqb-ne m n p e = clash (eq-eqb e) p
-
-pub ne-eqb : (m n : ℕ) → (m ≡ n → ⊥) → eqb m n ≡ false
-ne-eqb m n f = not-both (eqb m n) (λ p. f (eqb-eq m n p))
+eqb-self n = tests.eq-eqb n n refl
 
 pub lt-ltb : {m n : ℕ} → m < n → ltb m n ≡ true
-lt-ltb {m} {n} l = elim (either (ltb m n)) [ inl e ↦ e | inr e ↦ absurd (let g = ltb-ge m n e in omega arith) ]
+lt-ltb {m} {n} l = tests.lt-ltb m n l
 
 pub ge-ltb : {m n : ℕ} → n ≤ m → ltb m n ≡ false
-ge-ltb {m} {n} l = not-both (ltb m n) (λ p. let g = ltb-lt m n p in omega arith)
+ge-ltb {m} {n} l = tests.le-ltb m n l
 
 pub le-leb : {m n : ℕ} → m ≤ n → leb m n ≡ true
-le-leb {m} {n} l = elim (either (leb m n)) [ inl e ↦ e | inr e ↦ absurd (let g = leb-gt m n e in omega arith) ]
+le-leb {m} {n} l = tests.le-leb m n l
 
 pub gt-leb : {m n : ℕ} → n < m → leb m n ≡ false
-gt-leb {m} {n} l = not-both (leb m n) (λ p. let g = leb-le m n p in omega arith)
+gt-leb {m} {n} l = tests.lt-leb m n l
 
 -- the same number, or not
 pub same-or : (x y : ℕ) → (x ≡ y) ⊎ (x ≡ y → ⊥)
@@ -153,3 +113,14 @@ same-or x y = elim (either (eqb x y)) [ inl e ↦ inl (eqb-eq x y e) | inr e ↦
 -- below, or not
 pub below-or : (i k : ℕ) → (i < k) ⊎ (k ≤ i)
 below-or i k = elim (either (ltb i k)) [ inl e ↦ inl (ltb-lt i k e) | inr e ↦ inr (ltb-ge i k e) ]
+
+-- neither of two numbers is above its limit
+pub both-within : (a b c d : ℕ) → (ltb a b || ltb c d) ≡ false → (b ≤ a) × (d ≤ c)
+both-within a b c d h =
+    (ltb-ge a b (or-false-l (ltb a b) (ltb c d) h), ltb-ge c d (or-false-r (ltb a b) (ltb c d) h))
+
+-- one number more: of every other one the test stays
+pub below-suc : (q k : ℕ) → (q ≡ k → ⊥) → ltb q (suc k) ≡ ltb q k
+below-suc q k ne =
+    same-truth (ltb q (suc k)) (ltb q k) (λ h. let l = ltb-lt q (suc k) h in lt-ltb {m = q} {n = k} (omega arith))
+    (λ h. let l = ltb-lt q k h in lt-ltb {m = q} {n = suc k} (omega arith))

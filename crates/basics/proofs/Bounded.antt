@@ -6,17 +6,27 @@ use Prim.Native.Nat.{ℕ, zero, suc, _-_, _≤_, _<_}
 use native.Mathlib.Omega.{arith}
 use lib.Dec.{ltb, eqb}
 use Rattle.basics.specs.Bounded.{each, any, count}
-use Rattle.basics.proofs.Booleans.{either, clash, and-l, and-r, and-make, or-l, or-r, or-none, or-assoc, or-false, eqb-eq, ltb-lt, ltb-ge, eqb-ne}
+use Rattle.basics.proofs.Booleans.{either, clash, and-l, and-r, and-make, or-l, or-r, or-none, or-assoc, or-false, eqb-eq, ltb-lt, ltb-ge, eqb-ne, same-or}
 use Rattle.basics.proofs.Upward.{upward}
+
+-- one entry more: the last is the new one, and those before it are as they were
+pub one-entry-more :
+    {A : Type 0} {k : ℕ} {f g : ℕ → A} {x : A} → f k ≡ x → ((i : ℕ) → i < k → f i ≡ g i) → (i : ℕ) → i < suc k →
+    ((i ≡ k) × (f i ≡ x)) ⊎ ((i < k) × (f i ≡ g i))
+one-entry-more {k} last before i l =
+    elim (same-or i k) [
+      | inl e ↦ inl (e, rw e last)
+      | inr ne ↦ let lt : i < k = omega arith in inr (lt, before i lt)
+    ]
 
 -- what holds of each number below the limit
 pub each-all : (k : ℕ) (f : ℕ → Bool) → each k f ≡ true → (i : ℕ) → i < k → f i ≡ true
 unfolding each
 each-all zero f h i l = absurd (omega arith)
 each-all (suc k) f h i l =
-    elim (either (eqb i k)) [
-      | inl e ↦ rw (eqb-eq i k e) (and-r (each k f) h)
-      | inr e ↦ let ne = eqb-ne i k e in each-all k f (and-l (f k) h) i (omega arith)
+    elim (same-or i k) [
+      | inl e ↦ rw e (and-r (each k f) h)
+      | inr ne ↦ each-all k f (and-l (f k) h) i (omega arith)
     ]
 
 pub each-make : (k : ℕ) (f : ℕ → Bool) → ((i : ℕ) → i < k → f i ≡ true) → each k f ≡ true
@@ -27,28 +37,23 @@ each-make (suc k) f h = and-make (each-make k f (λ i l. h i (omega arith))) (h 
 -- search: a number below the limit of which the test holds, or none
 pub search-to : (k : ℕ) (f : ℕ → Bool) → ((i : ℕ) × (i < k) × (f i ≡ true)) ⊎ ((i : ℕ) → i < k → f i ≡ false)
 search-to zero f = inr (λ i l. absurd (omega arith))
-search-to (suc k) f = go (search-to k f) (either (f k))
-  where
-    go :
-        ((i : ℕ) × (i < k) × (f i ≡ true)) ⊎ ((i : ℕ) → i < k → f i ≡ false) → (f k ≡ true) ⊎ (f k ≡ false) →
-        ((i : ℕ) × (i < suc k) × (f i ≡ true)) ⊎ ((i : ℕ) → i < suc k → f i ≡ false)
-    go (inl r) e = inl (r .0, (let l = r .1 in omega arith), r .2)
-    go (inr none) (inl e) = inl (k, (omega arith), e)
-    go (inr none) (inr e) =
-        inr
-        (λ i l.
-        elim (either (eqb i k)) [
-          | inl q ↦ rw (eqb-eq i k q) e
-          | inr q ↦ let ne = eqb-ne i k q in none i (omega arith)
-        ])
+search-to (suc k) f =
+    elim (search-to k f) [
+      | inl (i, l, e) ↦ inl (i, (omega arith), e)
+      | inr none ↦
+          elim (either (f k)) [
+            | inl e ↦ inl (k, (omega arith), e)
+            | inr e ↦ inr (λ i l. elim (same-or i k) [ inl q ↦ rw q e | inr ne ↦ none i (omega arith) ])
+          ]
+    ]
 
 pub any-make : (k : ℕ) (f : ℕ → Bool) (i : ℕ) → i < k → f i ≡ true → any k f ≡ true
 unfolding any
 any-make zero f i l e = absurd (omega arith)
 any-make (suc k) f i l e =
-    elim (either (eqb i k)) [
-      | inl q ↦ or-r (any k f) (rw (eqb-eq i k q) at e)
-      | inr q ↦ let ne = eqb-ne i k q in or-l (f k) (any-make k f i (omega arith) e)
+    elim (same-or i k) [
+      | inl q ↦ or-r (any k f) (rw q at e)
+      | inr ne ↦ or-l (f k) (any-make k f i (omega arith) e)
     ]
 
 pub any-none : (k : ℕ) (f : ℕ → Bool) → ((i : ℕ) → i < k → f i ≡ false) → any k f ≡ false
@@ -57,11 +62,7 @@ any-none zero f h = refl
 any-none (suc k) f h = or-false (any-none k f (λ i l. h i (omega arith))) (h k (omega arith))
 
 pub any-find : (k : ℕ) (f : ℕ → Bool) → any k f ≡ true → (i : ℕ) × (i < k) × (f i ≡ true)
-any-find k f h = go (search-to k f)
-  where
-    go : ((i : ℕ) × (i < k) × (f i ≡ true)) ⊎ ((i : ℕ) → i < k → f i ≡ false) → (i : ℕ) × (i < k) × (f i ≡ true)
-    go (inl r) = r
-    go (inr none) = absurd (clash h (any-none k f none))
+any-find k f h = elim (search-to k f) [ inl r ↦ r | inr none ↦ absurd (clash h (any-none k f none)) ]
 
 pub any-no : (k : ℕ) (f : ℕ → Bool) → any k f ≡ false → (i : ℕ) → i < k → f i ≡ false
 any-no k f h i l = elim (either (f i)) [ inl e ↦ absurd (clash (any-make k f i l e) h) | inr e ↦ e ]
@@ -130,14 +131,12 @@ pub count-less :
 unfolding count
 count-less zero f g h j l n y = absurd (omega arith)
 count-less (suc k) f g h j l n y =
-    elim (either (eqb j k)) [
-      | inl q ↦
-          let e = eqb-eq j k q in
+    elim (same-or j k) [
+      | inl e ↦
           let n′ : f k ≡ false = rw e at n in
           let y′ : g k ≡ true = rw e at y in
           let r = count-mono k f g (λ i l. h i (omega arith)) in rw (n′, y′) (omega arith)
-      | inr q ↦
-          let ne = eqb-ne j k q in
+      | inr ne ↦
           let r = count-less k f g (λ i l. h i (omega arith)) j (omega arith) n y in
           elim (either (f k)) [
             | inl e ↦ let e′ = h k (omega arith) e in rw (e, e′) (omega arith)

@@ -5,32 +5,29 @@ use Prim.Native.Nat.{ℕ, zero, suc, _+_, _-_, _≤_, _<_}
 use native.Mathlib.Omega.{arith}
 use borrow.Author.Fill.{fill-none, fill-more}
 use borrow.Rule.Slice.PartMut.{putMid, mid-len, drop-put}
-use lib.ListN.{length, getD, set, take, drop, replicate, length-append, length-replicate, length-drop, drop-of-length-le, List·getD-append}
+use lib.ListN.{length, getD, set, take, drop, replicate, length-replicate, length-drop, length-set, drop-of-length-le, List·getD-append}
 use lib.Seq.{length-take-le, getD-drop, getD-append-add}
 use Rattle.basics.specs.Buffers.{zeros}
 
 -- the first i words are zero, and the others as they were
 pub record Clearing (w w-now : List ℕ) (i : ℕ) : Type 0 where
   pub upto : i ≤ length w
+  pub same : length w-now ≡ length w
   pub is : w-now ≡ replicate i 0 ++ drop i w
 
 pub clearing-start : (w : List ℕ) → Clearing w w 0
-clearing-start w = record { upto = omega arith; is = fill-none w 0 }
+clearing-start w = record { upto = omega arith; same = refl; is = fill-none w 0 }
 
 module _ {w w1 : List ℕ} {i : ℕ} (h : Clearing w w1 i) where
-  pub clearing-length : length w1 ≡ length w
-  clearing-length =
-      let l = h .upto in rw (h .is) (simp (length-append, length-replicate, length-drop) (omega arith))
-
   pub clearing-turn : i < length w1 → Clearing w (set w1 i 0) (i + 1)
   clearing-turn l =
-      let b : i < length w = (let s = clearing-length in omega arith) in
-      record { upto = omega arith; is = rw (h .is) (fill-more i 0 w b) }
+      let b : i < length w = omega arith in
+      record { upto = omega arith; same = length-set w1 i 0 ∙ h .same; is = rw (h .is) (fill-more i 0 w b) }
 
   pub clearing-end : length w1 ≤ i → w1 ≡ zeros w
   unfolding zeros
   clearing-end l =
-      let e : i ≡ length w = (let s = clearing-length in let b = h .upto in omega arith) in
+      let e : i ≡ length w = omega arith in
       let f : length w ≤ i = omega arith in
       let z : replicate i 0 ++ drop i w ≡ replicate (length w) 0 = rw (drop-of-length-le w f, append-nil, e) in h .is ∙ z
 

@@ -1,12 +1,13 @@
 -- More laws of counting the numbers below a limit of which a test holds. Assumes nothing.
 use mathlib.Core.Path.{_≡_, refl, sym}
-use mathlib.Core.Bool.{Bool, true, false, _&&_, not, cond}
+use mathlib.Core.Bool.{Bool, true, false, _&&_, cond, and-true}
 use mathlib.Core.Logic.{inl, inr}
 use Prim.Native.Nat.{ℕ, zero, suc, _+_, _≤_, _<_}
 use native.Mathlib.Omega.{arith}
-use lib.Dec.{ltb, eqb}
+use native.Mathlib.Numerals.{add-one}
+use lib.Dec.{ltb, eqb, eqb·suc-suc}
 use Rattle.basics.specs.Bounded.{each, count}
-use Rattle.basics.proofs.Booleans.{either, clash, and-l, and-make, and-false-r, eqb-self, eqb-eq, eq-eqb, eqb-ne, ne-eqb, ltb-lt, ltb-ge, lt-ltb, ge-ltb}
+use Rattle.basics.proofs.Booleans.{either, clash, and-l, and-make, and-false-r, eqb-self, ne-eqb, lt-ltb, ge-ltb, same-or, below-suc}
 use Rattle.basics.proofs.Bounded.{count-same, count-le, count-less}
 use Rattle.basics.proofs.Upward.{upward}
 
@@ -48,14 +49,12 @@ pub count-one :
 unfolding count
 count-one zero f g j l y n h = absurd (omega arith)
 count-one (suc k) f g j l y n h =
-    elim (either (eqb j k)) [
-      | inl e ↦
-          let s = eqb-eq j k e in
+    elim (same-or j k) [
+      | inl s ↦
           let y′ : f k ≡ true = rw s at y in
           let n′ : g k ≡ false = rw s at n in
           let same = count-same k f g (λ i m. h i (omega arith) (λ q. omega arith)) in rw (y′, n′) (omega arith)
-      | inr e ↦
-          let d = eqb-ne j k e in
+      | inr d ↦
           let ih = count-one k f g j (omega arith) y n (λ i m. h i (omega arith)) in
           let s = h k (omega arith) (λ q. d (sym q)) in rw s (omega arith)
     ]
@@ -70,18 +69,6 @@ count-two k f i j li lj apart hi hj =
     count-less k (λ x. f x && eqb i x) f (λ x _ h. and-l (eqb i x) h) j lj (and-false-r (f j) (ne-eqb i j apart)) hj in
     omega arith
 
--- the hits of f are those that are hits of g too, and those that are not
-pub count-split :
-    (k : ℕ) (f g : ℕ → Bool) → count k f ≡ count k (λ i. f i && g i) + count k (λ i. f i && not (g i))
-unfolding count
-count-split zero f g = refl
-count-split (suc k) f g =
-    let ih = count-split k f g in
-    elim (either (f k)) [
-      | inl x ↦ elim (either (g k)) [ inl y ↦ rw (x, y) (omega arith) | inr y ↦ rw (x, y) (omega arith) ]
-      | inr x ↦ rw x (omega arith)
-    ]
-
 -- a test that can hold of one number alone
 pub count-only :
     (k : ℕ) (f : ℕ → Bool) (j : ℕ) → ((i : ℕ) → i < k → (i ≡ j → ⊥) → f i ≡ false) →
@@ -90,20 +77,13 @@ unfolding count
 count-only zero f j h = let none : ltb j 0 ≡ false = ge-ltb {m = j} {n = 0} (omega arith) in cc
 count-only (suc k) f j h =
     let before = count-only k f j (λ i l. h i (omega arith)) in
-    elim (either (eqb j k)) [
-      | inl e ↦
-          let at = eqb-eq j k e in
+    elim (same-or j k) [
+      | inl at ↦
           let here : ltb j (suc k) ≡ true = lt-ltb {m = j} {n = suc k} (omega arith) in
           let below : ltb j k ≡ false = ge-ltb {m = j} {n = k} (omega arith) in rw (before, here, below, at) (omega arith)
-      | inr e ↦
-          let ne = eqb-ne j k e in
+      | inr ne ↦
           let last : f k ≡ false = h k (omega arith) (λ q. omega arith) in
-          let same : ltb j (suc k) ≡ ltb j k =
-          elim (either (ltb j k)) [
-            | inl p ↦ let l = ltb-lt j k p in let m : ltb j (suc k) ≡ true = lt-ltb {m = j} {n = suc k} (omega arith) in cc
-            | inr p ↦ let l = ltb-ge j k p in let m : ltb j (suc k) ≡ false = ge-ltb {m = j} {n = suc k} (omega arith) in cc
-          ] in
-          rw (before, last, same) (omega arith)
+          rw (before, last, below-suc j k ne) (omega arith)
     ]
 
 -- as many hits as numbers is a hit at each
@@ -115,14 +95,8 @@ count-full (suc k) f =
     let l = count-le k f in
     elim (either (f k)) [
       | inl e ↦
-          elim (either (eqb (count k f) k)) [
-            | inl q ↦
-                let same = eqb-eq (count k f) k q in
-                let full : eqb (count k f + 1) (suc k) ≡ true = eq-eqb {m = count k f + 1} {n = suc k} (omega arith) in cc
-            | inr q ↦
-                let other = eqb-ne (count k f) k q in
-                let less : eqb (count k f + 1) (suc k) ≡ false = ne-eqb (count k f + 1) (suc k) (λ e. omega arith) in cc
-          ]
+          let more : eqb (count k f + 1) (suc k) ≡ eqb (count k f) k = rw (add-one (count k f)) (eqb·suc-suc (count k f) k) in
+          let full = and-true (each k f) in cc
       | inr e ↦
           let less : eqb (count k f + 0) (suc k) ≡ false = ne-eqb (count k f + 0) (suc k) (λ e. omega arith) in
           let out = and-false-r (each k f) e in cc

@@ -3,6 +3,7 @@ pub mod Bounded
 pub mod Clears
 pub mod Counting
 pub mod Filled
+pub mod Growing
 pub mod Least
 pub mod Lists
 pub mod Packed

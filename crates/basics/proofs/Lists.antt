@@ -1,4 +1,4 @@
--- Laws of lists by index: a mapped list, the pigeonhole for lists, and runs of stores. Assumes nothing.
+-- Laws of lists by index: mapped lists, the pigeonhole for lists, and runs of stores. Assumes nothing.
 use mathlib.Core.Path.{_≡_, refl, sym, _∙_}
 use mathlib.Core.List.{List, [], _∷_, _++_, map}
 use mathlib.Core.Logic.{_≢_, inl, inr}
@@ -17,6 +17,14 @@ module _ {X Y : Type 0} (f : X → Y) where
   getD-map [] blank blank′ i l = absurd (omega arith)
   getD-map (x ∷ xs) blank blank′ zero l = refl
   getD-map (x ∷ xs) blank blank′ (suc i) l = getD-map xs blank blank′ i (le-of-suc-le-suc l)
+
+-- two functions that give the same list agree at each index
+pub map-same :
+    {X Y : Type 0} (f g : X → Y) (xs : List X) → map f xs ≡ map g xs → (blank : X) (i : ℕ) → i < length xs →
+    f (getD xs i blank) ≡ g (getD xs i blank)
+map-same f g [] h blank i l = absurd (omega arith)
+map-same f g (x ∷ xs) h blank zero l = cc
+map-same f g (x ∷ xs) h blank (suc i) l = map-same f g xs (cc) blank i (omega arith)
 
 -- a list without repeats whose elements have codes below m, no two of them the same, has at most m elements
 pub distinct-short :

@@ -6,12 +6,11 @@ use Prim.Native.Nat.{ℕ, zero, suc, _+_, _*_, _/_, _%_, _^_, _≤_, _<_}
 use native.Mathlib.Omega.{arith}
 use native.Mathlib.Nat.{pow-zero, pow-suc, div-one, zero-div, zero-mod, mod-lt, mod-eq-of-lt, one-mul, mul-comm, mul-assoc, add-mul, div-add-mod', div-div-eq-div-mul, add-mul-div-right, div-lt-iff-lt-mul, add-mul-mod-self-right}
 use lib.Arith.{digits-lt, digits-div, digits-mod}
-use lib.Dec.{eqb}
 use lib.ListN.{length, getD, length-set}
 use lib.Pow.{pow-lt}
 use lib.Seq.{getD-set-same, getD-set-other}
 use Rattle.basics.specs.Packed.{digit, packed, raised}
-use Rattle.basics.proofs.Booleans.{either, eqb-eq, eqb-ne}
+use Rattle.basics.proofs.Booleans.{same-or}
 
 module _ (b : ℕ) (some : 1 ≤ b) where
   -- the digit at the first place, and at the next ones
@@ -102,13 +101,12 @@ module _ (b : ℕ) (some : 1 ≤ b) where
         pub packed-others : (y : ℕ) → (y ≡ x → ⊥) → packed b k (raised b k w x c) y ≡ packed b k w y
         unfolding packed
         packed-others y ne =
-            elim (either (eqb (y / k) (x / k))) [
-              | inl e ↦
-                  let same = eqb-eq (y / k) (x / k) e in
+            elim (same-or (y / k) (x / k)) [
+              | inl same ↦
                   let apart : y % k ≡ x % k → ⊥ = λ d. ne (sym (div-add-mod' y k) ∙ rw (same, d) (div-add-mod' x k)) in
                   rw (same, word) (others c (getD w (x / k) 0) (x % k) (y % k) within apart)
-              | inr e ↦
-                  let far = eqb-ne (y / k) (x / k) e in rw (raised-beyond (y / k) far) refl
+              | inr far ↦
+                  rw (raised-beyond (y / k) far) refl
             ]
 
 -- four to the power i, as shifts by pairs of bits count it

@@ -1,15 +1,15 @@
--- Laws of rows of words: where each row has the same width, how long they are and which word stands where. Assumes nothing.
-use mathlib.Core.Path.{_≡_, refl, sym, _∙_}
-use mathlib.Core.List.{List}
+-- Laws of rows of words, by number or of the items of a list: where each row has the same width, how long they are and which word stands
+-- where. Assumes nothing.
+use mathlib.Core.Path.{_≡_, refl, sym, _∙_, ap}
+use mathlib.Core.List.{List, [], _∷_, _++_, flatMap, append-nil, append-assoc}
 use mathlib.Core.Logic.{inl, inr}
 use Prim.Native.Nat.{ℕ, zero, suc, _+_, _*_, _≤_, _<_}
 use native.Mathlib.Nat.{mul-zero, mul-suc, mul-le-mul-left}
 use native.Mathlib.Omega.{arith}
-use lib.Dec.{eqb}
-use lib.ListN.{length, getD, length-append, List·getD-append}
-use lib.Seq.{getD-append-add}
+use lib.ListN.{length, getD, take, length-append, List·getD-append}
+use lib.Seq.{getD-append-add, take-suc, take-length}
 use Rattle.basics.specs.Rows.{rows}
-use Rattle.basics.proofs.Booleans.{either, eqb-eq, eqb-ne}
+use Rattle.basics.proofs.Booleans.{same-or}
 
 -- k rows of width w have w * k words
 pub rows-length :
@@ -29,10 +29,9 @@ unfolding rows
 rows-at w zero f h i j l m = absurd (omega arith)
 rows-at w (suc k) f h i j l m =
     let before = rows-length w k f (λ i l. h i (omega arith)) in
-    elim (either (eqb i k)) [
-      | inl e ↦ rw (eqb-eq i k e, ← before) (getD-append-add (rows k f) (f k) j 0)
-      | inr e ↦
-          let ne = eqb-ne i k e in
+    elim (same-or i k) [
+      | inl e ↦ rw (e, ← before) (getD-append-add (rows k f) (f k) j 0)
+      | inr ne ↦
           let small : suc i ≤ k = omega arith in
           let inside = mul-le-mul-left w small in
           let row = mul-suc w i in
@@ -45,3 +44,37 @@ pub rows-same :
 unfolding rows
 rows-same zero f g h = refl
 rows-same (suc k) f g h = let a = rows-same k f g (λ i l. h i (omega arith)) in let b = h k (omega arith) in cc
+
+-- THE ROWS OF A LIST'S ITEMS
+module _ {X : Type 0} (row : X → List ℕ) where
+  -- one item more
+  pub items-snoc : (xs : List X) (x : X) → flatMap row (xs ++ (x ∷ [])) ≡ flatMap row xs ++ row x
+  unfolding flatMap
+  items-snoc [] x = append-nil (row x)
+  items-snoc (y ∷ xs) x = ap (λ (l : List ℕ). row y ++ l) (items-snoc xs x) ∙ sym (append-assoc (row y) (flatMap row xs) (row x))
+
+  -- they are rows by number
+  pub items-rows : (xs : List X) (d : X) (k : ℕ) → k ≤ length xs → rows k (λ i. row (getD xs i d)) ≡ flatMap row (take k xs)
+  unfolding rows flatMap
+  items-rows xs d zero l = refl
+  items-rows xs d (suc k) l =
+      rw (take-suc xs k d l, items-snoc (take k xs) (getD xs k d))
+      (ap (λ (l : List ℕ). l ++ row (getD xs k d)) (items-rows xs d k (omega arith)))
+
+  module _ {w : ℕ} (wide : (x : X) → length (row x) ≡ w) where
+    pub items-length : (xs : List X) → length (flatMap row xs) ≡ w * length xs
+    unfolding flatMap
+    items-length [] = sym (mul-zero w)
+    items-length (x ∷ xs) =
+        let one = wide x in
+        let others = items-length xs in
+        let more = mul-suc w (length xs) in rw (length-append (row x) (flatMap row xs)) (omega arith)
+
+    -- word j of item i
+    pub items-at :
+        (xs : List X) (d : X) (i j : ℕ) → i < length xs → j < w →
+        getD (flatMap row xs) (w * i + j) 0 ≡ getD (row (getD xs i d)) j 0
+    items-at xs d i j l m =
+        let by-number = items-rows xs d (length xs) (omega arith) ∙ ap (flatMap row) (take-length xs) in
+        ap (λ (r : List ℕ). getD r (w * i + j) 0) (sym by-number)
+        ∙ rows-at w (length xs) (λ i. row (getD xs i d)) (λ i l. wide (getD xs i d)) i j l m

@@ -8,14 +8,14 @@ use native.Mathlib.Omega.{arith}
 use lib.Dec.{ltb}
 use lib.ListN.{length}
 use Rattle.basics.specs.Buffers.{or-else, filled}
-use Rattle.basics.proofs.Booleans.{either, or-false-l, or-false-r, ltb-lt, ltb-ge, lt-ltb, ge-ltb, ne-eqb}
-use Rattle.tables.specs.Table.{Limits, wide-range}
+use Rattle.basics.proofs.Booleans.{either, ltb-lt, ltb-ge, lt-ltb, ge-ltb, ne-eqb, both-within}
+use Rattle.tables.specs.Table.{Limits, table-words}
 use Rattle.patterns.specs.Check.{check-refusal}
 use Rattle.record_words.specs.Record.{full-records}
 use Rattle.record_words.proofs.Laws.{full-kept}
-use Rattle.complement.specs.Build.{Lent, room-of, words-needed, too-long, room-refusal, build-refusal, as-counts, after-build, Build-says, Refused-with}
+use Rattle.complement.specs.Build.{Lent, room-of, too-long, room-refusal, build-refusal, as-counts, after-build, Build-says, Refused-with}
 use Rattle.complement.specs.Complement.{complement, complement-words, sets-words}
-use Rattle.complement.specs.Found.{wide-quadruples, counted-to, Shows, Ends}
+use Rattle.complement.specs.Found.{quadruples, counted-to, Shows, Ends}
 use Rattle.complement.specs.Records.{capacity}
 use Rattle.complement.specs.declared.Counts.{Counts}
 use Rattle.complement.specs.declared.explore.Progress.{Progress}
@@ -56,61 +56,56 @@ module _ (limits : Limits) (words records n m : ℕ) where
       ]
 
 -- WHICH REFUSAL
-module _ (t : List ℕ) (lends : Lent) where
+module _ (limits : Limits) (t : List ℕ) (lends : Lent) where
   -- the check's own
-  pub check-refuses : {k : ℕ} → k ≡ check-refusal t → (k ≡ 0 → ⊥) → build-refusal t (room-of lends) ≡ k
+  pub check-refuses : {k : ℕ} → k ≡ check-refusal t → (k ≡ 0 → ⊥) → build-refusal limits t (room-of lends) ≡ k
   unfolding build-refusal or-else
   check-refuses {k} e ne = rw (← e, ne-eqb k 0 ne) refl
 
   module _ (passed : check-refusal t ≡ 0) where
     room-only :
-        build-refusal t (room-of lends)
-        ≡ room-refusal wide-range (room-of lends) (length (complement t .states)) (length (complement t .edges))
+        build-refusal limits t (room-of lends)
+        ≡ room-refusal limits (room-of lends) (length (complement t .states)) (length (complement t .edges))
     unfolding build-refusal or-else
     room-only = rw passed refl
 
     -- 11
     pub states-refuse :
-        {l : Lent} {p : Progress} → Ends wide-quadruples (complement t) l p → p .full ≡ true → Same-sizes l lends →
-        build-refusal t (room-of lends) ≡ 11
+        {l : Lent} {p : Progress} → Ends (quadruples limits) (complement t) l p → p .full ≡ true → Same-sizes l lends →
+        build-refusal limits t (room-of lends) ≡ 11
     unfolding capacity room-of
     states-refuse {l} ends full sizes =
-        let over : min (full-records (lends .sets)) (wide-range .states) < length (complement t .states) =
+        let over : min (full-records (lends .sets)) (limits .states) < length (complement t .states) =
         rw (full-kept (lends .sets) (l .sets) (sizes .sets)) at (ends-beyond full ends) in
         room-only
-        ∙ states-over wide-range (length (lends .words)) (full-records (lends .sets)) (length (complement t .states)) (length (complement t .edges)) over
+        ∙ states-over limits (length (lends .words)) (full-records (lends .sets)) (length (complement t .states)) (length (complement t .edges)) over
 
-    module _ {l : Lent} {p : Progress} (h : Shows wide-quadruples (complement t) l p) (sizes : Same-sizes l lends) where
+    module _ {l : Lent} {p : Progress} (h : Shows (quadruples limits) (complement t) l p) (sizes : Same-sizes l lends) where
       both-counts :
-          build-refusal t (room-of lends)
-          ≡ cond (too-long wide-range (length (l .words)) (p .states) (p .edges)) 12 0
+          build-refusal limits t (room-of lends)
+          ≡ cond (too-long limits (length (l .words)) (p .states) (p .edges)) 12 0
       unfolding capacity room-of
       both-counts =
           let n = length (complement t .states) in
           let m = length (complement t .edges) in
-          let fits : n ≤ min (full-records (lends .sets)) (wide-range .states) = rw (full-kept (lends .sets) (l .sets) (sizes .sets)) at (h .states .fits) in
+          let fits : n ≤ min (full-records (lends .sets)) (limits .states) = rw (full-kept (lends .sets) (l .sets) (sizes .sets)) at (h .states .fits) in
           let count = h .states .counted in
           let stop = h .edges .counted in
-          room-only ∙ states-fit wide-range (length (lends .words)) (full-records (lends .sets)) n m fits
+          room-only ∙ states-fit limits (length (lends .words)) (full-records (lends .sets)) n m fits
           ∙ rw (sizes .words, count)
-          (ap (λ (b : Bool). cond b 12 0) (sym (stopped-count wide-range (length (lends .words)) (full-records (lends .sets)) n m (p .edges) stop)))
+          (ap (λ (b : Bool). cond b 12 0) (sym (stopped-count limits (length (lends .words)) (full-records (lends .sets)) n m (p .edges) stop)))
 
-      -- 12
-      pub edges-refuse :
-          {b : Bool} → b ≡ too-long wide-range (length (l .words)) (p .states) (p .edges) → b ≡ true →
-          build-refusal t (room-of lends) ≡ 12
-      edges-refuse e f = both-counts ∙ rw (← e, f) refl
-
-      pub none-refuses :
-          {b : Bool} → b ≡ too-long wide-range (length (l .words)) (p .states) (p .edges) → b ≡ false →
-          build-refusal t (room-of lends) ≡ 0
-      none-refuses e f = both-counts ∙ rw (← e, f) refl
+      -- 12 where the table is too long, and else none
+      pub length-refuses :
+          {b c : Bool} → b ≡ too-long limits (length (l .words)) (p .states) (p .edges) → b ≡ c →
+          build-refusal limits t (room-of lends) ≡ cond c 12 0
+      length-refuses e f = both-counts ∙ rw (← e, f) refl
 
 -- WHAT IS SAID
 -- a refusal
 pub says-refused :
-    {t : List ℕ} {lends l after : Lent} {k : ℕ} {r : Counts} → build-refusal t (room-of lends) ≡ k → (k ≡ 0 → ⊥) →
-    Refused-with k r l after → Same-sizes l lends → Build-says t r lends after
+    {limits : Limits} {t : List ℕ} {lends l after : Lent} {k : ℕ} {r : Counts} → build-refusal limits t (room-of lends) ≡ k → (k ≡ 0 → ⊥) →
+    Refused-with k r l after → Same-sizes l lends → Build-says limits t r lends after
 unfolding as-counts after-build
 says-refused {k = zero} e ne h sizes = absurd (ne refl)
 says-refused {lends} {l} {k = suc k} e ne h sizes =
@@ -122,35 +117,31 @@ says-refused {lends} {l} {k = suc k} e ne h sizes =
 
 -- an accepted build
 pub says-built :
-    {t : List ℕ} {lends after : Lent} {r : Counts} → build-refusal t (room-of lends) ≡ 0 →
+    {limits : Limits} {t : List ℕ} {lends after : Lent} {r : Counts} → build-refusal limits t (room-of lends) ≡ 0 →
     r ≡ record { number = 0; states = length (complement t .states); edges = length (complement t .edges) } →
     after .words ≡ filled (complement-words t) (lends .words) → after .sets ≡ filled (sets-words t) (lends .sets) →
-    Build-says t r lends after
+    Build-says limits t r lends after
 unfolding as-counts after-build
 says-built e answer words sets = record { answer = rw e answer; words = rw e words; sets = rw e sets }
 
 -- THE THREE REFUSALS of the build
-module _ (t : List ℕ) (lends : Lent) {r : Counts} {after : Lent} where
-  pub refused-check : {k : ℕ} → k ≡ check-refusal t → (k ≡ 0 → ⊥) → Refused-with k r lends after → Build-says t r lends after
-  refused-check e ne h = says-refused (check-refuses t lends e ne) ne h sizes-self
+module _ (limits : Limits) (t : List ℕ) (lends : Lent) {r : Counts} {after : Lent} where
+  pub refused-check : {k : ℕ} → k ≡ check-refusal t → (k ≡ 0 → ⊥) → Refused-with k r lends after → Build-says limits t r lends after
+  refused-check e ne h = says-refused (check-refuses limits t lends e ne) ne h sizes-self
 
   module _ (passed : check-refusal t ≡ 0) {l : Lent} {p : Progress} (sizes : Same-sizes l lends) where
-    pub refused-states : Ends wide-quadruples (complement t) l p → p .full ≡ true → Refused-with 11 r l after → Build-says t r lends after
-    refused-states ends full h = says-refused (states-refuse t lends passed ends full sizes) (λ e. omega arith) h sizes
+    pub refused-states : Ends (quadruples limits) (complement t) l p → p .full ≡ true → Refused-with 11 r l after → Build-says limits t r lends after
+    refused-states ends full h = says-refused (states-refuse limits t lends passed ends full sizes) (λ e. omega arith) h sizes
 
     pub refused-edges :
-        Ends wide-quadruples (complement t) l p → p .full ≡ false → {b : Bool} →
-        b ≡ too-long wide-range (length (l .words)) (p .states) (p .edges) → b ≡ true →
-        Refused-with 12 r l after → Build-says t r lends after
+        Ends (quadruples limits) (complement t) l p → p .full ≡ false → {b : Bool} →
+        b ≡ too-long limits (length (l .words)) (p .states) (p .edges) → b ≡ true →
+        Refused-with 12 r l after → Build-says limits t r lends after
     refused-edges ends left e long h =
-        says-refused (edges-refuse t lends passed (ends-within left ends) sizes e long) (λ e. omega arith) h sizes
+        says-refused (length-refuses limits t lends passed (ends-within left ends) sizes e long) (λ e. omega arith) h sizes
 
 -- what a build that is not too long has
 pub short-enough :
     (limits : Limits) (words n m : ℕ) {b : Bool} → b ≡ too-long limits words n m → b ≡ false →
-    (m ≤ limits .records) × (words-needed n m ≤ words)
-short-enough limits words n m e f =
-    let none = sym e ∙ f in (
-      ltb-ge (limits .records) m (or-false-l (ltb (limits .records) m) (ltb words (words-needed n m)) none),
-      ltb-ge words (words-needed n m) (or-false-r (ltb (limits .records) m) (ltb words (words-needed n m)) none),
-    )
+    (m ≤ limits .records) × (table-words n m ≤ words)
+short-enough limits words n m e f = both-within (limits .records) m words (table-words n m) (sym e ∙ f)

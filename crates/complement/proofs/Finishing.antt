@@ -2,33 +2,33 @@
 -- records are its sets. Assumes nothing.
 use mathlib.Core.Path.{_≡_, refl, sym, _∙_, ap}
 use mathlib.Core.Bool.{Bool, false}
-use mathlib.Core.List.{List, [], _∷_}
-use Prim.Native.Nat.{ℕ, zero, suc, _+_, _*_, _≤_, _<_}
+use mathlib.Core.List.{List, _∷_}
+use Prim.Native.Nat.{ℕ, suc, _+_, _*_, _≤_, _<_}
 use native.Mathlib.Omega.{arith}
 use lib.ListN.{length, getD, List·getD-eq-default}
 use lib.Seq.{take-all, take-length}
 use Rattle.basics.specs.Buffers.{filled}
-use Rattle.basics.specs.Words.{word-bits}
 use Rattle.basics.proofs.Booleans.{lt-ltb}
-use Rattle.automata.specs.System.{Edge, edge-at, state-at, numbered}
-use Rattle.tables.specs.Table.{wide-range}
+use Rattle.basics.proofs.Rows.{items-at, items-rows}
+use Rattle.automata.specs.System.{an-edge, edge-at, state-at, numbered}
+use Rattle.automata.proofs.Graphs.{tabulate-same, tabulate-items}
+use Rattle.tables.specs.Table.{Limits, table-words, Range-fits}
 use Rattle.ncsb.specs.Successors.{initials, ncsb}
 use Rattle.patterns.specs.declared.Shape.{Shape}
 use Rattle.layout.specs.Chained.{flags-word, chained-words}
 use Rattle.layout.specs.Steps.{Lay-out-asks}
-use Rattle.layout.specs.Triples.{triples-of, plain}
+use Rattle.layout.specs.Triples.{triple-at, triples-of, plain}
 use Rattle.layout.proofs.Indexed.{flagging-end}
-use Rattle.layout.proofs.Triples.{triples-are}
-use Rattle.record_words.specs.Record.{record-words, all-words, full-records}
-use Rattle.record_words.proofs.Laws.{all-length, rows-all, full-words}
-use Rattle.complement.specs.Build.{Lent, lent, words-needed, too-long, Build-says}
+use Rattle.record_words.specs.Record.{record-words, words-of, all-words, full-records}
+use Rattle.record_words.proofs.Laws.{all-length, full-words}
+use Rattle.complement.specs.Build.{Lent, lent, too-long, Build-says}
 use Rattle.complement.specs.Complement.{system-of, complement, complement-automaton, complement-words, sets-words}
 use Rattle.complement.specs.Flags.{state-flags, with-flags, record-accepts, Flags-ask}
-use Rattle.complement.specs.Found.{Begins, wide-quadruples, triple, triples, edge-room, counted-to, Shows, start-moves, Read-off}
+use Rattle.complement.specs.Found.{Begins, quadruples, triple, triples, edge-room, counted-to, Shows, start-moves, Read-off}
 use Rattle.complement.specs.declared.explore.Progress.{Progress}
-use Rattle.complement.proofs.Answers.{none-refuses, says-built, short-enough}
+use Rattle.complement.proofs.Answers.{length-refuses, says-built, short-enough}
 use Rattle.complement.proofs.Flagged.{flags-flagging}
-use Rattle.complement.proofs.Kept.{capacity-full, capacity-limit, kept-at, triples-length}
+use Rattle.complement.proofs.Kept.{capacity-full, capacity-limit, kept-at, triple-length, triples-length}
 use Rattle.complement.proofs.Numbering.{letters-all, letters-few, starts-same}
 use Rattle.complement.proofs.Reaching.{Same-sizes}
 use Rattle.complement.proofs.Second.{complement-orderly}
@@ -39,47 +39,25 @@ records-sets : (t : List ℕ) → all-words (complement t .states) ≡ sets-word
 unfolding sets-words state-at
 records-sets t =
     let xs = complement t .states in
-    ap all-words (sym (take-length xs)) ∙ sym (rows-all xs (system-of t .blank) (length xs) (omega arith))
-
--- EDGES by word
-triples-letter : (es : List Edge) (e : ℕ) → e < length es → getD (triples es) (3 * e) 0 ≡ edge-at es e .letter
-unfolding triples triple edge-at
-triples-letter [] e l = absurd (omega arith)
-triples-letter (f ∷ es) zero l = refl
-triples-letter (f ∷ es) (suc e) l =
-    let q : 3 * suc e ≡ suc (suc (suc (3 * e))) = omega arith in rw q (triples-letter es e (omega arith))
-
-triples-target : (es : List Edge) (e : ℕ) → e < length es → getD (triples es) (3 * e + 1) 0 ≡ edge-at es e .target
-unfolding triples triple edge-at
-triples-target [] e l = absurd (omega arith)
-triples-target (f ∷ es) zero l = refl
-triples-target (f ∷ es) (suc e) l =
-    let q : 3 * suc e + 1 ≡ suc (suc (suc (3 * e + 1))) = omega arith in rw q (triples-target es e (omega arith))
-
-triples-source : (es : List Edge) (e : ℕ) → e < length es → getD (triples es) (3 * e + 2) 0 ≡ edge-at es e .source
-unfolding triples triple edge-at
-triples-source [] e l = absurd (omega arith)
-triples-source (f ∷ es) zero l = refl
-triples-source (f ∷ es) (suc e) l =
-    let q : 3 * suc e + 2 ≡ suc (suc (suc (3 * e + 2))) = omega arith in rw q (triples-source es e (omega arith))
+    ap all-words (sym (take-length xs)) ∙ sym (items-rows words-of xs (system-of t .blank) (length xs) (omega arith))
 
 module _
-    {t : List ℕ} {masks : List (List ℕ)} {shape : Shape} (read : Read-off t masks shape) {l : Lent} {p : Progress}
-    (h : Shows wide-quadruples (complement t) l p) where
+    {limits : Limits} {t : List ℕ} {masks : List (List ℕ)} {shape : Shape} (read : Read-off t masks shape) {l : Lent}
+    {p : Progress} (h : Shows (quadruples limits) (complement t) l p) where
   abbrev w : List ℕ
   w = l .words
 
   abbrev s : List ℕ
   s = l .sets
 
-  pub states-limit : p .states ≤ wide-range .states
+  pub states-limit : p .states ≤ limits .states
   states-limit =
       let e = h .states .counted in
       let few = h .states .fits in
-      let m = capacity-limit wide-range s in omega arith
+      let m = capacity-limit limits s in omega arith
 
   sets-room : p .states ≤ full-records s
-  sets-room = let e = h .states .counted in let few = h .states .fits in capacity-full wide-range s (p .states) (omega arith)
+  sets-room = let e = h .states .counted in let few = h .states .fits in capacity-full limits s (p .states) (omega arith)
 
   -- the sets are all there
   pub sets-built : (o : List ℕ) → length s ≡ length o → s ≡ filled (sets-words t) o
@@ -91,48 +69,58 @@ module _
       let whole : s ≡ filled (all-words xs) s = begins-filled (rw (all-length xs) room) (h .states .begins) in
       whole ∙ rw (records-sets t, e) refl
 
-  module _ (short : (p .edges ≤ wide-range .records) × (words-needed (p .states) (p .edges) ≤ length w)) where
+  module _ (short : (p .edges ≤ limits .records) × (table-words (p .states) (p .edges) ≤ length w)) where
     all-edges : p .edges ≡ length (complement t .edges)
     unfolding counted-to
     all-edges = let e = h .edges .counted in let few = short .0 in omega arith
 
     -- every edge is in the words
-    edges-room : length (complement t .edges) ≤ edge-room wide-range w
-    unfolding edge-room words-needed
+    edges-room : length (complement t .edges) ≤ edge-room limits w
+    unfolding edge-room
     edges-room = let e = all-edges in let few = short .0 in let m = short .1 in omega arith
 
     edges-kept : Begins (0 ∷ 0 ∷ 0 ∷ triples (complement t .edges)) w
-    edges-kept = rw (take-all (edge-room wide-range w) (complement t .edges) edges-room) at (h .edges .begins)
+    edges-kept = rw (take-all (edge-room limits w) (complement t .edges) edges-room) at (h .edges .begins)
 
-    word-letter : (e : ℕ) → e < length (complement t .edges) → getD w (3 + 3 * e) 0 ≡ edge-at (complement t .edges) e .letter
-    word-letter e l =
-        let q : 3 + 3 * e ≡ suc (suc (suc (3 * e))) = omega arith in
-        edges-kept .at (3 + 3 * e) ∙ rw q (triples-letter (complement t .edges) e l)
+    -- word j of edge e
+    edge-word :
+        (e j i : ℕ) → e < length (complement t .edges) → j < 3 → i ≡ suc (suc (suc (3 * e + j))) →
+        getD w i 0 ≡ getD (triple (edge-at (complement t .edges) e)) j 0
+    unfolding edge-at
+    edge-word e j i l m at =
+        edges-kept .at i ∙ rw at (items-at triple triple-length (complement t .edges) (an-edge 0 0 0) e j l m)
 
-    word-target : (e : ℕ) → e < length (complement t .edges) → getD w (4 + 3 * e) 0 ≡ edge-at (complement t .edges) e .target
-    word-target e l =
-        let q : 4 + 3 * e ≡ suc (suc (suc (3 * e + 1))) = omega arith in
-        edges-kept .at (4 + 3 * e) ∙ rw q (triples-target (complement t .edges) e l)
-
-    word-source : (e : ℕ) → e < length (complement t .edges) → getD w (5 + 3 * e) 0 ≡ edge-at (complement t .edges) e .source
-    word-source e l =
-        let q : 5 + 3 * e ≡ suc (suc (suc (3 * e + 2))) = omega arith in
-        edges-kept .at (5 + 3 * e) ∙ rw q (triples-source (complement t .edges) e l)
+    kept-edge : (e : ℕ) → e < length (complement t .edges) → triple-at w e ≡ edge-at (complement t .edges) e
+    unfolding triple-at triple an-edge
+    kept-edge e l =
+        rw (
+          edge-word e 0 (3 + 3 * e) l (omega arith) (omega arith),
+          edge-word e 1 (4 + 3 * e) l (omega arith) (omega arith),
+          edge-word e 2 (5 + 3 * e) l (omega arith) (omega arith),
+        )
 
     edges-are : triples-of w (p .edges) ≡ complement t .edges
-    edges-are = rw all-edges (triples-are w (complement t .edges) word-letter word-target word-source)
+    unfolding edge-at
+    edges-are =
+        let es = complement t .edges in
+        rw all-edges (tabulate-same (length es) (triple-at w) (edge-at es) kept-edge ∙ tabulate-items es (an-edge 0 0 0))
 
-    pub lay-out-asks : Lay-out-asks word-bits w (p .states) (shape .letters) (p .edges)
-    unfolding words-needed complement-automaton numbered wide-range
-    lay-out-asks =
+    pub lay-out-asks : {bits : ℕ} → Range-fits bits limits → Lay-out-asks bits w (p .states) (shape .letters) (p .edges)
+    unfolding triple complement-automaton numbered
+    lay-out-asks {bits} fits =
         let all = all-edges in
         let count = h .states .counted in
         let few = letters-few t (read .passed) (read .masked) (read .shaped) in
         record {
-          room = record { room = short .1; states-fit = states-limit; edges-fit = short .0 };
-          letters-fit = omega arith;
+          room =
+              record {
+                room = short .1;
+                states-fit = (let most = states-limit in let fit = fits .states-fit in omega arith);
+                edges-fit = (let most = short .0 in let fit = fits .records-fit in omega arith);
+              };
+          letters-fit = (let fit = fits .letters-fit in omega arith);
           source = λ e l.
-              let same = word-source e (omega arith) in
+              let same = edge-word e 2 (5 + 3 * e) (omega arith) (omega arith) (omega arith) in
               let inside = complement-orderly t (read .passed) .source e (omega arith) in omega arith;
           beyond = λ i l.
               let long = triples-length (complement t .edges) in
@@ -144,7 +132,6 @@ module _
         {w1 : List ℕ} (laid : w1 ≡ filled (chained-words (plain (p .states) (shape .letters)) (triples-of w (p .edges))) w)
         (size : length w1 ≡ length w) where
       pub flags-ask : Flags-ask (lent w1 s) (p .states)
-      unfolding words-needed
       flags-ask = record { words-room = (let m = short .1 in let e = size in omega arith); sets-room = sets-room }
 
       -- a state's record says its flags
@@ -175,7 +162,7 @@ module _
       pub words-built :
           {k : ℕ} {v : List ℕ} (o : List ℕ) → k ≡ length (initials (start-moves shape)) → v ≡ with-flags (record-accepts s) k (p .states) w1 →
           length w ≡ length o → v ≡ filled (complement-words t) o
-      unfolding words-needed complement-words
+      unfolding complement-words
       words-built {k} {v} o e f g =
           let a = complement-automaton t in
           let es = complement t .edges in
@@ -190,16 +177,16 @@ module _
 
 -- THE ACCEPTED BUILD
 module _
-    {t : List ℕ} {masks : List (List ℕ)} {shape : Shape} (read : Read-off t masks shape) {l : Lent} {p : Progress}
-    (h : Shows wide-quadruples (complement t) l p) {b : Bool}
-    (tested : b ≡ too-long wide-range (length (l .words)) (p .states) (p .edges)) (short : b ≡ false) where
-  enough : (p .edges ≤ wide-range .records) × (words-needed (p .states) (p .edges) ≤ length (l .words))
-  enough = short-enough wide-range (length (l .words)) (p .states) (p .edges) tested short
+    {limits : Limits} {t : List ℕ} {masks : List (List ℕ)} {shape : Shape} (read : Read-off t masks shape) {l : Lent}
+    {p : Progress} (h : Shows (quadruples limits) (complement t) l p) {b : Bool}
+    (tested : b ≡ too-long limits (length (l .words)) (p .states) (p .edges)) (short : b ≡ false) where
+  enough : (p .edges ≤ limits .records) × (table-words (p .states) (p .edges) ≤ length (l .words))
+  enough = short-enough limits (length (l .words)) (p .states) (p .edges) tested short
 
-  pub built-asks : Lay-out-asks word-bits (l .words) (p .states) (shape .letters) (p .edges)
-  built-asks = lay-out-asks read h enough
+  pub built-asks : {bits : ℕ} → Range-fits bits limits → Lay-out-asks bits (l .words) (p .states) (shape .letters) (p .edges)
+  built-asks fits = lay-out-asks read h enough fits
 
-  pub built-counts : (p .states ≤ wide-range .states) × (p .edges ≤ wide-range .records)
+  pub built-counts : (p .states ≤ limits .states) × (p .edges ≤ limits .records)
   built-counts = (states-limit read h, enough .0)
 
   module _
@@ -212,9 +199,9 @@ module _
     pub built-says :
         {k : ℕ} {v : List ℕ} (lends : Lent) → Same-sizes l lends → k ≡ length (initials (start-moves shape)) →
         v ≡ with-flags (record-accepts (l .sets)) k (p .states) w1 →
-        Build-says t (record { number = 0; states = p .states; edges = p .edges }) lends (lent v (l .sets))
+        Build-says limits t (record { number = 0; states = p .states; edges = p .edges }) lends (lent v (l .sets))
     built-says lends sizes e f =
         let states = h .states .counted in
         let edges = all-edges read h enough in
-        says-built (none-refuses t lends (read .passed) h sizes tested short) (rw (states, edges) refl)
+        says-built (length-refuses limits t lends (read .passed) h sizes tested short) (rw (states, edges) refl)
         (words-built read h enough laid size (lends .words) e f (sizes .words)) (sets-built read h (lends .sets) (sizes .sets))

@@ -6,16 +6,16 @@ use Prim.Native.Nat.{ℕ, suc, _+_, _*_, _≤_, _<_, min}
 use native.Mathlib.Omega.{arith}
 use lib.Dec.{ltb}
 use lib.ListN.{length, getD, length-append}
-use lib.Seq.{sets, length-sets, take-all, take-append-le, ext-getD}
+use lib.Seq.{sets, length-sets, take-all, take-append-le}
 use Rattle.basics.proofs.Booleans.{either, ltb-lt, ltb-ge}
-use Rattle.automata.specs.Decision.{tabulate}
+use Rattle.basics.proofs.Rows.{items-length, items-snoc}
 use Rattle.automata.specs.System.{Edge}
-use Rattle.automata.proofs.Graphs.{tabulate-at, tabulate-length}
+use Rattle.automata.proofs.Graphs.{tabulate-same, tabulate-items}
 use Rattle.tables.specs.Table.{Limits}
 use Rattle.ncsb.specs.Successors.{quadruple}
 use Rattle.ncsb.specs.declared.Quadruple.{Quadruple}
 use Rattle.record_words.specs.Record.{record-words, words-of, all-words, full-records, quadruple-at, with-quadruple}
-use Rattle.record_words.proofs.Laws.{words-length, all-length, all-snoc, with-length, inside-words, full-kept, same-record, read-back}
+use Rattle.record_words.proofs.Laws.{words-length, all-length, with-length, inside-words, full-kept, same-record, read-back}
 use Rattle.complement.specs.Records.{records-of, capacity}
 use Rattle.complement.specs.Found.{Begins, quadruples, States-kept, triple, triples, edge-room, counted-to, Edges-kept, with-edge, one-more}
 use Rattle.complement.proofs.Stored.{begins-words}
@@ -32,9 +32,8 @@ module _ {limits : Limits} {xs : List Quadruple} {s : List ℕ} {n : ℕ} (h : S
   unfolding records-of
   kept-records =
       let e = h .counted in
-      let long = tabulate-length n (quadruple-at s) in
-      ext-getD (quadruple 0 0 0 0) (tabulate n (quadruple-at s)) xs (long ∙ e)
-      (λ i l. tabulate-at n (quadruple-at s) i (quadruple 0 0 0 0) (omega arith) ∙ kept-at i (omega arith))
+      tabulate-same n (quadruple-at s) (λ i. getD xs i (quadruple 0 0 0 0)) kept-at
+      ∙ rw e (tabulate-items xs (quadruple 0 0 0 0))
 
 -- room for states is room for their records, and no more than a table can have
 module _ (limits : Limits) (s : List ℕ) where
@@ -68,19 +67,16 @@ kept-more {limits} {xs} {s} {n} x h l =
     record {
       counted = simp length-append (omega arith);
       fits = simp length-append (omega arith);
-      begins = rw (all-snoc xs x, ← begin) (begins-words (words-of x) room (h .begins));
+      begins = rw (items-snoc words-of xs x, ← begin) (begins-words (words-of x) room (h .begins));
     }
 
 -- EDGES
-pub triples-length : (es : List Edge) → length (triples es) ≡ 3 * length es
-unfolding triples triple
-triples-length [] = refl
-triples-length (e ∷ es) = let h = triples-length es in omega arith
+pub triple-length : (e : Edge) → length (triple e) ≡ 3
+unfolding triple
+triple-length e = refl
 
-triples-snoc : (es : List Edge) (e : Edge) → triples (es ++ (e ∷ [])) ≡ triples es ++ triple e
-unfolding triples triple
-triples-snoc [] e = refl
-triples-snoc (f ∷ es) e = ap (λ (l : List ℕ). f .letter ∷ f .target ∷ f .source ∷ l) (triples-snoc es e)
+pub triples-length : (es : List Edge) → length (triples es) ≡ 3 * length es
+triples-length = items-length triple triple-length
 
 room-same : (limits : Limits) (w : List ℕ) (i : ℕ) (vs : List ℕ) → edge-room limits (sets w i vs) ≡ edge-room limits w
 unfolding edge-room
@@ -117,7 +113,7 @@ module _ {limits : Limits} {es : List Edge} {w : List ℕ} {m : ℕ} (e : Edge) 
             rw (
               room-same limits w (3 + 3 * m) (triple e),
               take-all (edge-room limits w) (es ++ (e ∷ [])) more,
-              triples-snoc es e,
+              items-snoc triple es e,
               ← begin,
             )
             (begins-words (triple e) place old);

@@ -9,7 +9,7 @@ use lib.Seq.{take-all}
 use Rattle.basics.proofs.Upward.{upward}
 use Rattle.automata.specs.System.{System, Built, add-edge, add-all, by-letters}
 use Rattle.automata.proofs.Exploring.{Grows, grows-self, grows-then, grows-edge, grows-letters, add-all-take}
-use Rattle.sets.specs.Sets.{size}
+use Rattle.sets.specs.Sets.{set-states, size}
 use Rattle.tables.specs.Table.{Limits}
 use Rattle.ncsb.specs.Array.{from-array, asks, blocked-by, nth-successor}
 use Rattle.ncsb.specs.Successors.{quadruple, same, blocked, successors}
@@ -89,7 +89,7 @@ module _
             rw (none-blocked m (shape .marks) (shape .inner) x c (sym stops ∙ e)) (within shows);
       }
 
-  module _ (goes : stopped ≡ false) {choices : ℕ} (counted : choices ≡ 2 ^ size 32 (asked .free)) where
+  module _ (goes : stopped ≡ false) {choices : ℕ} (counted : choices ≡ 2 ^ size set-states (asked .free)) where
     open-blocked : blocked (array-moves m shape) x c ≡ false
     open-blocked = sym stops ∙ goes
 

@@ -7,11 +7,12 @@ use Prim.Native.Nat.{ℕ, suc, _+_, _^_, _≤_, _<_}
 use native.Mathlib.Numerals.{add-one}
 use native.Mathlib.Omega.{arith}
 use lib.ListN.{length}
+use Rattle.sets.specs.Sets.{row-letters}
 use Rattle.automata.specs.System.{Built, built, state-at, At-most, Distinct, by-letters, expand, begin, explore}
 use Rattle.automata.proofs.Agreeing.{letters-agree}
 use Rattle.automata.proofs.Explore.{begin-is}
 use Rattle.automata.proofs.Exploring.{grows-explore, At-state, at-most-le, state-begin, state-step, state-end, state-grows}
-use Rattle.tables.specs.Table.{wide-range, n-of, meaning}
+use Rattle.tables.specs.Table.{Limits, n-of, meaning}
 use Rattle.ncsb.specs.Array.{from-array}
 use Rattle.ncsb.specs.Step.{Small}
 use Rattle.ncsb.specs.Successors.{initials, ncsb}
@@ -29,7 +30,7 @@ use Rattle.patterns.proofs.Passed.{checked-table, checked-split}
 use Rattle.record_words.specs.Record.{quadruple-at}
 use Rattle.complement.specs.Build.{Lent}
 use Rattle.complement.specs.Complement.{system-of, complement}
-use Rattle.complement.specs.Found.{Begins, wide-quadruples, Shows, Ends, within, Turns, Expand-asks, array-moves, start-moves, Started}
+use Rattle.complement.specs.Found.{Begins, quadruples, Shows, Ends, within, Turns, Expand-asks, array-moves, start-moves, Started}
 use Rattle.complement.specs.declared.explore.Progress.{Progress}
 use Rattle.complement.proofs.Kept.{kept-at, capacity-limit}
 use Rattle.complement.proofs.Reaching.{ends-within, ends-grown}
@@ -37,16 +38,17 @@ use Rattle.complement.proofs.Second.{system-decides}
 use Rattle.complement.proofs.Starting.{started-ends}
 
 -- so many states are expanded
-pub record Exploring (t : List ℕ) (l : Lent) (p : Progress) (i : ℕ) : Type 0 where
+pub record Exploring (limits : Limits) (t : List ℕ) (l : Lent) (p : Progress) (i : ℕ) : Type 0 where
   pub built : Built Quadruple
-  pub shows : Shows wide-quadruples built l p
+  pub shows : Shows (quadruples limits) built l p
   pub at : At-state (system-of t) (16 ^ n-of t) i built
 
-pub explore-limit : {t : List ℕ} {l : Lent} {p : Progress} {i : ℕ} → Exploring t l p i → p .states ≤ wide-range .states
-explore-limit {l} h =
+pub explore-limit :
+    {limits : Limits} {t : List ℕ} {l : Lent} {p : Progress} {i : ℕ} → Exploring limits t l p i → p .states ≤ limits .states
+explore-limit {limits} {l} h =
     let e = h .shows .states .counted in
     let few = h .shows .states .fits in
-    let m = capacity-limit wide-range (l .sets) in omega arith
+    let m = capacity-limit limits (l .sets) in omega arith
 
 module _ (t : List ℕ) (passed : check-refusal t ≡ 0) where
   -- AT MOST 16^n quadruples are reached
@@ -88,7 +90,7 @@ module _ (t : List ℕ) (passed : check-refusal t ≡ 0) where
     unfolding shape-of system-of ncsb
     letters-all = ap (λ (z : Shape). z .letters) shaped
 
-    pub letters-few : shape .letters ≤ wide-quadruples .letters
+    pub letters-few : shape .letters ≤ row-letters
     unfolding system-of ncsb moves
     letters-few = let e = letters-all in let l = pattern-fits t (checked-table t passed) .letters in omega arith
 
@@ -103,24 +105,27 @@ module _ (t : List ℕ) (passed : check-refusal t ≡ 0) where
         ap (λ (xs : List Quadruple). built xs []) starts-same ∙ sym (begin-is (system-of t) (system-decides t) starts-apart)
 
     pub begin-full :
-        {l : Lent} {p : Progress} → Begins [] (l .words) → Started wide-range shape (l .sets) p → p .full ≡ true → Ends wide-quadruples (complement t) l p
+        {limits : Limits} {l : Lent} {p : Progress} → Begins [] (l .words) → Started limits shape (l .sets) p → p .full ≡ true →
+        Ends (quadruples limits) (complement t) l p
     unfolding complement explore
-    begin-full {l} {p} clear h full =
-        let ends : Ends wide-quadruples (begin (system-of t)) l p = rw begins-with at (started-ends clear h) in
+    begin-full {limits} {l} {p} clear h full =
+        let ends : Ends (quadruples limits) (begin (system-of t)) l p = rw begins-with at (started-ends clear h) in
         ends-grown full (grows-explore (system-of t) (16 ^ n-of t) 0 (begin (system-of t))) ends
 
-    pub begin-within : {l : Lent} {p : Progress} → Begins [] (l .words) → Started wide-range shape (l .sets) p → p .full ≡ false → Exploring t l p 0
+    pub begin-within :
+        {limits : Limits} {l : Lent} {p : Progress} → Begins [] (l .words) → Started limits shape (l .sets) p → p .full ≡ false →
+        Exploring limits t l p 0
     unfolding system-of
-    begin-within {l} {p} clear h left =
-        let ends : Ends wide-quadruples (begin (system-of t)) l p = rw begins-with at (started-ends clear h) in
+    begin-within {limits} {l} {p} clear h left =
+        let ends : Ends (quadruples limits) (begin (system-of t)) l p = rw begins-with at (started-ends clear h) in
         record {
           built = begin (system-of t);
           shows = ends-within left ends;
           at = state-begin (system-of t) (system-decides t) (16 ^ n-of t) most-reached starts-apart;
         }
 
-    module _ {l : Lent} {p : Progress} {i : ℕ} (h : Exploring t l p i) (inside : i < p .states) where
-      pub expand-asks : Expand-asks wide-quadruples l p i (shape .letters)
+    module _ {limits : Limits} {l : Lent} {p : Progress} {i : ℕ} (h : Exploring limits t l p i) (inside : i < p .states) where
+      pub expand-asks : Expand-asks (quadruples limits) l p i (shape .letters)
       expand-asks = record { built = h .built; shows = h .shows; inside = inside; letters-inside = letters-few }
 
       listed : i < length (h .built .states)
@@ -161,19 +166,21 @@ module _ (t : List ℕ) (passed : check-refusal t ≡ 0) where
 
       module _
           {l′ : Lent} {p′ : Progress}
-          (turn : Turns wide-quadruples (by-letters (ncsb (array-moves masks shape)) (shape .letters) i (quadruple-at (l .sets) i)) l p l′ p′) where
-        pub expand-full : p′ .full ≡ true → Ends wide-quadruples (complement t) l′ p′
+          (turn : Turns (quadruples limits) (by-letters (ncsb (array-moves masks shape)) (shape .letters) i (quadruple-at (l .sets) i)) l p l′ p′) where
+        pub expand-full : p′ .full ≡ true → Ends (quadruples limits) (complement t) l′ p′
         unfolding complement
         expand-full full =
-            let ends : Ends wide-quadruples (expand (system-of t) i (h .built)) l′ p′ = rw expands at (turn .from (h .built) (h .shows)) in
+            let ends : Ends (quadruples limits) (expand (system-of t) i (h .built)) l′ p′ = rw expands at (turn .from (h .built) (h .shows)) in
             ends-grown full (state-grows (system-of t) (system-decides t) (16 ^ n-of t) most-reached next) ends
 
-        pub expand-turn : p′ .full ≡ false → Exploring t l′ p′ (i + 1)
+        pub expand-turn : p′ .full ≡ false → Exploring limits t l′ p′ (i + 1)
         expand-turn left =
-            let ends : Ends wide-quadruples (expand (system-of t) i (h .built)) l′ p′ = rw expands at (turn .from (h .built) (h .shows)) in
+            let ends : Ends (quadruples limits) (expand (system-of t) i (h .built)) l′ p′ = rw expands at (turn .from (h .built) (h .shows)) in
             rw add-one (record { built = expand (system-of t) i (h .built); shows = ends-within left ends; at = next })
 
-  pub explore-end : {l : Lent} {p : Progress} {i : ℕ} → Exploring t l p i → p .states ≤ i → Ends wide-quadruples (complement t) l p
+  pub explore-end :
+      {limits : Limits} {l : Lent} {p : Progress} {i : ℕ} → Exploring limits t l p i → p .states ≤ i →
+      Ends (quadruples limits) (complement t) l p
   unfolding system-of complement
   explore-end h all-done =
       let e = h .shows .states .counted in

@@ -1,7 +1,7 @@
 -- Storing the initial quadruples by rising choice. Assumes nothing.
 use mathlib.Core.Path.{_≡_, refl, sym, _∙_, ap}
 use mathlib.Core.Bool.{false}
-use mathlib.Core.List.{List, [], _∷_, _++_}
+use mathlib.Core.List.{List, [], _∷_, _++_, flatMap}
 use Prim.Native.Nat.{ℕ, suc, _+_, _^_, _≤_, _<_}
 use native.Mathlib.Numerals.{add-one}
 use native.Mathlib.Omega.{arith}
@@ -9,7 +9,7 @@ use lib.Bits.{bitAnd}
 use lib.ListN.{length, getD, take}
 use lib.Seq.{take-suc, take-all, take-nil}
 use Rattle.basics.proofs.Clears.{zeros-at}
-use Rattle.sets.specs.Sets.{without, size}
+use Rattle.sets.specs.Sets.{set-states, without, size}
 use Rattle.automata.specs.System.{built}
 use Rattle.tables.specs.Table.{Limits}
 use Rattle.ncsb.specs.Array.{from-array, nth-initial}
@@ -17,7 +17,7 @@ use Rattle.ncsb.specs.Successors.{quadruple, initial-free, initials}
 use Rattle.ncsb.specs.declared.Quadruple.{Quadruple}
 use Rattle.ncsb.proofs.Choices.{choices-fit, initials-count, choice-initial}
 use Rattle.patterns.specs.declared.Shape.{Shape}
-use Rattle.record_words.specs.Record.{all-words, full-records, with-quadruple}
+use Rattle.record_words.specs.Record.{full-records, with-quadruple}
 use Rattle.complement.specs.Build.{Lent}
 use Rattle.complement.specs.Records.{capacity}
 use Rattle.complement.specs.Found.{Begins, quadruples, States-kept, triples, edge-room, Ends, within, beyond, overfull, start-moves, Started, started, too-many}
@@ -31,13 +31,13 @@ module _ (shape : Shape) where
 
   -- their number is that of the parts of what is free
   pub start-counted :
-      {free choices : ℕ} → free ≡ without (bitAnd (shape .starts) (shape .inner)) (shape .marks) → choices ≡ 2 ^ size 32 free →
+      {free choices : ℕ} → free ≡ without (bitAnd (shape .starts) (shape .inner)) (shape .marks) → choices ≡ 2 ^ size set-states free →
       choices ≡ length (initials (start-moves shape))
   unfolding start-moves
   start-counted freed counted =
       sym
       (initials-count (shape .starts) (shape .marks) (shape .inner)
-      ∙ ap (λ (f : ℕ). 2 ^ size 32 f) (start-free ∙ sym freed) ∙ sym counted)
+      ∙ ap (λ (f : ℕ). 2 ^ size set-states f) (start-free ∙ sym freed) ∙ sym counted)
 
   start-few : length (initials (start-moves shape)) ≤ 2 ^ 32
   unfolding start-moves
@@ -61,7 +61,7 @@ module _ (limits : Limits) (shape : Shape) where
     start-full e l full = let n = counted in too-many full (omega arith)
 
     pub store-start : {s : List ℕ} → Begins [] s → Storing s s 0
-    unfolding all-words
+    unfolding flatMap
     store-start h =
         record {
           size = refl;
@@ -107,7 +107,7 @@ module _ (limits : Limits) (shape : Shape) where
 
 -- no edge is kept in words that are zero
 no-edges : (limits : Limits) (w : List ℕ) → Begins [] w → Begins (0 ∷ 0 ∷ 0 ∷ triples (take (edge-room limits w) [])) w
-unfolding triples
+unfolding flatMap
 no-edges limits w h = rw (take-nil (edge-room limits w)) (record { at = λ i. h .at i ∙ sym (zeros-at 3 i) })
 
 -- what is kept of the initial states is kept of the beginning

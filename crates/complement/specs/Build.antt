@@ -2,11 +2,11 @@
 use mathlib.Core.Path.{_≡_}
 use mathlib.Core.Bool.{Bool, _||_, cond}
 use mathlib.Core.List.{List}
-use Prim.Native.Nat.{ℕ, zero, suc, _+_, _*_}
+use Prim.Native.Nat.{ℕ, zero, suc, _*_}
 use lib.Dec.{ltb}
 use lib.ListN.{length, take}
 use Rattle.basics.specs.Buffers.{or-else, zeros, filled}
-use Rattle.tables.specs.Table.{Limits, wide-range}
+use Rattle.tables.specs.Table.{Limits, table-words}
 use Rattle.patterns.specs.Check.{check-refusal}
 use Rattle.record_words.specs.Record.{record-words, full-records}
 use Rattle.complement.specs.Complement.{complement, complement-words, sets-words}
@@ -28,22 +28,19 @@ pub record Room : Type 0 where
 unfoldable pub room-of : Lent → Room
 room-of l = record { words = length (l .words); records = full-records (l .sets) }
 
-unfoldable pub words-needed : (states edges : ℕ) → ℕ
-words-needed n m = 3 + 2 * n + 3 * m
-
 -- more edges than a table can have, or more words than are lent
 abbrev pub too-long : Limits → (words states edges : ℕ) → Bool
-too-long limits w n m = ltb (limits .records) m || ltb w (words-needed n m)
+too-long limits w n m = ltb (limits .records) m || ltb w (table-words n m)
 
 -- 11: more states than the lent records, or than a table can have; 12: the table is too long
 unfoldable pub room-refusal : Limits → Room → (states edges : ℕ) → ℕ
 room-refusal limits r n m =
     cond (ltb (r .records) n || ltb (limits .states) n) 11 (cond (too-long limits (r .words) n m) 12 0)
 
-unfoldable pub build-refusal : List ℕ → Room → ℕ
-build-refusal t r =
-    or-else (check-refusal t)
-    (room-refusal wide-range r (length (complement t .states)) (length (complement t .edges)))
+-- 2 to 10 of the check, then those: for a table of a range
+unfoldable pub build-refusal : Limits → List ℕ → Room → ℕ
+build-refusal limits t r =
+    or-else (check-refusal t) (room-refusal limits r (length (complement t .states)) (length (complement t .edges)))
 
 -- the answer: both counts are zero where the build is refused
 unfoldable pub as-counts : (number states edges : ℕ) → Counts
@@ -55,12 +52,12 @@ unfoldable pub after-build : (number : ℕ) → (new before : List ℕ) → List
 after-build zero x o = filled x o
 after-build (suc r) x o = zeros o
 
--- what the build answers, and what it leaves of the lent buffers
-pub record Build-says (t : List ℕ) (r : Counts) (before after : Lent) : Type 0 where
+-- what the build of a table of a range answers, and what it leaves of the lent buffers
+pub record Build-says (limits : Limits) (t : List ℕ) (r : Counts) (before after : Lent) : Type 0 where
   pub answer :
-      r ≡ as-counts (build-refusal t (room-of before)) (length (complement t .states)) (length (complement t .edges))
-  pub words : after .words ≡ after-build (build-refusal t (room-of before)) (complement-words t) (before .words)
-  pub sets : after .sets ≡ after-build (build-refusal t (room-of before)) (sets-words t) (before .sets)
+      r ≡ as-counts (build-refusal limits t (room-of before)) (length (complement t .states)) (length (complement t .edges))
+  pub words : after .words ≡ after-build (build-refusal limits t (room-of before)) (complement-words t) (before .words)
+  pub sets : after .sets ≡ after-build (build-refusal limits t (room-of before)) (sets-words t) (before .sets)
 
 -- a refusal: its number and nothing else, and every buffer is zero
 pub record Refused-with (number : ℕ) (r : Counts) (before after : Lent) : Type 0 where
@@ -70,7 +67,7 @@ pub record Refused-with (number : ℕ) (r : Counts) (before after : Lent) : Type
 
 -- THE COMPLEMENT: the used part of the table words, by the counts answered
 unfoldable pub used : Counts → List ℕ → List ℕ
-used r x = take (words-needed (r .states) (r .edges)) x
+used r x = take (table-words (r .states) (r .edges)) x
 
 -- and of the sets words
 unfoldable pub used-sets : Counts → List ℕ → List ℕ

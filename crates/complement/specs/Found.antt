@@ -2,11 +2,12 @@
 -- any type, kept in any format. Assumes nothing: these are definitions.
 use mathlib.Core.Path.{_≡_}
 use mathlib.Core.Bool.{true, false, cond}
-use mathlib.Core.List.{List, [], _∷_, _++_}
+use mathlib.Core.List.{List, [], _∷_, flatMap}
 use Prim.Native.Nat.{ℕ, suc, _+_, _*_, _-_, _/_, _≤_, _<_, min}
 use lib.Dec.{ltb}
 use lib.ListN.{length, getD, take}
 use lib.Seq.{sets}
+use Rattle.sets.specs.Sets.{row-letters}
 use Rattle.automata.specs.System.{Edge, Built}
 use Rattle.tables.specs.Table.{Limits, wide-range, meaning}
 use Rattle.ncsb.specs.Array.{from-array}
@@ -46,9 +47,8 @@ pub record States-kept {X : Type 0} (f : Format X) (xs : List X) (sets-words : L
 unfoldable pub triple : Edge → List ℕ
 triple e = e .letter ∷ e .target ∷ e .source ∷ []
 
-unfoldable pub triples : List Edge → List ℕ
-triples [] = []
-triples (e ∷ es) = triple e ++ triples es
+abbrev pub triples : List Edge → List ℕ
+triples = flatMap triple
 
 unfoldable pub edge-room : Limits → (words : List ℕ) → ℕ
 edge-room limits w = min ((length w - 3) / 3) (limits .records)
@@ -105,7 +105,7 @@ pub record Expand-asks {X : Type 0} (f : Format X) (l : Lent) (p : Progress) (so
 
 -- QUADRUPLES, in tables of a range
 abbrev pub quadruples : Limits → Format Quadruple
-quadruples limits = record { limits = limits; letters = 16; state-words = all-words; capacity = capacity limits }
+quadruples limits = record { limits = limits; letters = row-letters; state-words = all-words; capacity = capacity limits }
 
 -- and in wide tables, which the build makes
 abbrev pub wide-quadruples : Format Quadruple
@@ -156,9 +156,9 @@ pub record Explore-asks (masks : List (List ℕ)) (shape : Shape) (l : Lent) : T
   pub sets-clear : Begins [] (l .sets)
 
 -- what exploring says: it ends with the complement of whatever pattern they are read off
-pub record Explored-to (masks : List (List ℕ)) (shape : Shape) (l : Lent) (p : Progress) : Type 0 where
-  pub ends : (t : List ℕ) → Read-off t masks shape → Ends wide-quadruples (complement t) l p
+pub record Explored-to (limits : Limits) (masks : List (List ℕ)) (shape : Shape) (l : Lent) (p : Progress) : Type 0 where
+  pub ends : (t : List ℕ) → Read-off t masks shape → Ends (quadruples limits) (complement t) l p
 
 -- what building says: it answers and leaves what is said of whatever pattern they are read off
-pub record Built-from (masks : List (List ℕ)) (shape : Shape) (r : Counts) (before after : Lent) : Type 0 where
-  pub says : (t : List ℕ) → Read-off t masks shape → Build-says t r before after
+pub record Built-from (limits : Limits) (masks : List (List ℕ)) (shape : Shape) (r : Counts) (before after : Lent) : Type 0 where
+  pub says : (t : List ℕ) → Read-off t masks shape → Build-says limits t r before after

@@ -2,6 +2,7 @@
 use crate::records;
 use ncsb::Quadruple;
 use patterns::Shape;
+use sets::TargetSets;
 use tables::WIDE_RECORDS;
 ghost use mathlib.Core.Path.{_≡_};
 ghost use mathlib.Core.List.{[]};
@@ -101,7 +102,7 @@ fn meet(
 
 // Meets the successors of a state on one letter, by rising choice.
 fn add_successors(
-    masks: &[[u32; 16]; 32],
+    masks: &TargetSets,
     shape: Shape,
     words: &mut [u16],
     sets: &mut [u32],
@@ -141,7 +142,7 @@ fn add_successors(
 // The step from one state: all its edges, by rising letter. The masks come by value and are lent on, since a function that indexes an
 // array which it was given by value copies all of it.
 fn step(
-    masks: [[u32; 16]; 32],
+    masks: TargetSets,
     shape: Shape,
     words: &mut [u16],
     sets: &mut [u32],
@@ -201,13 +202,13 @@ fn store_initials(shape: Shape, sets: &mut [u32]) -> Progress
 
 // Explores the complement of a pattern from the initial states on, in number order.
 pub(crate) fn explore(
-    masks: [[u32; 16]; 32],
+    masks: TargetSets,
     shape: Shape,
     words: &mut [u16],
     sets: &mut [u32],
 ) -> Progress
     requires { ⌜ Explore-asks masks shape (lent (now words) (now sets)) ⌝ }
-    ensures { λ r. ⌜ Explored-to masks shape (lent (now (words .exit)) (now (sets .exit))) r ⌝ }
+    ensures { λ r. ⌜ Explored-to wide-range masks shape (lent (now (words .exit)) (now (sets .exit))) r ⌝ }
 {
     let mut found = store_initials(shape, sets);
     if found.full {

@@ -2,10 +2,14 @@
 use basics::clear16;
 use basics::clear32;
 use layout::lay_out;
-use patterns::Reading;
+use patterns::PatternReading;
 use patterns::Shape;
 use patterns::read_pattern;
+use sets::ROW_LETTERS;
+use sets::SET_STATES;
+use sets::TargetSets;
 use tables::WIDE_RECORDS;
+use tables::table_words;
 ghost use Prim.Native.Nat.{_≤_};
 ghost use mathlib.Core.Path.{_≡_};
 ghost use Rattle.tables.specs.Table.{wide-range};
@@ -45,18 +49,13 @@ fn too_long(words: usize, states: usize, edges: usize) -> bool
     if edges > WIDE_RECORDS {
         return true;
     }
-    3 + 2 * states + 3 * edges > words
+    table_words(states, edges) > words
 }
 
 // Builds the complement of a pattern that was read: its table in the words, its quadruples in the sets.
-fn build_pattern(
-    masks: [[u32; 16]; 32],
-    shape: Shape,
-    words: &mut [u16],
-    sets: &mut [u32],
-) -> Counts
+fn build_pattern(masks: TargetSets, shape: Shape, words: &mut [u16], sets: &mut [u32]) -> Counts
     requires { ⌜ Of-pattern masks shape ⌝ }
-    ensures { λ r. ⌜ Built-from masks shape r (lent (now (words .entry)) (now (sets .entry))) (lent (now (words .exit)) (now (sets .exit))) ⌝ }
+    ensures { λ r. ⌜ Built-from wide-range masks shape r (lent (now (words .entry)) (now (sets .entry))) (lent (now (words .exit)) (now (sets .exit))) ⌝ }
 {
     clear16(words);
     clear32(sets);
@@ -80,11 +79,11 @@ fn build_pattern(
 
 // Builds the reachable complement of a pattern in the lent buffers. The table is read once: what the check reads of it is what is built from.
 pub fn build_complement(table: &[u16], words: &mut [u16], sets: &mut [u32]) -> Counts
-    ensures { λ r. ⌜ Build-says (now (table .entry)) r (lent (now (words .entry)) (now (sets .entry))) (lent (now (words .exit)) (now (sets .exit))) ⌝ }
+    ensures { λ r. ⌜ Build-says wide-range (now (table .entry)) r (lent (now (words .entry)) (now (sets .entry))) (lent (now (words .exit)) (now (sets .exit))) ⌝ }
 {
-    let mut masks = [[0u32; 16]; 32];
+    let mut masks = [[0u32; ROW_LETTERS]; SET_STATES];
     match read_pattern(table, &mut masks) {
-        Reading::Refused(number) => refuse(number, words, sets),
-        Reading::Pattern(shape) => build_pattern(masks, shape, words, sets),
+        PatternReading::Refused(number) => refuse(number, words, sets),
+        PatternReading::Pattern(shape) => build_pattern(masks, shape, words, sets),
     }
 }

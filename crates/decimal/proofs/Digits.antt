@@ -9,8 +9,8 @@ use native.Mathlib.Numerals.{add-one}
 use native.Mathlib.Nat.{mod-eq-of-lt, pow-suc}
 use lib.Dec.{ltb}
 use lib.ListN.{length, length-append}
-use Rattle.basics.proofs.Booleans.{either, ltb-lt, ltb-ge, lt-ltb, ge-ltb}
-use Rattle.decimal.specs.Lines.{digit-zero, digits, decimal, Places}
+use Rattle.basics.proofs.Booleans.{either, ltb-lt, ltb-ge, lt-ltb, ge-ltb, below-or}
+use Rattle.decimal.specs.Lines.{digit-zero, digits, decimal, number-bytes, field-bytes, Places}
 
 -- by the test
 pub digits-one : (k n : ℕ) → ltb n 10 ≡ true → digits (suc k) n ≡ (digit-zero + n) ∷ []
@@ -54,15 +54,14 @@ one-place-more n l = rw (decimal-more n l) (length-append (decimal (n / 10)) ((d
 few-places : (k n : ℕ) → n < 10 * 10 ^ k → length (decimal n) ≤ suc k
 few-places zero n l = let e = one-place n l in omega arith
 few-places (suc k) n l =
-    elim (either (ltb n 10)) [
-      | inl e ↦ let o = one-place n (ltb-lt n 10 e) in omega arith
-      | inr e ↦
-          let g = ltb-ge n 10 e in
+    elim (below-or n 10) [
+      | inl e ↦ let o = one-place n e in omega arith
+      | inr g ↦
           let o = one-place-more n g in
           let p = few-places k (n / 10) (let s = pow-suc 10 k in omega arith) in omega arith
     ]
 
-pub at-most-ten : (n : ℕ) → n < 4294967296 → length (decimal n) ≤ 10
+pub at-most-ten : (n : ℕ) → n < 2 ^ 32 → length (decimal n) ≤ number-bytes
 at-most-ten n l = few-places 9 n (omega arith)
 
 -- the last so many digits
@@ -95,23 +94,18 @@ decimal-last n = digits-last (suc n) n (omega arith)
 
 -- THE LOOP OF `places`: what is left has the digits that are not counted yet
 pub record Counting (n left count : ℕ) : Type 0 where
-  pub from : left < 4294967296
-  pub positive : 1 ≤ count
   pub total : length (decimal n) + 1 ≡ count + length (decimal left)
-  pub few : length (decimal n) ≤ 10
+  pub few : length (decimal n) ≤ number-bytes
 
-pub counting-start : (n : ℕ) → n < 4294967296 → Counting n n 1
-counting-start n l = record { from = l; positive = omega arith; total = omega arith; few = at-most-ten n l }
+pub counting-start : (n : ℕ) → n < 2 ^ 32 → Counting n n 1
+counting-start n l = record { total = omega arith; few = at-most-ten n l }
 
 pub counting-turn : {n left count : ℕ} → 10 ≤ left → Counting n left count → Counting n (left / 10) (count + 1)
-counting-turn {n} {left} g p =
-    let o = one-place-more left g in let q = p .total in let f = p .from in
-    record { from = omega arith; positive = omega arith; total = omega arith; few = p .few }
+counting-turn {left = left} g p = let o = one-place-more left g in record { total = omega arith; few = p .few }
 
 pub counting-end : {n left count : ℕ} → left < 10 → Counting n left count → Places n count
-counting-end {left = left} g p =
-    let o = one-place left g in let q = p .total in let f = p .few in record { counted = omega arith; few = omega arith }
+counting-end {left = left} g p = let o = one-place left g in record { counted = omega arith; few = omega arith }
 
 -- the count stays small
-pub counting-small : {n left count : ℕ} → 10 ≤ left → Counting n left count → count + 1 ≤ 11
-counting-small {left = left} g p = let o = one-place-more left g in let q = p .total in let f = p .few in omega arith
+pub counting-small : {n left count : ℕ} → 10 ≤ left → Counting n left count → count + 1 ≤ field-bytes
+counting-small {left = left} g p = let o = one-place-more left g in omega arith

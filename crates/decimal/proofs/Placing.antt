@@ -3,7 +3,7 @@ use mathlib.Core.Path.{_≡_, refl, sym, _∙_}
 use mathlib.Core.List.{List, [], _∷_, _++_, append-assoc}
 use Prim.Native.Nat.{ℕ, suc, _+_, _*_, _-_, _/_, _%_, _≤_, _<_}
 use native.Mathlib.Omega.{arith}
-use native.Mathlib.Nat.{mul-suc}
+use native.Mathlib.Nat.{mul-zero, mul-suc, mul-le-mul-left}
 use native.Mathlib.Numerals.{add-one}
 use lib.ListN.{length, getD, take, drop, set, length-append, length-set, drop-of-length-le}
 use lib.Seq.{sets, length-sets, drop-cons, take-suc, take-all, length-take-le}
@@ -30,16 +30,34 @@ then-put {o} {xs = xs} {ys = ys} p q =
 pub nothing-put : (o : List ℕ) {at : ℕ} → at ≤ length o → Put o at 0 [] o at
 nothing-put o l = put-made refl (omega arith) (omega arith) l
 
--- one row more
-pub row-put :
-    (f : ℕ → List ℕ) (i : ℕ) {o o′ o″ : List ℕ} {at most mid end : ℕ} → Put o at (most * i) (rows i f) o′ mid → Put o′ mid most (f i) o″ end →
-    Put o at (most * (i + 1)) (rows (i + 1) f) o″ end
-unfolding rows
-row-put f i {most = most} p q = rw (add-one, mul-suc most i) (then-put p q)
-
 -- a buffer keeps its length
 pub same-length : {o o′ xs : List ℕ} {at a end : ℕ} → Put o at a xs o′ end → length o′ ≡ length o
 same-length {o} {xs = xs} {at = at} p = rw (p .text) (length-sets o at xs)
+
+-- A LOOP OVER ROWS of at most so many bytes each: those below i are written
+pub record Rowing (f : ℕ → List ℕ) (most n : ℕ) (o : List ℕ) (at i place : ℕ) (o-now : List ℕ) : Type 0 where
+  pub within : i ≤ n
+  pub put : Put o at (most * i) (rows i f) o-now place
+
+module _ (f : ℕ → List ℕ) {most n : ℕ} {o : List ℕ} {at : ℕ} where
+  pub rowing-start : at ≤ length o → Rowing f most n o at 0 at o
+  unfolding rows
+  rowing-start l = record { within = omega arith; put = rw (mul-zero most) (nothing-put o l) }
+
+  module _ {i place : ℕ} {o′ : List ℕ} (p : Rowing f most n o at i place o′) where
+    pub rowing-room : at + most * n ≤ length o → i < n → place + most ≤ length o′
+    rowing-room room l =
+        let e = same-length (p .put) in
+        let near = p .put .near in
+        let more = mul-le-mul-left most l in let one = mul-suc most i in omega arith
+
+    pub rowing-turn :
+        {place′ : ℕ} {o″ : List ℕ} → i < n → Put o′ place most (f i) o″ place′ → Rowing f most n o at (i + 1) place′ o″
+    unfolding rows
+    rowing-turn l q = record { within = omega arith; put = rw (add-one, mul-suc most i) (then-put (p .put) q) }
+
+    pub rowing-end : n ≤ i → Put o at (most * n) (rows n f) o′ place
+    rowing-end l = let k = p .within in let e : i ≡ n = omega arith in rw e at (p .put)
 
 -- THE LOOP OF `put_text`: the bytes passed are copied
 pub record Copied (xs o : List ℕ) (at i : ℕ) (o-now : List ℕ) : Type 0 where

@@ -103,15 +103,17 @@ unfolding reading-of between
 ready-start w e =
     rw e (record { counted = omega arith; small = omega arith; placed = λ q. absurd (clash q refl) })
 
+-- no word is written: the scan has the numbers that stand there
+kept :
+    {r r′ : Reading} {w : List ℕ} {s : Scan} → Ready r w → s .numbers ≡ take (r .count) w → r′ ≡ reading-of s → Ready r′ w →
+    Became s w r′ w
+unfolding stored
+kept {r} {w = w} a e reading ready =
+    record { reading = reading; words = rw (e, counts a) (sym (take-append-drop (r .count) w)); same = refl; ready = ready }
+
 pub unchanged : {r : Reading} {w : List ℕ} → Ready r w → Became (scan-of r w) w r w
-unfolding scan-of reading-of stored
-unchanged {r} {w} a =
-    record {
-      reading = rw (counts a);
-      words = rw (counts a) (sym (take-append-drop (r .count) w));
-      same = refl;
-      ready = a;
-    }
+unfolding scan-of reading-of
+unchanged a = kept a refl (rw (counts a)) a
 
 -- EACH WAY OF `ended`
 ended-between : (s : Scan) → s .within ≡ false → ended s ≡ s
@@ -122,12 +124,9 @@ pub ended-none : {r : Reading} {w : List ℕ} → Ready r w → r .within ≡ fa
 unfolding scan-of
 ended-none {r} {w} a e = rw (ended-between (scan-of r w) e) (unchanged a)
 
--- the number under way fits a word, and has its place
+-- the number under way fits a word
 pub fits16 : {r : Reading} {w : List ℕ} → Ready r w → Fits w16 (r .value)
 fits16 a = record { fits = omega arith }
-
-pub placed : {r : Reading} {w : List ℕ} → Ready r w → r .within ≡ true → r .count < length w
-placed a e = a .placed e
 
 -- one number more
 pub one-stored :
@@ -151,27 +150,16 @@ one-stored {r} {w} a e =
 -- EACH WAY OF `with_byte`
 -- a fault
 failed : {r : Reading} {w : List ℕ} → Ready r w → Became (fault (scan-of r w .numbers)) w (failed-after (r .count)) w
-unfolding scan-of reading-of stored fault failed-after
-failed {r} {w} a =
-    record {
-      reading = rw (counts a);
-      words = rw (counts a) (sym (take-append-drop (r .count) w));
-      same = refl;
-      ready = record { counted = a .counted; small = omega arith; placed = λ q. absurd (clash q refl) };
-    }
+unfolding scan-of reading-of fault failed-after
+failed a =
+    kept a refl (rw (counts a)) (record { counted = a .counted; small = omega arith; placed = λ q. absurd (clash q refl) })
 
 -- one digit more
 digit :
     {r : Reading} {w : List ℕ} → Ready r w → (v : ℕ) → r .count < length w → v ≤ largest-word word-bits →
     Became (under-way (scan-of r w .numbers) v) w (record { count = r .count; value = v; within = true; failed = false }) w
-unfolding scan-of reading-of stored under-way
-digit {r} {w} a v l m =
-    record {
-      reading = rw (counts a);
-      words = rw (counts a) (sym (take-append-drop (r .count) w));
-      same = refl;
-      ready = record { counted = a .counted; small = m; placed = λ q. l };
-    }
+unfolding scan-of reading-of under-way
+digit a v l m = kept a refl (rw (counts a)) (record { counted = a .counted; small = m; placed = λ q. l })
 
 module _ {r : Reading} {w : List ℕ} (a : Ready r w) (c : ℕ) where
   pub byte-nothing : r .failed ≡ true → Became (with-byte (bounds-of w) (scan-of r w) c) w r w

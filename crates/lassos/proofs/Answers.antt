@@ -43,7 +43,7 @@ module _ {range : Limits} {t u v w w-now : List ℕ} where
   says-taken h =
       let n = number-taken (lasso-refusal range t u v (length w)) (takes? (meaning t) u v) (h .answer) in
       let a = accepted range t u v (length w) (n .0) in
-      (n .0, takes-right (meaning t) u v (meaning-closed (valid range t (a .valid))) (a .endless) .0 (n .1))
+      (n .0, takes-right (meaning t) u v (meaning-closed (valid range t (a .valid))) (a .lasso .endless) .0 (n .1))
 
   -- not taken: they are not refused, and it has none
   pub says-not-taken :
@@ -52,7 +52,7 @@ module _ {range : Limits} {t u v w w-now : List ℕ} where
   says-not-taken h =
       let n = number-not-taken (lasso-refusal range t u v (length w)) (takes? (meaning t) u v) (h .answer) in
       let a = accepted range t u v (length w) (n .0) in
-      (n .0, takes-not (meaning t) u v (meaning-closed (valid range t (a .valid))) (a .endless) (n .1))
+      (n .0, takes-not (meaning t) u v (meaning-closed (valid range t (a .valid))) (a .lasso .endless) (n .1))
 
   -- refused: by this number, which is not zero
   pub says-refused : {r : ℕ} → Lasso-says range t u v (Refused r) w w-now → (lasso-refusal range t u v (length w) ≡ r) × (1 ≤ r)

@@ -63,20 +63,28 @@ module _ {n : ℕ} {w w′ : List ℕ} (r : Redder n w w′) where
   pub stays-grey : (x : ℕ) → x < n → colour w x ≡ 1 → colour w′ x ≡ 1
   stays-grey x l k = elim (r .turned x l) [ inl s ↦ s ∙ k | inr s ↦ absurd (let j = s .0 in omega arith) ]
 
-  pub was-grey : (x : ℕ) → x < n → colour w′ x ≡ 1 → colour w x ≡ 1
-  was-grey x l k = elim (r .turned x l) [ inl s ↦ sym s ∙ k | inr s ↦ absurd (let j = s .1 in omega arith) ]
+  -- no node gets another colour than red
+  had-colour : (c : ℕ) → c < 3 → (x : ℕ) → x < n → colour w′ x ≡ c → colour w x ≡ c
+  had-colour c few x l k = elim (r .turned x l) [ inl s ↦ sym s ∙ k | inr s ↦ absurd (let j = s .1 in omega arith) ]
 
   pub was-white : (x : ℕ) → x < n → colour w′ x ≡ 0 → colour w x ≡ 0
-  was-white x l k = elim (r .turned x l) [ inl s ↦ sym s ∙ k | inr s ↦ absurd (let j = s .1 in omega arith) ]
+  was-white = had-colour 0 (omega arith)
+
+  pub was-grey : (x : ℕ) → x < n → colour w′ x ≡ 1 → colour w x ≡ 1
+  was-grey = had-colour 1 (omega arith)
 
   pub was-black : (x : ℕ) → x < n → colour w′ x ≡ 2 → colour w x ≡ 2
-  was-black x l k = elim (r .turned x l) [ inl s ↦ sym s ∙ k | inr s ↦ absurd (let j = s .1 in omega arith) ]
+  was-black = had-colour 2 (omega arith)
+
+  -- and none was less than black that is red now
+  had-least : (c : ℕ) → c ≤ 2 → (x : ℕ) → x < n → c ≤ colour w′ x → c ≤ colour w x
+  had-least c few x l o = elim (r .turned x l) [ inl s ↦ omega arith | inr s ↦ (let j = s .0 in omega arith) ]
 
   pub was-visited : (x : ℕ) → x < n → 1 ≤ colour w′ x → 1 ≤ colour w x
-  was-visited x l o = elim (r .turned x l) [ inl s ↦ omega arith | inr s ↦ (let j = s .0 in omega arith) ]
+  was-visited = had-least 1 (omega arith)
 
   pub was-finished : (x : ℕ) → x < n → 2 ≤ colour w′ x → 2 ≤ colour w x
-  was-finished x l o = elim (r .turned x l) [ inl s ↦ omega arith | inr s ↦ (let j = s .0 in omega arith) ]
+  was-finished = had-least 2 (omega arith)
 
   pub stays-visited : (x : ℕ) → x < n → 1 ≤ colour w x → 1 ≤ colour w′ x
   stays-visited x l o = elim (r .turned x l) [ inl s ↦ omega arith | inr s ↦ (let j = s .1 in omega arith) ]

@@ -94,7 +94,7 @@ module _ {wd : Width} (fits : Width-fits wd) {t u v w : List ℕ} (a : Takes-ask
           valid = not-refused .valid;
           counted = is-states;
           sized = takes-sized;
-          endless = not-refused .endless;
+          endless = not-refused .lasso .endless;
           small = let k = fits .work in omega arith;
           machine = let k = fits .machine in omega arith;
           records = let k = fits .records in let l = sound .records-to in omega arith;
@@ -103,7 +103,7 @@ module _ {wd : Width} (fits : Width-fits wd) {t u v w : List ℕ} (a : Takes-ask
     -- the words of the colours are among the work words
     pub colours-inside : (length u + length v) * states / 16 + 1 ≤ length w
     colours-inside =
-        let p : 1 ≤ length u + length v = (let o = not-refused .endless in omega arith) in
+        let p : 1 ≤ length u + length v = (let o = not-refused .lasso .endless in omega arith) in
         let q : 1 ≤ states = (let k = sound .states-from in omega arith) in
         let some : 1 ≤ (length u + length v) * states = mul-le-mul p q in
         let s = takes-sized in
@@ -129,18 +129,18 @@ module _ {wd : Width} (fits : Width-fits wd) {t u v w : List ℕ} (a : Takes-ask
   -- what the search finds is what the automaton takes
   pub takes-end : {r : Bool} → Searched (product-graph t u v) r → r ≡ takes? (meaning t) u v
   takes-end (found f) =
-      let o = not-refused .endless in
+      let o = not-refused .lasso .endless in
       let closed = meaning-closed sound in
       sym (takes-right (meaning t) u v closed o .1 (cycle-takes closed o (found-cycle sound u v o f)))
   takes-end (nothing n) =
-      let o = not-refused .endless in
+      let o = not-refused .lasso .endless in
       let closed = meaning-closed sound in
       sym
       (not-both (takes? (meaning t) u v)
       (λ e. n (cycle-found sound u v o (takes-cycle o (takes-right (meaning t) u v closed o .0 e)))))
 
 -- THE ANSWERS by number
-as-refused : (r : ℕ) (b : Bool) → (r ≡ 0 → ⊥) → Refused r ≡ as-decision r b
+pub as-refused : (r : ℕ) (b : Bool) → (r ≡ 0 → ⊥) → Refused r ≡ as-decision r b
 unfolding as-decision
 as-refused zero b ne = absurd (ne refl)
 as-refused (suc r) b ne = refl

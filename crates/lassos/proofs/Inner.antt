@@ -8,6 +8,7 @@ use Prim.Native.Nat.{ℕ, suc, _+_, _*_, _≤_, _<_}
 use native.Mathlib.Omega.{arith}
 use lib.ListN.{length}
 use Rattle.basics.proofs.Booleans.{same-or, below-or}
+use Rattle.basics.proofs.Bounded.{one-entry-more}
 use Rattle.lassos.specs.Graph.{Graph, Arc, Bounded, Way, stay, onward}
 use Rattle.lassos.specs.Search.{colour, waiting, blacks, Redder, Red-closed, Inner-asks, Inner-says, Spread-over, None, Waiting, Since, Drained, met, none}
 use Rattle.lassos.proofs.Colours.{coloured-le, coloured-less, redder-same, redder-redder, stays-red, was-grey, was-white, was-black, was-finished, stays-visited, red-or-new}
@@ -76,12 +77,8 @@ module _ {n : ℕ} {To Left Left′ : ℕ → Type 0} {w w1 : List ℕ} {a b : �
     push-blacks =
         coloured-less 2 n w1 w2 (was-black push-redder) y (below y target) black (λ z. let k = e .here in omega arith)
 
-    push-place : (i : ℕ) → a ≤ i → i < suc b → ((i ≡ b) × (waiting n w2 i ≡ y)) ⊎ ((i < b) × (waiting n w2 i ≡ waiting n w1 i))
-    push-place i low high =
-        elim (same-or i b) [
-          | inl s ↦ inl (s, rw s (e .last))
-          | inr ne ↦ let lt : i < b = omega arith in inr (lt, e .before i lt)
-        ]
+    push-place : (i : ℕ) → i < suc b → ((i ≡ b) × (waiting n w2 i ≡ y)) ⊎ ((i < b) × (waiting n w2 i ≡ waiting n w1 i))
+    push-place = one-entry-more (e .last) (e .before)
 
     pub spread-push : Spread-over n To Left′ w w2 a (suc b)
     spread-push =
@@ -93,12 +90,12 @@ module _ {n : ℕ} {To Left Left′ : ℕ → Type 0} {w w1 : List ℕ} {a b : �
           old = λ i l. e .before i (let k = h .rises in omega arith) ∙ h .old i l;
           inside =
               λ i l m.
-              elim (push-place i l m) [ inl s ↦ rw (s .1) (below y target) | inr s ↦ rw (s .1) (h .inside i l (s .0)) ];
+              elim (push-place i m) [ inl s ↦ rw (s .1) (below y target) | inr s ↦ rw (s .1) (h .inside i l (s .0)) ];
           targets =
-              λ i l m. elim (push-place i l m) [ inl s ↦ rw (s .1) target | inr s ↦ rw (s .1) (h .targets i l (s .0)) ];
+              λ i l m. elim (push-place i m) [ inl s ↦ rw (s .1) target | inr s ↦ rw (s .1) (h .targets i l (s .0)) ];
           reds =
               λ i l m.
-              elim (push-place i l m) [
+              elim (push-place i m) [
                 | inl s ↦ rw (s .1) (e .here)
                 | inr s ↦ rw (s .1) (stays-red push-redder (waiting n w1 i) (h .inside i l (s .0)) (h .reds i l (s .0)))
               ];

@@ -8,6 +8,7 @@ use Prim.Native.Nat.{ℕ, zero, suc, _≤_, _<_}
 use native.Mathlib.Omega.{arith}
 use lib.ListN.{length}
 use Rattle.basics.proofs.Booleans.{clash, same-or}
+use Rattle.basics.proofs.Bounded.{one-entry-more}
 use Rattle.lassos.specs.Graph.{Graph, Arc, Bounded, Way, stay, onward, Node-reached, Cycle, Found}
 use Rattle.lassos.specs.Search.{colour, stacked, cursor, whites, Search, Grows, Redder, Red-closed}
 use Rattle.lassos.proofs.Colours.{grows-grows, coloured-mono, coloured-less, stays-visited, stays-grey, was-grey, was-white, was-visited, was-finished}
@@ -54,11 +55,7 @@ module _ {g : Graph} (closed : Bounded g) where
       kept-colour i b = e .others (stacked (g .size) w i) (h .inside i b) (other-stacked i b) ∙ h .grey i b
 
       enter-stack : (i : ℕ) → i < suc d → ((i ≡ d) × (stacked (g .size) w′ i ≡ x)) ⊎ ((i < d) × (stacked (g .size) w′ i ≡ stacked (g .size) w i))
-      enter-stack i b =
-          elim (same-or i d) [
-            | inl s ↦ inl (s, rw s (e .top))
-            | inr ne ↦ let lt : i < d = omega arith in inr (lt, e .below i lt)
-          ]
+      enter-stack = one-entry-more (e .top) (e .below)
 
       enter-linked : (i : ℕ) → suc i < suc d → Arc g (stacked (g .size) w′ i) (stacked (g .size) w′ (suc i))
       enter-linked i b =

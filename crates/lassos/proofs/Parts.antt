@@ -8,10 +8,10 @@ use native.Mathlib.Nat.{mul-le-mul}
 use lib.Dec.{ltb, eqb}
 use lib.ListN.{length, getD}
 use Rattle.basics.specs.Buffers.{or-else}
-use Rattle.basics.proofs.Booleans.{eq-eqb, eqb-ne, ne-eqb, lt-ltb, ge-ltb, ltb-ge, or-false-l, or-false-r}
+use Rattle.basics.proofs.Booleans.{and-l, and-r, false-not, eq-eqb, eqb-ne, ne-eqb, lt-ltb, ge-ltb, ltb-ge, or-false, both-within}
 use Rattle.basics.proofs.Refusing.{passed, or-else-none}
 use Rattle.basics.proofs.Scans.{scan-fails}
-use Rattle.automata.specs.Lasso.{all-below}
+use Rattle.automata.specs.Lasso.{all-below, Lasso}
 use Rattle.tables.specs.Table.{Limits, n-of, k-of, table-refusal}
 use Rattle.lassos.specs.Refusals.{longest-part, parts-refusal, lasso-refusal}
 
@@ -24,40 +24,42 @@ not-below k u i l b = scan-fails (λ j. ltb (getD u j 0) k) (length u) i l (ge-l
 module _ (n k : ℕ) (u v : List ℕ) (w : ℕ) where
   pub parts-13 : length v ≡ 0 → 13 ≡ parts-refusal n k u v w
   unfolding parts-refusal
-  parts-13 e = let a = eq-eqb e in cc
+  parts-13 e = cc (eq-eqb e)
 
   module _ (some : length v ≡ 0 → ⊥) where
+    past-13 : eqb (length v) 0 ≡ false
+    past-13 = ne-eqb (length v) 0 some
+
     pub parts-14-prefix : longest-part < length u → 14 ≡ parts-refusal n k u v w
     unfolding parts-refusal
-    parts-14-prefix l = let a = ne-eqb (length v) 0 some in let b = lt-ltb l in cc
+    parts-14-prefix l = cc (past-13, lt-ltb l)
 
     module _ (short : length u ≤ longest-part) where
       pub parts-14-loop : longest-part < length v → 14 ≡ parts-refusal n k u v w
       unfolding parts-refusal
-      parts-14-loop l = let a = ne-eqb (length v) 0 some in let b = ge-ltb short in let c = lt-ltb l in cc
+      parts-14-loop l = cc (past-13, ge-ltb short, lt-ltb l)
 
       module _ (short′ : length v ≤ longest-part) {p : Bool} (is-p : p ≡ all-below k u) where
+        past-14 : (ltb longest-part (length u) || ltb longest-part (length v)) ≡ false
+        past-14 = or-false (ge-ltb short) (ge-ltb short′)
+
         pub parts-15-prefix : p ≡ false → 15 ≡ parts-refusal n k u v w
         unfolding parts-refusal
-        parts-15-prefix e = let a = ne-eqb (length v) 0 some in let b = ge-ltb short in let c = ge-ltb short′ in cc
+        parts-15-prefix e = cc (past-13, past-14)
 
         module _ (yes-p : p ≡ true) {q : Bool} (is-q : q ≡ all-below k v) where
           pub parts-15-loop : q ≡ false → 15 ≡ parts-refusal n k u v w
           unfolding parts-refusal
-          parts-15-loop e = let a = ne-eqb (length v) 0 some in let b = ge-ltb short in let c = ge-ltb short′ in cc
+          parts-15-loop e = cc (past-13, past-14)
 
           module _ (yes-q : q ≡ true) where
             pub parts-16 : w < 4 * n * (length u + length v) → 16 ≡ parts-refusal n k u v w
             unfolding parts-refusal
-            parts-16 l =
-                let a = ne-eqb (length v) 0 some in
-                let b = ge-ltb short in let c = ge-ltb short′ in let d = lt-ltb l in cc
+            parts-16 l = cc (past-13, past-14, lt-ltb l)
 
             pub parts-pass : 4 * n * (length u + length v) ≤ w → 0 ≡ parts-refusal n k u v w
             unfolding parts-refusal
-            parts-pass l =
-                let a = ne-eqb (length v) 0 some in
-                let b = ge-ltb short in let c = ge-ltb short′ in let d = ge-ltb l in cc
+            parts-pass l = cc (past-13, past-14, ge-ltb l)
 
 -- the words that are needed are a number of 64 bits
 pub needed-fits : (n a b : ℕ) → n < 2 ^ 32 → a ≤ longest-part → b ≤ longest-part → 4 * n * (a + b) < 2 ^ 64
@@ -80,24 +82,26 @@ module _ (range : Limits) (t u v : List ℕ) (w : ℕ) where
 -- WHAT IS NOT REFUSED
 pub record Accepted (range : Limits) (t u v : List ℕ) (w : ℕ) : Type 0 where
   pub valid : table-refusal range t ≡ 0
-  pub endless : 1 ≤ length v
+  pub lasso : Lasso (k-of t) u v
   pub prefix-short : length u ≤ longest-part
   pub loop-short : length v ≤ longest-part
   pub room : 4 * n-of t * (length u + length v) ≤ w
 
 parts-past :
     (n k : ℕ) (u v : List ℕ) (w : ℕ) → parts-refusal n k u v w ≡ 0 →
-    (1 ≤ length v) × (length u ≤ longest-part) × (length v ≤ longest-part) × (4 * n * (length u + length v) ≤ w)
+    Lasso k u v × (length u ≤ longest-part) × (length v ≤ longest-part) × (4 * n * (length u + length v) ≤ w)
 unfolding parts-refusal
 parts-past n k u v w h =
     let a = passed (eqb (length v) 0) 12 _ h in
     let b = passed (ltb longest-part (length u) || ltb longest-part (length v)) 13 _ (a .1) in
     let c = passed (not (all-below k u && all-below k v)) 14 _ (b .1) in
     let d = passed (ltb w (4 * n * (length u + length v))) 15 0 (c .1) in
-    let some = eqb-ne (length v) 0 (a .0) in (
-      omega arith,
-      ltb-ge longest-part (length u) (or-false-l (ltb longest-part (length u)) (ltb longest-part (length v)) (b .0)),
-      ltb-ge longest-part (length v) (or-false-r (ltb longest-part (length u)) (ltb longest-part (length v)) (b .0)),
+    let some = eqb-ne (length v) 0 (a .0) in
+    let both = false-not (all-below k u && all-below k v) (c .0) in
+    let (prefix-short, loop-short) = both-within longest-part (length u) longest-part (length v) (b .0) in (
+      record { prefix = and-l (all-below k v) both; loop = and-r (all-below k u) both; endless = omega arith },
+      prefix-short,
+      loop-short,
       ltb-ge w (4 * n * (length u + length v)) (d .0),
     )
 
@@ -108,7 +112,7 @@ accepted range t u v w h =
     let parts = parts-past (n-of t) (k-of t) u v w (both .1) in
     record {
       valid = both .0;
-      endless = parts .0;
+      lasso = parts .0;
       prefix-short = parts .1;
       loop-short = parts .2;
       room = parts .3;

@@ -1,7 +1,7 @@
 -- The product graph of a valid table and a lasso: its edges stay inside, and an accepting node that is reached and lies on a
 -- cycle is an accepting cycle of the table's automaton over the lasso, and back. Assumes nothing.
 use mathlib.Core.Path.{_≡_, refl, sym, _∙_, ap}
-use mathlib.Core.Bool.{true, _&&_, _||_, not}
+use mathlib.Core.Bool.{true, _&&_}
 use mathlib.Core.List.{List}
 use mathlib.Core.Logic.{_⊎_, inl, inr}
 use Prim.Native.Nat.{ℕ, zero, suc, _+_, _*_, _/_, _%_, _≤_, _<_}
@@ -10,11 +10,11 @@ use native.Mathlib.Nat.{mod-lt, mod-eq-of-lt, div-eq-of-lt, zero-add, zero-mul}
 use lib.Arith.{digits-lt, digits-div, digits-mod}
 use lib.Dec.{ltb, eqb}
 use lib.ListN.{length}
-use Rattle.basics.proofs.Booleans.{and-l, and-r, and-make, or-l, or-r, or-true, true-not, eqb-eq, eqb-self, eq-eqb, eqb-ne, ltb-lt, lt-ltb, clash}
-use Rattle.automata.specs.Lasso.{positions, position-letter, next-position, Walk, stay, onward, Accepting-cycle}
+use Rattle.basics.proofs.Booleans.{and-l, and-r, and-make, or-l, or-r, eqb-self, eq-eqb, ltb-lt, lt-ltb, clash}
+use Rattle.automata.specs.Lasso.{positions, position-letter, next-position, Walk, Accepting-cycle}
 use Rattle.automata.proofs.Positions.{next-below}
 use Rattle.tables.specs.Table.{Limits, n-of, m-of, head-of, letter-of, target-of, next-of, is-initial, chain-has, edge, meaning}
-use Rattle.tables.proofs.Laws.{Valid, chain-step}
+use Rattle.tables.proofs.Laws.{Valid, chain-step, chain-cases}
 use Rattle.lassos.specs.Graph.{Arc, Bounded, Way, Found}
 use Rattle.lassos.specs.Product.{Chain-to, here, later, node-letter, node-base, product-graph}
 
@@ -56,14 +56,9 @@ pub edge-chain : (f : ℕ) (t : List ℕ) (r c b q : ℕ) → chain-has f t r c 
 unfolding chain-has
 edge-chain zero t r c b q h = absurd (clash h refl)
 edge-chain (suc f) t r c b q h =
-    let this = (eqb (letter-of t r) c && eqb (target-of t r) q) in
-    let rest = chain-has f t (next-of t r) c q in
-    let ne = eqb-ne r 0 (true-not (eqb r 0) (and-l (this || rest) h)) in
-    let o : 1 ≤ r = omega arith in
-    elim (or-true this rest (and-r (not (eqb r 0)) h)) [
-      | inl e ↦
-          here o (eqb-eq (letter-of t r) c (and-l (eqb (target-of t r) q) e))
-          (ap (λ (z : ℕ). b + z) (eqb-eq (target-of t r) q (and-r (eqb (letter-of t r) c) e)))
+    let (o, parts) = chain-cases f t r c q h in
+    elim parts [
+      | inl (p, e) ↦ here o p (ap (λ (z : ℕ). b + z) e)
       | inr e ↦ later o (edge-chain f t (next-of t r) c b q e)
     ]
 

@@ -46,7 +46,7 @@ fn letters_below(part: &[u8], k: usize) -> bool
 }
 
 // The first of refusals 13 to 16 that a lasso meets for a table of n states and k letters and so many work words, or zero.
-pub fn parts_refusal(n: usize, k: usize, prefix: &[u8], cycle: &[u8], work: usize) -> u32
+fn parts_refusal(n: usize, k: usize, prefix: &[u8], cycle: &[u8], work: usize) -> u32
     requires { ⌜ n < 2 ^ 32 ⌝ }
     ensures { λ r. ⌜ r ≡ parts-refusal n k (now (prefix .entry)) (now (cycle .entry)) work ⌝ }
 {

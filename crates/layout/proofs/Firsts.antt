@@ -10,7 +10,7 @@ use native.Mathlib.Omega.{arith}
 use lib.Dec.{ltb, eqb}
 use lib.ListN.{length}
 use Rattle.basics.specs.Bounded.{count}
-use Rattle.basics.proofs.Booleans.{either, clash, and-l, and-r, and-make, and-false-r, eqb-eq, eq-eqb, eqb-ne, ne-eqb, ltb-lt, ltb-ge, lt-ltb, ge-ltb}
+use Rattle.basics.proofs.Booleans.{either, clash, and-l, and-r, and-make, and-false-r, eqb-eq, eq-eqb, eqb-ne, ne-eqb, ltb-lt, lt-ltb, ge-ltb, below-or}
 use Rattle.basics.proofs.Counting.{count-only}
 use Rattle.basics.proofs.Upward.{upward}
 use Rattle.automata.specs.Automaton.{Automaton}
@@ -47,21 +47,15 @@ first-is s i (f ∷ es) = go (either (eqb (f .source) i)) (first-is (suc s) i es
 pub first-new :
     (es : List Edge) (r : ℕ) → r < length es → ((d : ℕ) → d < r → edge-at es d .source ≡ edge-at es r .source → ⊥) →
     first-record 1 (edge-at es r .source) es ≡ suc r
-first-new es r l new = go (first-is 1 (edge-at es r .source) es)
-  where
-    go :
-        First 1 (edge-at es r .source) es (first-record 1 (edge-at es r .source) es) →
-        first-record 1 (edge-at es r .source) es ≡ suc r
-    go (absent z before) = absurd (before r l refl)
-    go (first-at e z m h before) =
-        elim (either (ltb e r)) [
-          | inl p ↦ absurd (new e (ltb-lt e r p) h)
-          | inr p ↦
-              elim (either (ltb r e)) [
-                | inl q ↦ absurd (before r (ltb-lt r e q) refl)
-                | inr q ↦ let x = ltb-ge e r p in let y = ltb-ge r e q in omega arith
-              ]
-        ]
+first-new es r l new =
+    elim (first-is 1 (edge-at es r .source) es) [
+      | absent z before ↦ absurd (before r l refl)
+      | first-at e z m h before ↦
+          elim (below-or e r) [
+            | inl p ↦ absurd (new e p h)
+            | inr p ↦ elim (below-or r e) [ inl q ↦ absurd (before r q refl) | inr q ↦ omega arith ]
+          ]
+    ]
 
 -- one edge more: it is the first of its source if there was none before
 pub first-snoc :

@@ -1,18 +1,18 @@
--- The words of a chained table in a lent buffer, said of each index by itself; and how flags are set in a table that has none. Assumes nothing.
+-- The words of a chained table in a buffer, said of each index by itself; what a table reads in them; and how flags are set in a table that
+-- has none. Assumes nothing.
 use mathlib.Core.Path.{_≡_, refl, sym, _∙_}
 use mathlib.Core.List.{List}
-use mathlib.Core.Logic.{inl, inr}
-use Prim.Native.Nat.{ℕ, zero, suc, _+_, _*_, _-_, _/_, _≤_, _<_}
+use Prim.Native.Nat.{ℕ, suc, _+_, _*_, _≤_, _<_}
 use native.Mathlib.Omega.{arith}
 use borrow.Author.Count.{below-more}
-use lib.Dec.{ltb, eqb}
 use lib.ListN.{length, getD, set, length-set, List·getD-eq-default}
 use lib.Seq.{ext-getD, getD-set-same, getD-set-other}
 use Rattle.basics.specs.Buffers.{filled}
-use Rattle.basics.proofs.Booleans.{either, eqb-eq, eqb-ne, ltb-lt, ltb-ge}
 use Rattle.basics.proofs.Filled.{filled-length, filled-at}
 use Rattle.automata.specs.Automaton.{Automaton}
 use Rattle.automata.specs.System.{Edge, edge-at}
+use Rattle.tables.specs.Table.{table-words, n-of, k-of, m-of, flags-of, head-of, letter-of, target-of, next-of}
+use Rattle.tables.proofs.Places.{Word-place, states-place, letters-place, records-place, flags-place, head-place, letter-place, target-place, next-place, beyond-place, place-of, letter-at, target-at, next-at}
 use Rattle.layout.specs.Chained.{first-record, next-record, flags-word, record-row, state-row, chained-words}
 use Rattle.layout.specs.Triples.{plain}
 use Rattle.layout.proofs.Words.{chained-length, state-word, record-word}
@@ -27,62 +27,45 @@ pub record Indexed (a : Automaton) (es : List Edge) (w : List ℕ) : Type 0 wher
   pub letter : (r : ℕ) → r < length es → getD w (3 + 2 * a .states + 3 * r) 0 ≡ edge-at es r .letter
   pub target : (r : ℕ) → r < length es → getD w (4 + 2 * a .states + 3 * r) 0 ≡ edge-at es r .target
   pub next : (r : ℕ) → r < length es → getD w (5 + 2 * a .states + 3 * r) 0 ≡ next-record es r
-  pub beyond : (i : ℕ) → 3 + 2 * a .states + 3 * length es ≤ i → getD w i 0 ≡ 0
+  pub beyond : (i : ℕ) → table-words (a .states) (length es) ≤ i → getD w i 0 ≡ 0
 
--- what stands at an index
-data Place (n m i : ℕ) : Type 0 where
-  states-place : i ≡ 0 → Place n m i
-  letters-place : i ≡ 1 → Place n m i
-  records-place : i ≡ 2 → Place n m i
-  flags-place : (q : ℕ) → q < n → i ≡ 3 + 2 * q → Place n m i
-  head-place : (q : ℕ) → q < n → i ≡ 4 + 2 * q → Place n m i
-  letter-place : (r : ℕ) → r < m → i ≡ 3 + 2 * n + 3 * r → Place n m i
-  target-place : (r : ℕ) → r < m → i ≡ 4 + 2 * n + 3 * r → Place n m i
-  next-place : (r : ℕ) → r < m → i ≡ 5 + 2 * n + 3 * r → Place n m i
-  beyond-place : 3 + 2 * n + 3 * m ≤ i → Place n m i
+-- SO A TABLE READS in them
+module _ {a : Automaton} {es : List Edge} {w : List ℕ} (x : Indexed a es w) where
+  pub indexed-n : n-of w ≡ a .states
+  unfolding n-of
+  indexed-n = x .states
 
-place-state : (n m i : ℕ) → 3 ≤ i → i < 3 + 2 * n → Place n m i
-place-state n m i a b =
-    let q = (i - 3) / 2 in
-    elim (either (eqb i (3 + 2 * q))) [
-      | inl e ↦ flags-place q (omega arith) (eqb-eq i (3 + 2 * q) e)
-      | inr e ↦ let ne = eqb-ne i (3 + 2 * q) e in head-place q (omega arith) (omega arith)
-    ]
+  pub indexed-k : k-of w ≡ a .letters
+  unfolding k-of
+  indexed-k = x .letters
 
-place-record : (n m i : ℕ) → 3 + 2 * n ≤ i → i < 3 + 2 * n + 3 * m → Place n m i
-place-record n m i a b =
-    let r = (i - (3 + 2 * n)) / 3 in
-    elim (either (eqb i (3 + 2 * n + 3 * r))) [
-      | inl e ↦ letter-place r (omega arith) (eqb-eq i (3 + 2 * n + 3 * r) e)
-      | inr e ↦
-          let ne = eqb-ne i (3 + 2 * n + 3 * r) e in
-          elim (either (eqb i (4 + 2 * n + 3 * r))) [
-            | inl f ↦ target-place r (omega arith) (eqb-eq i (4 + 2 * n + 3 * r) f)
-            | inr f ↦ let nf = eqb-ne i (4 + 2 * n + 3 * r) f in next-place r (omega arith) (omega arith)
-          ]
-    ]
+  pub indexed-m : m-of w ≡ length es
+  unfolding m-of
+  indexed-m = x .records
 
-place-of : (n m i : ℕ) → Place n m i
-place-of n m zero = states-place refl
-place-of n m (suc zero) = letters-place refl
-place-of n m (suc (suc zero)) = records-place refl
-place-of n m (suc (suc (suc i))) =
-    let j = suc (suc (suc i)) in
-    elim (either (ltb j (3 + 2 * n))) [
-      | inl e ↦ place-state n m j (omega arith) (ltb-lt j (3 + 2 * n) e)
-      | inr e ↦
-          elim (either (ltb j (3 + 2 * n + 3 * m))) [
-            | inl f ↦ place-record n m j (ltb-ge j (3 + 2 * n) e) (ltb-lt j (3 + 2 * n + 3 * m) f)
-            | inr f ↦ beyond-place (ltb-ge j (3 + 2 * n + 3 * m) f)
-          ]
-    ]
+  pub indexed-flags : (i : ℕ) → i < a .states → flags-of w i ≡ flags-word a i
+  unfolding flags-of
+  indexed-flags = x .flags
+
+  pub indexed-head : (i : ℕ) → i < a .states → head-of w i ≡ first-record 1 i es
+  unfolding head-of
+  indexed-head = x .head
+
+  pub indexed-letter : (r : ℕ) → r < length es → letter-of w (suc r) ≡ edge-at es r .letter
+  indexed-letter r l = letter-at w r ∙ rw indexed-n (x .letter r l)
+
+  pub indexed-target : (r : ℕ) → r < length es → target-of w (suc r) ≡ edge-at es r .target
+  indexed-target r l = target-at w r ∙ rw indexed-n (x .target r l)
+
+  pub indexed-next : (r : ℕ) → r < length es → next-of w (suc r) ≡ next-record es r
+  indexed-next r l = next-at w r ∙ rw indexed-n (x .next r l)
 
 module _ (a : Automaton) (es : List Edge) where
   -- two buffers with the words of one table agree
   indexed-same : {v w : List ℕ} → Indexed a es v → Indexed a es w → (i : ℕ) → getD v i 0 ≡ getD w i 0
   indexed-same {v} {w} x y i = go (place-of (a .states) (length es) i)
     where
-      go : Place (a .states) (length es) i → getD v i 0 ≡ getD w i 0
+      go : Word-place (a .states) (length es) i → getD v i 0 ≡ getD w i 0
       go (states-place e) = rw e (x .states ∙ sym (y .states))
       go (letters-place e) = rw e (x .letters ∙ sym (y .letters))
       go (records-place e) = rw e (x .records ∙ sym (y .records))
@@ -93,38 +76,48 @@ module _ (a : Automaton) (es : List Edge) where
       go (next-place r l e) = rw e (x .next r l ∙ sym (y .next r l))
       go (beyond-place l) = x .beyond i l ∙ sym (y .beyond i l)
 
+  -- words that agree at each index
+  indexed-by : {v w : List ℕ} → ((i : ℕ) → getD w i 0 ≡ getD v i 0) → Indexed a es v → Indexed a es w
+  indexed-by h x =
+      record {
+        states = h 0 ∙ x .states;
+        letters = h 1 ∙ x .letters;
+        records = h 2 ∙ x .records;
+        flags = λ i l. h (3 + 2 * i) ∙ x .flags i l;
+        head = λ i l. h (4 + 2 * i) ∙ x .head i l;
+        letter = λ r l. h (3 + 2 * a .states + 3 * r) ∙ x .letter r l;
+        target = λ r l. h (4 + 2 * a .states + 3 * r) ∙ x .target r l;
+        next = λ r l. h (5 + 2 * a .states + 3 * r) ∙ x .next r l;
+        beyond = λ i l. h i ∙ x .beyond i l;
+      }
+
+  -- THE TABLE'S OWN WORDS
+  pub chained-indexed : Indexed a es (chained-words a es)
+  unfolding chained-words state-row record-row
+  chained-indexed =
+      record {
+        states = refl;
+        letters = refl;
+        records = refl;
+        flags = λ i l. state-word a es i 0 l (omega arith) (3 + 2 * i) (omega arith);
+        head = λ i l. state-word a es i 1 l (omega arith) (4 + 2 * i) (omega arith);
+        letter = λ r l. record-word a es r 0 l (omega arith) (3 + 2 * a .states + 3 * r) (omega arith);
+        target = λ r l. record-word a es r 1 l (omega arith) (4 + 2 * a .states + 3 * r) (omega arith);
+        next = λ r l. record-word a es r 2 l (omega arith) (5 + 2 * a .states + 3 * r) (omega arith);
+        beyond =
+            λ i l.
+            let past : length (chained-words a es) ≤ i = (let long = chained-length a es in omega arith) in
+            List·getD-eq-default (chained-words a es) 0 past;
+      }
+
+  -- and a buffer that begins with them
   module _ (o : List ℕ) where
-    state-at-index : (i j : ℕ) → i < a .states → j < 2 → (p : ℕ) → p ≡ 3 + (2 * i + j) → getD (filled (chained-words a es) o) p 0 ≡ getD (state-row a es i) j 0
-    state-at-index i j l m p e =
-        filled-at (chained-words a es) o p ∙ rw e (state-word a es i j l m)
-
-    record-at-index :
-        (r j : ℕ) → r < length es → j < 3 → (p : ℕ) → p ≡ 3 + (2 * a .states + (3 * r + j)) →
-        getD (filled (chained-words a es) o) p 0 ≡ getD (record-row es r) j 0
-    record-at-index r j l m p e =
-        filled-at (chained-words a es) o p ∙ rw e (record-word a es r j l m)
-
     pub filled-indexed : Indexed a es (filled (chained-words a es) o)
-    unfolding filled chained-words state-row record-row
-    filled-indexed =
-        record {
-          states = refl;
-          letters = refl;
-          records = refl;
-          flags = λ i l. state-at-index i 0 l (omega arith) (3 + 2 * i) (omega arith);
-          head = λ i l. state-at-index i 1 l (omega arith) (4 + 2 * i) (omega arith);
-          letter = λ r l. record-at-index r 0 l (omega arith) (3 + 2 * a .states + 3 * r) (omega arith);
-          target = λ r l. record-at-index r 1 l (omega arith) (4 + 2 * a .states + 3 * r) (omega arith);
-          next = λ r l. record-at-index r 2 l (omega arith) (5 + 2 * a .states + 3 * r) (omega arith);
-          beyond =
-              λ i l.
-              let past : length (chained-words a es) ≤ i = (let long = chained-length a es in omega arith) in
-              filled-at (chained-words a es) o i ∙ List·getD-eq-default (chained-words a es) 0 past;
-        }
+    filled-indexed = indexed-by (filled-at (chained-words a es) o) chained-indexed
 
     -- so such a buffer is the table's words and zero beyond them
     pub indexed-filled :
-        (w : List ℕ) → Indexed a es w → length w ≡ length o → 3 + 2 * a .states + 3 * length es ≤ length o →
+        (w : List ℕ) → Indexed a es w → length w ≡ length o → table-words (a .states) (length es) ≤ length o →
         w ≡ filled (chained-words a es) o
     indexed-filled w x size room =
         let long = chained-length a es in
@@ -183,7 +176,7 @@ flagging-indexed a es x h =
     }
 
 pub flagging-end :
-    (a : Automaton) (es : List Edge) (o w v : List ℕ) → 3 + 2 * a .states + 3 * length es ≤ length o →
+    (a : Automaton) (es : List Edge) (o w v : List ℕ) → table-words (a .states) (length es) ≤ length o →
     w ≡ filled (chained-words (plain (a .states) (a .letters)) es) o → Flagging a (a .states) w v →
     v ≡ filled (chained-words a es) o
 unfolding plain

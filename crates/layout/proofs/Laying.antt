@@ -6,12 +6,12 @@ use native.Mathlib.Omega.{arith}
 use lib.ListN.{length, getD, drop, set, length-drop}
 use lib.Seq.{getD-append-add, getD-drop}
 use Rattle.basics.specs.Buffers.{filled}
-use Rattle.automata.specs.System.{an-edge}
+use Rattle.automata.specs.System.{an-edge, edge-at}
+use Rattle.automata.proofs.Graphs.{tabulate-length, tabulate-at, tabulate-same}
 use Rattle.layout.specs.Chained.{flags-word, chained-words}
 use Rattle.layout.specs.Steps.{Lay-out-asks, Moved, Cleared, moved-edges, Link-asks, Linked, with-counts}
 use Rattle.layout.specs.Triples.{triple-at, triples-of, plain}
 use Rattle.layout.proofs.Indexed.{Indexed, indexed-filled}
-use Rattle.layout.proofs.Triples.{triples-length, triples-at, triples-same, triple-same}
 
 pub counts-set : (n k m : ℕ) (w : List ℕ) → 3 ≤ length w → set (set (set w 0 n) 1 k) 2 m ≡ with-counts n k m w
 unfolding with-counts
@@ -45,14 +45,15 @@ module _
       }
 
   laid-edges : moved-edges v n m ≡ triples-of w m
-  unfolding moved-edges
+  unfolding moved-edges triple-at
   laid-edges =
-      triples-same (drop (2 * n) v) w m
+      tabulate-same m (triple-at (drop (2 * n) v)) (triple-at w)
       (λ e l.
-      triple-same (drop (2 * n) v) w e e
-      (dropped (3 + 3 * e) (omega arith) (omega arith))
-      (dropped (4 + 3 * e) (omega arith) (omega arith))
-      (dropped (5 + 3 * e) (omega arith) (omega arith)))
+      cc (
+        dropped (3 + 3 * e) (omega arith) (omega arith),
+        dropped (4 + 3 * e) (omega arith) (omega arith),
+        dropped (5 + 3 * e) (omega arith) (omega arith),
+      ))
     where
       dropped : (q : ℕ) → 3 ≤ q → q < 3 + 3 * m → getD (drop (2 * n) v) q 0 ≡ getD w q 0
       dropped q a b = getD-drop (2 * n) v q 0 ∙ moved-word (2 * n + q) q refl a b
@@ -73,9 +74,9 @@ module _
         ∙ moved-word p q e a b
 
     laid-indexed : Indexed (plain n k) (triples-of w m) (with-counts n k m z)
-    unfolding plain flags-word with-counts triple-at an-edge
+    unfolding plain flags-word with-counts triple-at an-edge edge-at
     laid-indexed =
-        let long = triples-length w m in
+        let long = tabulate-length m (triple-at w) in
         record {
           states = refl;
           letters = refl;
@@ -88,11 +89,11 @@ module _
           head = λ i l. behind-counts (4 + 2 * i) (omega arith) ∙ rw laid-edges at (links .heads i l);
           letter =
               λ r l.
-              rw (triples-at w m r (rw long at l))
+              rw (tabulate-at m (triple-at w) r (an-edge 0 0 0) (rw long at l))
               (record-word (3 + 2 * n + 3 * r) (3 + 3 * r) (omega arith) (omega arith) (omega arith) (λ s e. omega arith));
           target =
               λ r l.
-              rw (triples-at w m r (rw long at l))
+              rw (tabulate-at m (triple-at w) r (an-edge 0 0 0) (rw long at l))
               (record-word (4 + 2 * n + 3 * r) (4 + 3 * r) (omega arith) (omega arith) (omega arith) (λ s e. omega arith));
           next =
               λ r l. behind-counts (5 + 2 * n + 3 * r) (omega arith) ∙ rw laid-edges at (links .nexts r (omega arith));
@@ -108,7 +109,7 @@ module _
     pub laid-out : with-counts n k m z ≡ filled (chained-words (plain n k) (triples-of w m)) w
     unfolding plain with-counts
     laid-out =
-        let long = triples-length w m in
+        let long = tabulate-length m (triple-at w) in
         let room = ask .room in
         let rest = length-drop 3 z in
         indexed-filled (plain n k) (triples-of w m) w (with-counts n k m z) laid-indexed (omega arith) (omega arith)

@@ -5,6 +5,5 @@ pub mod Linking
 pub mod Meaning
 pub mod Rising
 pub mod Shifting
-pub mod Triples
 pub mod Valid
 pub mod Words

@@ -9,13 +9,14 @@ use native.Mathlib.Omega.{arith}
 use lib.Dec.{ltb, eqb}
 use lib.ListN.{length, getD, drop, set, length-set}
 use lib.Seq.{getD-set-same, getD-set-other, getD-drop}
-use Rattle.basics.proofs.Booleans.{either, and-make, and-false-l, and-false-r, eqb-eq, eq-eqb, eqb-ne, ne-eqb, ltb-lt, lt-ltb, ge-ltb}
+use Rattle.basics.proofs.Booleans.{either, and-make, and-false-l, and-false-r, eqb-eq, eq-eqb, eqb-ne, ne-eqb, ltb-lt, lt-ltb, ge-ltb, same-or}
+use Rattle.automata.specs.Decision.{tabulate}
 use Rattle.automata.specs.System.{an-edge, edge-at}
+use Rattle.automata.proofs.Graphs.{tabulate-length, tabulate-at, tabulate-snoc}
 use Rattle.layout.specs.Chained.{first-record, next-record}
 use Rattle.layout.specs.Steps.{behind, with-head, moved-edges, Link-asks, Link-one-asks, linked-one, Linked}
 use Rattle.layout.specs.Triples.{triple-at, triples-of}
 use Rattle.layout.proofs.Firsts.{first-snoc}
-use Rattle.layout.proofs.Triples.{triples-length, triples-at}
 
 -- THE NEXT OF ONE EDGE
 module _ (n m r : ℕ) (w : List ℕ) where
@@ -95,13 +96,13 @@ module _ (n m r : ℕ) (w : List ℕ) where
 -- EDGES BEHIND THE STATE WORDS
 pub moved-length : (w : List ℕ) (n m : ℕ) → length (moved-edges w n m) ≡ m
 unfolding moved-edges
-moved-length w n m = triples-length (drop (2 * n) w) m
+moved-length w n m = tabulate-length m (triple-at (drop (2 * n) w))
 
 pub moved-source : (w : List ℕ) (n m e : ℕ) → e < m → edge-at (moved-edges w n m) e .source ≡ getD w (5 + 2 * n + 3 * e) 0
-unfolding moved-edges triple-at an-edge
+unfolding moved-edges triple-at an-edge edge-at
 moved-source w n m e l =
     let at : 2 * n + (5 + 3 * e) ≡ 5 + 2 * n + 3 * e = omega arith in
-    rw (triples-at (drop (2 * n) w) m e l, getD-drop (2 * n) w (5 + 3 * e) 0, at)
+    rw (tabulate-at m (triple-at (drop (2 * n) w)) e (an-edge 0 0 0) l, getD-drop (2 * n) w (5 + 3 * e) 0, at)
 
 -- one edge more: its source gets it as its head, if it has none
 moved-first :
@@ -109,14 +110,15 @@ moved-first :
     first-record 1 q (moved-edges w n (suc r)) ≡
     cond (eqb (first-record 1 q (moved-edges w n r)) 0) (cond (eqb (getD w (5 + 2 * n + 3 * r) 0) q) (suc r) 0)
     (first-record 1 q (moved-edges w n r))
-unfolding moved-edges triples-of triple-at an-edge
+unfolding moved-edges triple-at an-edge
 moved-first w n r q =
     let es = triples-of (drop (2 * n) w) r in
     let f = triple-at (drop (2 * n) w) r in
     let at : 2 * n + (5 + 3 * r) ≡ 5 + 2 * n + 3 * r = omega arith in
     let source : f .source ≡ getD w (5 + 2 * n + 3 * r) 0 = rw (getD-drop (2 * n) w (5 + 3 * r) 0, at) in
-    let long = triples-length (drop (2 * n) w) r in
-    let number : 1 + length es ≡ suc r = omega arith in first-snoc 0 q es f ∙ cc (source, number)
+    let long = tabulate-length r (triple-at (drop (2 * n) w)) in
+    let number : 1 + length es ≡ suc r = omega arith in
+    rw (tabulate-snoc r (triple-at (drop (2 * n) w))) (first-snoc 0 q es f ∙ cc (source, number))
 
 -- a head that is not zero stays, and a zero gets what another state's turn gives: nothing
 stays : (x y : ℕ) {b : Bool} → b ≡ false → x ≡ cond (eqb x 0) (cond b y 0) x
@@ -210,10 +212,9 @@ module _ {bits : ℕ} (n m r : ℕ) (w v : List ℕ) (ask : Link-asks bits w n m
         heads = turn-head;
         nexts =
             λ e a.
-            elim (either (eqb e r)) [
-              | inl q ↦ rw (eqb-eq e r q) turn-next
-              | inr q ↦
-                  let ne = eqb-ne e r q in
+            elim (same-or e r) [
+              | inl q ↦ rw q turn-next
+              | inr ne ↦
                   let ok = link-asks-one in
                   turn-other (5 + 2 * n + 3 * e) (omega arith) (omega arith) ∙ h .nexts e (omega arith)
             ];
@@ -230,7 +231,7 @@ pub record Linking (n m r : ℕ) (w v : List ℕ) : Type 0 where
   pub linked : Linked n m r w v
 
 pub linking-start : {bits n m : ℕ} {w : List ℕ} → Link-asks bits w n m → Linking n m 0 w w
-unfolding moved-edges triples-of first-record
+unfolding moved-edges tabulate first-record
 linking-start ask =
     record {
       done = omega arith;

@@ -1,22 +1,22 @@
 -- The chained words of an automaton mean that automaton: the chain of a state visits exactly the records with that source. Assumes nothing.
 use mathlib.Core.Path.{_≡_, refl, sym, _∙_}
-use mathlib.Core.Bool.{Bool, true, false, _&&_, not, cond}
+use mathlib.Core.Bool.{Bool, true, false, _&&_, cond}
 use mathlib.Core.List.{List}
 use mathlib.Core.Logic.{inl, inr}
 use Prim.Native.Nat.{ℕ, zero, suc, _+_, _-_, _%_, _≤_, _<_}
 use native.Mathlib.Omega.{arith}
 use lib.Dec.{ltb, leb, eqb}
 use lib.ListN.{length}
-use Rattle.basics.proofs.Booleans.{either, clash, and-l, and-r, and-make, or-l, or-r, or-true, same-truth, not-both, not-false, eqb-eq, eq-eqb, eqb-ne, ne-eqb, ltb-lt, ltb-ge, lt-ltb}
+use Rattle.basics.proofs.Booleans.{either, ltb-ge, clash, and-l, and-r, and-make, or-l, or-r, same-truth, not-both, not-false, eq-eqb, ne-eqb, ltb-lt, lt-ltb, same-or}
 use Rattle.automata.specs.Automaton.{Automaton, Same}
 use Rattle.automata.specs.System.{Edge, edge-at, listed}
 use Rattle.automata.proofs.Numbered.{listed-at, listed-find}
 use Rattle.tables.specs.Table.{letter-of, target-of, next-of, is-initial, is-accepting, chain-has, edge, meaning}
-use Rattle.tables.proofs.Laws.{chain-ends}
+use Rattle.tables.proofs.Laws.{chain-ends, chain-cases}
 use Rattle.layout.specs.Chained.{first-record, next-record, flags-word, chained-words}
-use Rattle.layout.specs.Orderly.{Orderly, Lists}
+use Rattle.layout.specs.Orderly.{Orderly, Has-edges}
 use Rattle.layout.proofs.Firsts.{First, absent, first-at, first-is, Next, ends, goes-on, next-is, rising}
-use Rattle.layout.proofs.Words.{chained-n, chained-k, chained-m, chained-flags, chained-head, chained-letter, chained-target, chained-next}
+use Rattle.layout.proofs.Indexed.{Indexed, indexed-n, indexed-k, indexed-m, indexed-flags, indexed-head, indexed-letter, indexed-target, indexed-next, chained-indexed}
 
 -- the two flags of a flags word
 flag-initial : (x y : Bool) → eqb ((cond x 1 0 + cond y 2 0) % 2) 1 ≡ x
@@ -40,13 +40,16 @@ below-only n q x y h none =
     ]
 
 module _ (a : Automaton) (es : List Edge) where
+  laid : Indexed a es (chained-words a es)
+  laid = chained-indexed a es
+
   pub chained-initial : (i : ℕ) → i < a .states → is-initial (chained-words a es) i ≡ a .initial i
   unfolding is-initial flags-word
-  chained-initial i l = rw (chained-flags a es i l) (flag-initial (a .initial i) (a .accepting i))
+  chained-initial i l = rw (indexed-flags laid i l) (flag-initial (a .initial i) (a .accepting i))
 
   pub chained-accepting : (i : ℕ) → i < a .states → is-accepting (chained-words a es) i ≡ a .accepting i
   unfolding is-accepting flags-word
-  chained-accepting i l = rw (chained-flags a es i l) (flag-accepting (a .initial i) (a .accepting i))
+  chained-accepting i l = rw (indexed-flags laid i l) (flag-accepting (a .initial i) (a .accepting i))
 
   -- what a chain has is listed with the source of its records
   chain-listed :
@@ -55,16 +58,11 @@ module _ (a : Automaton) (es : List Edge) where
   unfolding chain-has
   chain-listed zero r c q l h = absurd (clash h refl)
   chain-listed (suc f) r c q l h =
-      let t = chained-words a es in
-      let this = (eqb (letter-of t (suc r)) c && eqb (target-of t (suc r)) q) in
-      elim (or-true this (chain-has f t (next-of t (suc r)) c q) (and-r (not (eqb (suc r) 0)) h)) [
-        | inl e ↦
-            let x = eqb-eq (letter-of t (suc r)) c (and-l (eqb (target-of t (suc r)) q) e) in
-            let y = eqb-eq (target-of t (suc r)) q (and-r (eqb (letter-of t (suc r)) c) e) in
-            let there = listed-at es r l in
-            let x′ : edge-at es r .letter ≡ c = sym (chained-letter a es r l) ∙ x in
-            let y′ : edge-at es r .target ≡ q = sym (chained-target a es r l) ∙ y in rw (x′, y′) at there
-        | inr e ↦ later f r c q (chain-listed f (suc r) c q) (rw (chained-next a es r l) at e) (next-is es r)
+      elim (chain-cases f (chained-words a es) (suc r) c q h .1) [
+        | inl (x, y) ↦
+            let x′ : edge-at es r .letter ≡ c = sym (indexed-letter laid r l) ∙ x in
+            let y′ : edge-at es r .target ≡ q = sym (indexed-target laid r l) ∙ y in rw (x′, y′) at (listed-at es r l)
+        | inr e ↦ later f r c q (chain-listed f (suc r) c q) (rw (indexed-next laid r l) at e) (next-is es r)
       ]
     where
       later :
@@ -80,7 +78,7 @@ module _ (a : Automaton) (es : List Edge) where
   goes-behind :
       (d : ℕ) → suc d < length es → edge-at es (suc d) .source ≡ edge-at es d .source →
       next-of (chained-words a es) (suc d) ≡ suc (suc d)
-  goes-behind d l same = chained-next a es d (omega arith) ∙ go (next-is es d)
+  goes-behind d l same = indexed-next laid d (omega arith) ∙ go (next-is es d)
     where
       go : Next es d (next-record es d) → next-record es d ≡ suc (suc d)
       go (ends z stop) = absurd (stop l same)
@@ -99,14 +97,12 @@ module _ (a : Automaton) (es : List Edge) where
       let q = edge-at es e .target in
       let this = (eqb (letter-of t (suc d)) c && eqb (target-of t (suc d)) q) in
       and-make (not-false (ne-eqb (suc d) 0 (λ z. omega arith)))
-      (elim (either (eqb d e)) [
-        | inl h ↦
-            let at = eqb-eq d e h in
-            let x : letter-of t (suc d) ≡ c = rw at (chained-letter a es e m) in
-            let y : target-of t (suc d) ≡ q = rw at (chained-target a es e m) in
+      (elim (same-or d e) [
+        | inl at ↦
+            let x : letter-of t (suc d) ≡ c = rw at (indexed-letter laid e m) in
+            let y : target-of t (suc d) ≡ q = rw at (indexed-target laid e m) in
             or-l (chain-has f t (next-of t (suc d)) c q) (and-make (eq-eqb x) (eq-eqb y))
-        | inr h ↦
-            let ne = eqb-ne d e h in
+        | inr ne ↦
             let behind = goes-behind d (omega arith) (same (suc d) (omega arith) (omega arith) ∙ sym (same d (omega arith) l)) in
             or-r this
             (rw behind (chain-reaches f (suc d) e (omega arith) m (omega arith) (λ x i. same x (omega arith))))
@@ -124,7 +120,7 @@ module _ (a : Automaton) (es : List Edge) where
 
     pub chained-edge : (i c j : ℕ) → i < a .states → edge (chained-words a es) i c j ≡ listed i c j es
     unfolding edge
-    chained-edge i c j l = rw (chained-m a es, chained-head a es i l) (go (first-is 1 i es))
+    chained-edge i c j l = rw (indexed-m laid, indexed-head laid i l) (go (first-is 1 i es))
       where
         go :
             First 1 i es (first-record 1 i es) →
@@ -144,24 +140,24 @@ module _ (a : Automaton) (es : List Edge) where
             chain-finds d (w .0) c j (omega arith) (w .1) (h ∙ sym (w .2)) (w .3) (w .4)))
 
     -- THE WORDS MEAN THE AUTOMATON
-    pub chained-meaning : Lists a es → Same (meaning (chained-words a es)) a
+    pub chained-meaning : Has-edges a es → Same (meaning (chained-words a es)) a
     unfolding meaning
     chained-meaning h =
         record {
-          states = chained-n a es;
-          letters = chained-k a es;
+          states = indexed-n laid;
+          letters = indexed-k laid;
           initial =
               λ q.
-              rw (chained-n a es)
+              rw (indexed-n laid)
               (below-only (a .states) q (is-initial (chained-words a es) q) (a .initial q) (chained-initial q) (h .initial q));
           accepting =
               λ q.
-              rw (chained-n a es)
+              rw (indexed-n laid)
               (below-only (a .states) q (is-accepting (chained-words a es) q) (a .accepting q) (chained-accepting q)
               (h .accepting q));
           edge =
               λ p c q.
-              rw (chained-n a es, h .edge p c q)
+              rw (indexed-n laid, h .edge p c q)
               (same-truth ((ltb p (a .states) && ltb q (a .states)) && edge (chained-words a es) p c q) (listed p c q es)
               (λ e.
               let l = ltb-lt p (a .states) (and-l (ltb q (a .states)) (and-l (edge (chained-words a es) p c q) e)) in

@@ -9,7 +9,7 @@ use Rattle.basics.proofs.Booleans.{ge-ltb, and-false-l}
 use Rattle.automata.specs.System.{System, Decides, Edge, an-edge, Built, state-at, edges-to, edges-on, edges-of, edge-at, Exactly, numbered}
 use Rattle.automata.proofs.Members.{prefix-length}
 use Rattle.automata.proofs.Numbered.{listed-at, starts-first, numbered-leads}
-use Rattle.layout.specs.Orderly.{Orderly, Lists}
+use Rattle.layout.specs.Orderly.{Orderly, Has-edges}
 
 -- SOURCES RISE from one number to another
 data Rises : (low high : ℕ) → List Edge → Type 0 where
@@ -76,7 +76,7 @@ module _ {X : Type 0} (s : System X) (decides : Decides s) (b : Built X) (exactl
         target = λ e l. ends e l .2;
       }
 
-  pub numbered-lists : Lists (numbered s b) (b .edges)
+  pub numbered-lists : Has-edges (numbered s b) (b .edges)
   unfolding numbered
   numbered-lists =
       record {

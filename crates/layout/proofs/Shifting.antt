@@ -5,12 +5,12 @@ use mathlib.Core.Logic.{inl, inr}
 use Prim.Native.Nat.{ℕ, _+_, _*_, _-_, _≤_, _<_}
 use native.Mathlib.Omega.{arith}
 use borrow.Rule.Slice.PartMut.{putMid}
-use lib.Dec.{eqb}
 use lib.ListN.{length, getD, set, take, drop, length-set}
 use lib.Seq.{getD-set-same, getD-set-other}
 use Rattle.basics.specs.Buffers.{zeros}
-use Rattle.basics.proofs.Booleans.{either, eqb-eq, eqb-ne}
+use Rattle.basics.proofs.Booleans.{same-or}
 use Rattle.basics.proofs.Clears.{part-cleared, part-others}
+use Rattle.tables.specs.Table.{table-words}
 use Rattle.layout.specs.Steps.{Table-room, Moved, Cleared}
 
 -- while the words are moved, from the last to the first: those from i on have been
@@ -19,7 +19,7 @@ pub record Moving (n m i : ℕ) (w v : List ℕ) : Type 0 where
   pub left : i ≤ 3 * m
   pub moved : (j : ℕ) → i ≤ j → j < 3 * m → getD v (3 + 2 * n + j) 0 ≡ getD w (3 + j) 0
   pub waiting : (j : ℕ) → j < i → getD v (3 + j) 0 ≡ getD w (3 + j) 0
-  pub beyond : (j : ℕ) → 3 + 2 * n + 3 * m ≤ j → getD v j 0 ≡ getD w j 0
+  pub beyond : (j : ℕ) → table-words n m ≤ j → getD v j 0 ≡ getD w j 0
 
 pub move-start : (n m : ℕ) (w : List ℕ) → Moving n m (3 * m) w w
 move-start n m w =
@@ -45,11 +45,10 @@ move-turn {n = n} {m = m} {i = i} {w = w} {v = v} r h l =
       left = omega arith;
       moved =
           λ j a b.
-          elim (either (eqb j k)) [
+          elim (same-or j k) [
             | inl q ↦
-                rw (eqb-eq j k q) (getD-set-same v (3 + 2 * n + k) x 0 (omega arith) ∙ h .waiting k (omega arith))
-            | inr q ↦
-                let ne = eqb-ne j k q in
+                rw q (getD-set-same v (3 + 2 * n + k) x 0 (omega arith) ∙ h .waiting k (omega arith))
+            | inr ne ↦
                 getD-set-other v (3 + 2 * n + k) (3 + 2 * n + j) x 0 (omega arith) ∙ h .moved j (omega arith) b
           ];
       waiting = λ j a. getD-set-other v (3 + 2 * n + k) (3 + j) x 0 (omega arith) ∙ h .waiting j (omega arith);

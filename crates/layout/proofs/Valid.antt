@@ -15,8 +15,9 @@ use Rattle.tables.specs.Table.{most-letters, Limits, head-of, letter-of, target
 use Rattle.tables.proofs.Laws.{Valid, valid-passes}
 use Rattle.layout.specs.Chained.{first-record, next-record, flags-word, chained-words}
 use Rattle.layout.specs.Orderly.{Orderly}
-use Rattle.layout.proofs.Firsts.{First, absent, first-at, first-is, Next, ends, goes-on, next-is, named-once}
-use Rattle.layout.proofs.Words.{chained-length, chained-n, chained-k, chained-m, chained-flags, chained-head, chained-letter, chained-target, chained-next}
+use Rattle.layout.proofs.Firsts.{absent, first-at, first-is, ends, goes-on, next-is, named-once}
+use Rattle.layout.proofs.Indexed.{Indexed, indexed-n, indexed-k, indexed-m, indexed-flags, indexed-head, indexed-letter, indexed-target, indexed-next, chained-indexed}
+use Rattle.layout.proofs.Words.{chained-length}
 
 pub flags-small : (a : Automaton) (i : ℕ) → flags-word a i ≤ 3
 unfolding flags-word
@@ -29,47 +30,38 @@ flags-small a i = go (a .initial i) (a .accepting i)
     go false false = omega arith
 
 head-small : (i : ℕ) (es : List Edge) → first-record 1 i es ≤ length es
-head-small i es = go (first-is 1 i es)
-  where
-    go : First 1 i es (first-record 1 i es) → first-record 1 i es ≤ length es
-    go (absent z before) = omega arith
-    go (first-at e z l h before) = omega arith
+head-small i es = elim (first-is 1 i es) [ absent z before ↦ omega arith | first-at e z l h before ↦ omega arith ]
 
 next-small : (es : List Edge) (r : ℕ) → next-record es r ≤ length es
-next-small es r = go (next-is es r)
-  where
-    go : Next es r (next-record es r) → next-record es r ≤ length es
-    go (ends z stop) = omega arith
-    go (goes-on z l h) = omega arith
+next-small es r = elim (next-is es r) [ ends z stop ↦ omega arith | goes-on z l h ↦ omega arith ]
 
 next-rises : (es : List Edge) (r : ℕ) → (next-record es r ≡ 0) ⊎ (suc r < next-record es r)
-next-rises es r = go (next-is es r)
-  where
-    go : Next es r (next-record es r) → (next-record es r ≡ 0) ⊎ (suc r < next-record es r)
-    go (ends z stop) = inl z
-    go (goes-on z l h) = inr (omega arith)
+next-rises es r = elim (next-is es r) [ ends z stop ↦ inl z | goes-on z l h ↦ inr (omega arith) ]
 
 module _ (l : Limits) (a : Automaton) (es : List Edge) (o : Orderly a es) where
+  laid : Indexed a es (chained-words a es)
+  laid = chained-indexed a es
+
   chained-once : (r : ℕ) → r < length es → named (chained-words a es) (suc r) ≡ 1
   unfolding named
   chained-once r m =
       let t = chained-words a es in
       let heads =
       count-same (a .states) (λ q. eqb (head-of t q) (suc r)) (λ q. eqb (first-record 1 q es) (suc r))
-      (λ q i. let e = chained-head a es q i in cc) in
+      (λ q i. let e = indexed-head laid q i in cc) in
       let nexts =
       count-same (length es) (λ i. eqb (next-of t (suc i)) (suc r)) (λ i. eqb (next-record es i) (suc r))
-      (λ i j. let e = chained-next a es i j in cc) in
-      rw (chained-n a es, chained-m a es, heads, nexts) (named-once o r m)
+      (λ i j. let e = indexed-next laid i j in cc) in
+      rw (indexed-n laid, indexed-m laid, heads, nexts) (named-once o r m)
 
   pub chained-is-valid :
       1 ≤ a .states → a .states ≤ l .states → 1 ≤ a .letters → a .letters ≤ most-letters → length es ≤ l .records →
       Valid l (chained-words a es)
   chained-is-valid n₁ n₂ k₁ k₂ m₁ =
       let t = chained-words a es in
-      let n = chained-n a es in
-      let k = chained-k a es in
-      let m = chained-m a es in
+      let n = indexed-n laid in
+      let k = indexed-k laid in
+      let m = indexed-m laid in
       record {
         states-from = omega arith;
         states-to = omega arith;
@@ -77,19 +69,19 @@ module _ (l : Limits) (a : Automaton) (es : List Edge) (o : Orderly a es) where
         letters-to = omega arith;
         records-to = omega arith;
         whole = rw (n, m) (chained-length a es);
-        flags = λ q h. rw (chained-flags a es q (rw n at h)) (flags-small a q);
+        flags = λ q h. rw (indexed-flags laid q (rw n at h)) (flags-small a q);
         letter =
             rw (m, k)
-            (from-one (length es) (λ x. letter-of t x < a .letters) (λ r h. rw (chained-letter a es r h) (o .letter r h)));
+            (from-one (length es) (λ x. letter-of t x < a .letters) (λ r h. rw (indexed-letter laid r h) (o .letter r h)));
         target =
             rw (m, n)
-            (from-one (length es) (λ x. target-of t x < a .states) (λ r h. rw (chained-target a es r h) (o .target r h)));
-        head = λ q h. rw (chained-head a es q (rw n at h), m) (head-small q es);
-        next = rw m (from-one (length es) (λ x. next-of t x ≤ length es) (λ r h. rw (chained-next a es r h) (next-small es r)));
+            (from-one (length es) (λ x. target-of t x < a .states) (λ r h. rw (indexed-target laid r h) (o .target r h)));
+        head = λ q h. rw (indexed-head laid q (rw n at h), m) (head-small q es);
+        next = rw m (from-one (length es) (λ x. next-of t x ≤ length es) (λ r h. rw (indexed-next laid r h) (next-small es r)));
         rises =
             rw m
             (from-one (length es) (λ x. (next-of t x ≡ 0) ⊎ (x < next-of t x))
-            (λ r h. rw (chained-next a es r h) (next-rises es r)));
+            (λ r h. rw (indexed-next laid r h) (next-rises es r)));
         once = rw m (from-one (length es) (λ x. named t x ≡ 1) chained-once);
       }
 

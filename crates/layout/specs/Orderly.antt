@@ -14,8 +14,8 @@ pub record Orderly (a : Automaton) (es : List Edge) : Type 0 where
   pub letter : (e : ℕ) → e < length es → edge-at es e .letter < a .letters
   pub target : (e : ℕ) → e < length es → edge-at es e .target < a .states
 
--- the automaton's edges are exactly those listed, and only its states are initial or accepting
-pub record Lists (a : Automaton) (es : List Edge) : Type 0 where
+-- the automaton has exactly the edges listed, and only its states are initial or accepting
+pub record Has-edges (a : Automaton) (es : List Edge) : Type 0 where
   pub initial : (q : ℕ) → a .states ≤ q → a .initial q ≡ false
   pub accepting : (q : ℕ) → a .states ≤ q → a .accepting q ≡ false
   pub edge : (i c j : ℕ) → a .edge i c j ≡ listed i c j es

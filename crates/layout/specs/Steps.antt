@@ -7,12 +7,13 @@ use lib.Dec.{ltb, eqb}
 use lib.ListN.{length, getD, drop, set}
 use Rattle.basics.specs.Words.{largest-word}
 use Rattle.automata.specs.System.{Edge}
+use Rattle.tables.specs.Table.{table-words}
 use Rattle.layout.specs.Chained.{first-record, next-record}
 use Rattle.layout.specs.Triples.{triples-of}
 
 -- the words of a table with so many states and records are there, and its counts fit words of so many bits
 pub record Table-room (bits : ℕ) (w : List ℕ) (states edges : ℕ) : Type 0 where
-  pub room : 3 + 2 * states + 3 * edges ≤ length w
+  pub room : table-words states edges ≤ length w
   pub states-fit : states ≤ largest-word bits
   pub edges-fit : edges ≤ largest-word bits
 
@@ -21,12 +22,12 @@ pub record Lay-out-asks (bits : ℕ) (w : List ℕ) (states letters edges : ℕ)
   pub room : Table-room bits w states edges
   pub letters-fit : letters ≤ largest-word bits
   pub source : (e : ℕ) → e < edges → getD w (5 + 3 * e) 0 < states
-  pub beyond : (i : ℕ) → 3 + 2 * states + 3 * edges ≤ i → getD w i 0 ≡ 0
+  pub beyond : (i : ℕ) → table-words states edges ≤ i → getD w i 0 ≡ 0
 
 -- the triples stand behind the state words now
 pub record Moved (states edges : ℕ) (w v : List ℕ) : Type 0 where
   pub moved : (i : ℕ) → i < 3 * edges → getD v (3 + 2 * states + i) 0 ≡ getD w (3 + i) 0
-  pub beyond : (i : ℕ) → 3 + 2 * states + 3 * edges ≤ i → getD v i 0 ≡ getD w i 0
+  pub beyond : (i : ℕ) → table-words states edges ≤ i → getD v i 0 ≡ getD w i 0
 
 -- the state words are zero now
 pub record Cleared (states : ℕ) (w v : List ℕ) : Type 0 where

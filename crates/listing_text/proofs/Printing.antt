@@ -14,7 +14,7 @@ use Rattle.ncsb.specs.declared.Quadruple.{Quadruple}
 use Rattle.record_words.specs.Record.{quadruple-at}
 use Rattle.complement.specs.declared.Counts.{Counts}
 use Rattle.decimal.specs.Lines.{space, newline, field-bytes, line, decimal, ascii, Put}
-use Rattle.decimal.proofs.Placing.{then-put, nothing-put, row-put, same-length, wider}
+use Rattle.decimal.proofs.Placing.{then-put, same-length, wider, Rowing, rowing-start, rowing-turn, rowing-end}
 use Rattle.listing_text.specs.Built.{first-source, source-behind, source-of, built-state, built-edge, built-edges, built-text, printed, Line-asks, Stated, Sourced, Printable}
 use Rattle.listing_text.specs.Listing.{most-states, refused-line, counts-line, state-line, edge-line}
 use Rattle.listing_text.specs.Output.{refused-bytes, counts-bytes, state-bytes, edge-bytes, text-bytes, output-bytes}
@@ -48,9 +48,8 @@ unfolding built-edge edge-line an-edge
 edge-put w i r e f p = rw (← e, ← f) p
 
 -- THE LOOP OF `put_states`: the states passed are written
-pub record Stating (w s : List ℕ) (n : ℕ) (o : List ℕ) (at i place : ℕ) (o-now : List ℕ) : Type 0 where
-  pub within : i ≤ n
-  pub put : Put o at (state-bytes * i) (rows i (built-state w s)) o-now place
+abbrev pub Stating : (w s : List ℕ) → (n : ℕ) → (o : List ℕ) → (at i place : ℕ) → (o-now : List ℕ) → Type 0
+Stating w s n = Rowing (built-state w s) state-bytes n
 
 pub state-asked : {w s : List ℕ} {n i : ℕ} → Stated w s n → i < n → Line-asks w s i
 state-asked asked l =
@@ -58,28 +57,13 @@ state-asked asked l =
     let there = asked .stored in
     record { reads = source-reads (asked .asks) l; few = omega arith; stored = omega arith }
 
-module _ {w s o : List ℕ} {at n : ℕ} (asked : Stated w s n) (room : at + state-bytes * n ≤ length o) where
-  pub stating-start : Stating w s n o at 0 at o
-  unfolding rows
-  stating-start = record { within = omega arith; put = nothing-put o (omega arith) }
-
-  module _ {i place : ℕ} {o′ : List ℕ} where
-    pub stating-room : i < n → Stating w s n o at i place o′ → place + state-bytes ≤ length o′
-    stating-room l p = let e = same-length (p .put) in let f = p .put .near in omega arith
-
-    pub stating-end : n ≤ i → Stating w s n o at i place o′ → Put o at (state-bytes * n) (rows n (built-state w s)) o′ place
-    stating-end l p = let k = p .within in let e : i ≡ n = omega arith in rw e at (p .put)
-
-pub stating-turn :
-    {w s o : List ℕ} {n at i place place′ : ℕ} {o′ o″ : List ℕ} → i < n → Stating w s n o at i place o′ →
-    Put o′ place state-bytes (built-state w s i) o″ place′ → Stating w s n o at (i + 1) place′ o″
-stating-turn {w} {s} {i = i} l p q = record { within = omega arith; put = row-put (built-state w s) i (p .put) q }
-
 -- THE LOOP OF `put_edges`: the records passed are written, and `source` is that of the one to be written next
+abbrev pub edge-row : (w : List ℕ) → (r : ℕ) → List ℕ
+edge-row w r = built-edge w (source-of w r) (suc r)
+
 pub record Sourcing (w : List ℕ) (m : ℕ) (o : List ℕ) (at i source place : ℕ) (o-now : List ℕ) : Type 0 where
-  pub within : i ≤ m
   pub source-is : source ≡ source-of w i
-  pub put : Put o at (edge-bytes * i) (built-edges w i) o-now place
+  pub written : Rowing (edge-row w) edge-bytes m o at i place o-now
 
 -- record i + 1 is one of them
 pub record-asked : {w : List ℕ} {n m i : ℕ} → Sourced w n m → i < m → Record-asks w n (i + 1)
@@ -87,33 +71,28 @@ record-asked asked l =
     let e = asked .records in
     record { counted = asked .asks .counted; from-one = omega arith; number-to = omega arith; sized = asked .asks .sized }
 
-module _ {w o : List ℕ} {at n m : ℕ} (asked : Sourced w n m) (room : at + edge-bytes * m ≤ length o) where
-  pub sourcing-start : {x : ℕ} → x ≡ first-source w 0 → Sourcing w m o at 0 x at o
-  unfolding rows built-edges source-of
-  sourcing-start e = record { within = omega arith; source-is = e; put = nothing-put o (omega arith) }
+pub sourcing-start : {w o : List ℕ} {m at x : ℕ} → at ≤ length o → x ≡ first-source w 0 → Sourcing w m o at 0 x at o
+unfolding source-of
+sourcing-start {w} l e = record { source-is = e; written = rowing-start (edge-row w) l }
 
-  module _ {i source place : ℕ} {o′ : List ℕ} where
-    pub sourcing-small : i < m → Sourcing w m o at i source place o′ → source < most-states
-    sourcing-small l p = let b = asked .source i l in let few = asked .few in let e = p .source-is in omega arith
+module _ {w o : List ℕ} {m at i source place : ℕ} {o′ : List ℕ} (p : Sourcing w m o at i source place o′) where
+  pub sourcing-small : {n : ℕ} → Sourced w n m → i < m → source < most-states
+  sourcing-small asked l = let b = asked .source i l in let few = asked .few in let e = p .source-is in omega arith
 
-    pub sourcing-room : i < m → Sourcing w m o at i source place o′ → place + edge-bytes ≤ length o′
-    sourcing-room l p = let e = same-length (p .put) in let f = p .put .near in omega arith
+  pub sourcing-turn :
+      {source′ place′ : ℕ} {o″ : List ℕ} → i < m → Put o′ place edge-bytes (built-edge w source (i + 1)) o″ place′ →
+      source′ ≡ source-behind w source (i + 1) → Sourcing w m o at (i + 1) source′ place′ o″
+  unfolding source-of
+  sourcing-turn l q e =
+      let s = p .source-is in
+      record {
+        source-is = rw (add-one, ← s) (e ∙ rw add-one);
+        written = rowing-turn (edge-row w) (p .written) l (rw (s, add-one) at q);
+      }
 
-    pub sourcing-end : m ≤ i → Sourcing w m o at i source place o′ → Put o at (edge-bytes * m) (built-edges w m) o′ place
-    sourcing-end l p = let k = p .within in let e : i ≡ m = omega arith in rw e at (p .put)
-
-pub sourcing-turn :
-    {w o : List ℕ} {m at i source source′ place place′ : ℕ} {o′ o″ : List ℕ} → i < m → Sourcing w m o at i source place o′ →
-    Put o′ place edge-bytes (built-edge w source (i + 1)) o″ place′ → source′ ≡ source-behind w source (i + 1) →
-    Sourcing w m o at (i + 1) source′ place′ o″
-unfolding built-edges source-of
-sourcing-turn {w} {i = i} {source = source} l p q e =
-    let s = p .source-is in
-    record {
-      within = omega arith;
-      source-is = rw (add-one, ← s) (e ∙ rw add-one);
-      put = row-put (λ r. built-edge w (source-of w r) (suc r)) i (p .put) (rw (s, add-one) at q);
-    }
+  pub sourcing-end : m ≤ i → Put o at (edge-bytes * m) (built-edges w m) o′ place
+  unfolding built-edges
+  sourcing-end l = rowing-end (edge-row w) (p .written) l
 
 -- THE WHOLE TEXT
 module _ {w s : List ℕ} {n m : ℕ} (all : Printable w s n m) {o o₁ : List ℕ} {p₁ : ℕ} (counted : Put o 0 counts-bytes (counts-line n m) o₁ p₁) where

@@ -3,20 +3,20 @@ use mathlib.Core.Path.{_≡_, refl, sym, _∙_, ap}
 use mathlib.Core.Bool.{Bool, true, false, cond}
 use mathlib.Core.List.{List}
 use mathlib.Core.Logic.{inl, inr}
-use Prim.Native.Nat.{ℕ, zero, suc, _+_, _*_, _-_, _≤_, _<_}
+use Prim.Native.Nat.{ℕ, zero, suc, _+_, _-_, _≤_, _<_}
 use native.Mathlib.Numerals.{add-one}
 use native.Mathlib.Omega.{arith}
-use lib.Dec.{ltb, eqb}
+use lib.Dec.{eqb}
 use lib.ListN.{length}
-use Rattle.basics.proofs.Booleans.{either, eq-eqb, ne-eqb, ltb-lt, ltb-ge}
+use Rattle.basics.proofs.Booleans.{eq-eqb, ne-eqb, below-or}
 use Rattle.automata.specs.Automaton.{Automaton}
 use Rattle.automata.specs.System.{Edge, edge-at}
 use Rattle.tables.specs.Access.{State-asks}
-use Rattle.tables.specs.Table.{n-of, m-of, head-of, record-at, letter-of, target-of, next-of}
-use Rattle.layout.specs.Chained.{first-record, next-record}
+use Rattle.tables.specs.Table.{n-of, head-of, next-of}
+use Rattle.layout.specs.Chained.{next-record}
 use Rattle.layout.specs.Orderly.{Orderly}
-use Rattle.layout.proofs.Firsts.{First, first-is, absent, first-at, Next, next-is, ends, goes-on, rising}
-use Rattle.layout.proofs.Indexed.{Indexed}
+use Rattle.layout.proofs.Firsts.{first-is, absent, first-at, Next, next-is, ends, goes-on, rising}
+use Rattle.layout.proofs.Indexed.{Indexed, indexed-n, indexed-head, indexed-next}
 use Rattle.listing_text.specs.Built.{with-chain, first-source, source-behind, source-of, States-ask}
 
 -- by the head of the first of them
@@ -70,62 +70,25 @@ chain-found :
     with-chain w k i ≡ j
 chain-found w zero i j l m before here = absurd (omega arith)
 chain-found w (suc k) i j l m before here =
-    elim (either (ltb i j)) [
-      | inl p ↦
-          let s = ltb-lt i j p in
+    elim (below-or i j) [
+      | inl s ↦
           chain-later w k i (before i (omega arith) s)
           ∙ chain-found w k (suc i) j s (omega arith) (λ q a b. before q (omega arith) b) here
-      | inr p ↦
-          let g = ltb-ge i j p in
+      | inr g ↦
           let e : i ≡ j = omega arith in
           chain-here w k i (rw e here) ∙ e
     ]
 
 module _ {a : Automaton} {es : List Edge} (o : Orderly a es) {w : List ℕ} (x : Indexed a es w) where
-  pub states-are : n-of w ≡ a .states
-  unfolding n-of
-  states-are = x .states
-
-  pub records-are : m-of w ≡ length es
-  unfolding m-of
-  records-are = x .records
-
-  head-is : (i : ℕ) → i < a .states → head-of w i ≡ first-record 1 i es
-  unfolding head-of
-  head-is i l = x .head i l
-
-  -- the words of a record
-  record-is : (r : ℕ) → record-at w (suc r) ≡ 3 + 2 * a .states + 3 * r
-  unfolding record-at
-  record-is r = let e = states-are in let s : suc r - 1 ≡ r = omega arith in rw (e, s)
-
-  pub letter-is : (r : ℕ) → r < length es → letter-of w (suc r) ≡ edge-at es r .letter
-  unfolding letter-of
-  letter-is r l = rw (record-is r) (x .letter r l)
-
-  pub target-is : (r : ℕ) → r < length es → target-of w (suc r) ≡ edge-at es r .target
-  unfolding target-of
-  target-is r l = let e : (3 + 2 * a .states + 3 * r) + 1 ≡ 4 + 2 * a .states + 3 * r = omega arith in rw (record-is r, e) (x .target r l)
-
-  next-is-record : (r : ℕ) → r < length es → next-of w (suc r) ≡ next-record es r
-  unfolding next-of
-  next-is-record r l =
-      let e : (3 + 2 * a .states + 3 * r) + 2 ≡ 5 + 2 * a .states + 3 * r = omega arith in rw (record-is r, e) (x .next r l)
-
   -- a state without edges has no chain, and one with edges has
   no-chain : (q : ℕ) → q < a .states → ((e : ℕ) → e < length es → edge-at es e .source ≡ q → ⊥) → head-of w q ≡ 0
-  no-chain q l h = go (first-is 1 q es)
-    where
-      go : First 1 q es (first-record 1 q es) → head-of w q ≡ 0
-      go (absent z before) = head-is q l ∙ z
-      go (first-at e z m s before) = absurd (h e m s)
+  no-chain q l h =
+      elim (first-is 1 q es) [ absent z before ↦ indexed-head x q l ∙ z | first-at e z m s before ↦ absurd (h e m s) ]
 
   a-chain : (r : ℕ) → r < length es → head-of w (edge-at es r .source) ≡ 0 → ⊥
-  a-chain r l h = go (first-is 1 (edge-at es r .source) es)
-    where
-      go : First 1 (edge-at es r .source) es (first-record 1 (edge-at es r .source) es) → ⊥
-      go (absent z before) = before r l refl
-      go (first-at e z m s before) = let p = head-is (edge-at es r .source) (o .source r l) in omega arith
+  a-chain r l h =
+      let p = indexed-head x (edge-at es r .source) (o .source r l) in
+      elim (first-is 1 (edge-at es r .source) es) [ absent z before ↦ before r l refl | first-at e z m s before ↦ omega arith ]
 
   -- the first state from i on with a chain is the source of record r + 1, if the sources before it are smaller than i
   record-source :
@@ -133,15 +96,15 @@ module _ {a : Automaton} {es : List Edge} (o : Orderly a es) {w : List ℕ} (x :
       first-source w i ≡ edge-at es r .source
   unfolding first-source
   record-source i r l m small =
-      let n = states-are in
+      let n = indexed-n x in
       let s = o .source r l in
       chain-found w (n-of w - i) i (edge-at es r .source) m (omega arith)
       (λ q p u.
       no-chain q (omega arith)
       (λ e k f.
-      elim (either (ltb e r)) [
-        | inl c ↦ let y = small e (ltb-lt e r c) in omega arith
-        | inr c ↦ let y = rising o r e (ltb-ge e r c) k in omega arith
+      elim (below-or e r) [
+        | inl c ↦ let y = small e c in omega arith
+        | inr c ↦ let y = rising o r e c k in omega arith
       ]))
       (a-chain r l)
 
@@ -152,11 +115,11 @@ module _ {a : Automaton} {es : List Edge} (o : Orderly a es) {w : List ℕ} (x :
     where
       go : source-of w r ≡ edge-at es r .source → Next es r (next-record es r) → cond (eqb (next-of w (suc r)) 0) (first-source w (suc (source-of w r))) (source-of w r) ≡ edge-at es (suc r) .source
       go before (ends z other) =
-          let e : eqb (next-of w (suc r)) 0 ≡ true = eq-eqb (next-is-record r (omega arith) ∙ z) in
+          let e : eqb (next-of w (suc r)) 0 ≡ true = eq-eqb (indexed-next x r (omega arith) ∙ z) in
           let up = o .rise r l in
           let ne = other l in
           let m : suc (edge-at es r .source) ≤ edge-at es (suc r) .source = omega arith in
           rw (e, before) (record-source (suc (edge-at es r .source)) (suc r) l m (λ d k. let y = rising o d r (omega arith) (omega arith) in omega arith))
       go before (goes-on z m same) =
-          let e : eqb (next-of w (suc r)) 0 ≡ false = ne-eqb (next-of w (suc r)) 0 (λ q. let p = next-is-record r (omega arith) in omega arith) in
+          let e : eqb (next-of w (suc r)) 0 ≡ false = ne-eqb (next-of w (suc r)) 0 (λ q. let p = indexed-next x r (omega arith) in omega arith) in
           rw (e, before) (sym same)

@@ -9,10 +9,10 @@ use Rattle.basics.specs.Buffers.{filled}
 use Rattle.basics.proofs.Booleans.{eq-eqb, ne-eqb}
 use Rattle.basics.proofs.Rows.{rows-same}
 use Rattle.automata.specs.System.{an-edge, edge-at, state-at, numbered}
-use Rattle.tables.specs.Table.{m-of, flags-of}
+use Rattle.tables.specs.Table.{Limits, wide-range, m-of, flags-of}
 use Rattle.layout.specs.Chained.{flags-word}
 use Rattle.layout.specs.Orderly.{Orderly}
-use Rattle.layout.proofs.Indexed.{Indexed, filled-indexed}
+use Rattle.layout.proofs.Indexed.{Indexed, indexed-n, indexed-m, indexed-letter, indexed-target, filled-indexed}
 use Rattle.layout.proofs.Words.{chained-length}
 use Rattle.record_words.specs.Record.{record-words, full-records, quadruple-at}
 use Rattle.record_words.proofs.Laws.{rows-long, row-back, words-full, full-kept}
@@ -28,7 +28,7 @@ use Rattle.decimal.proofs.Scanning.{holds}
 use Rattle.listing_text.specs.Built.{source-of, built-state, built-edge, built-edges, built-text, printed, States-ask, Printable-answer}
 use Rattle.listing_text.specs.Listing.{listing-bounds, most-states, most-words, listing-room, refused-line, state-line, edge-line, accepted-text, answered, listing-of, listing}
 use Rattle.listing_text.specs.Output.{refused-bytes, text-bytes, output-bytes, text-of, Listed}
-use Rattle.listing_text.proofs.Sources.{states-are, records-are, letter-is, target-is, source-right}
+use Rattle.listing_text.proofs.Sources.{source-right}
 
 -- AN ACCEPTED BUILD
 -- the sets of a state
@@ -38,7 +38,8 @@ state-back :
 unfolding sets-words
 state-back t s i l = row-back (length (complement t .states)) (λ i. state-at (system-of t) (complement t .states) i) s i l
 
-module _ {t : List ℕ} {r : Counts} {before after : Lent} (says : Build-says t r before after) (accepted : r .number ≡ 0) where
+module _
+    {limits : Limits} {t : List ℕ} {r : Counts} {before after : Lent} (says : Build-says limits t r before after) (accepted : r .number ≡ 0) where
   words-are : after .words ≡ filled (complement-words t) (before .words)
   unfolding after-build
   words-are = rw (build-accepted says accepted) at (says .words)
@@ -68,14 +69,14 @@ module _ {t : List ℕ} {r : Counts} {before after : Lent} (says : Build-says t 
   unfolding filled complement-words complement-automaton numbered
   all-words =
       let n = build-states says accepted in
-      let k = states-are orderly indexed in
-      let m = records-are orderly indexed in
+      let k = indexed-n indexed in
+      let m = indexed-m indexed in
       let long = chained-length (complement-automaton t) (complement t .edges) in
       let e = simp length-append at (ap length words-are) in
       record { counted = n ∙ sym k; sized = omega arith }
 
   edges-are : r .edges ≡ m-of (after .words)
-  edges-are = build-edges says accepted ∙ sym (records-are orderly indexed)
+  edges-are = build-edges says accepted ∙ sym (indexed-m indexed)
 
   -- each record has a source
   sources : (i : ℕ) → i < r .edges → source-of (after .words) i < r .states
@@ -95,7 +96,7 @@ module _ {t : List ℕ} {r : Counts} {before after : Lent} (says : Build-says t 
       (i : ℕ) → i < length (complement t .edges) →
       built-edge (after .words) (source-of (after .words) i) (suc i) ≡ edge-line (edge-at (complement t .edges) i)
   unfolding built-edge an-edge
-  edge-same i l = rw (source-right orderly indexed i l, letter-is orderly indexed i l, target-is orderly indexed i l)
+  edge-same i l = rw (source-right orderly indexed i l, indexed-letter indexed i l, indexed-target indexed i l)
 
   -- what is printed of it
   built-right : built-text (r .states) (r .edges) (after .words) (after .sets) ≡ accepted-text (system-of t) (complement t)
@@ -114,15 +115,15 @@ module _ {t : List ℕ} {r : Counts} {before after : Lent} (says : Build-says t 
 
 -- WHAT IS PRINTED of the build's answer and of what it left is the answer to the table
 pub printed-right :
-    {t : List ℕ} {r : Counts} {before after : Lent} → Build-says t r before after →
-    printed r (after .words) (after .sets) ≡ answered (build-refusal t (room-of before)) t
+    {limits : Limits} {t : List ℕ} {r : Counts} {before after : Lent} → Build-says limits t r before after →
+    printed r (after .words) (after .sets) ≡ answered (build-refusal limits t (room-of before)) t
 unfolding printed answered as-counts
-printed-right {t} {r} {before} {after} says = go (build-refusal t (room-of before)) refl
+printed-right {limits} {t} {r} {before} {after} says = go (build-refusal limits t (room-of before)) refl
   where
-    number : (k : ℕ) → build-refusal t (room-of before) ≡ k → r .number ≡ as-counts k (length (complement t .states)) (length (complement t .edges)) .number
+    number : (k : ℕ) → build-refusal limits t (room-of before) ≡ k → r .number ≡ as-counts k (length (complement t .states)) (length (complement t .edges)) .number
     number k e = ap (λ (c : Counts). c .number) (rw e at (says .answer))
 
-    go : (k : ℕ) → build-refusal t (room-of before) ≡ k → printed r (after .words) (after .sets) ≡ answered k t
+    go : (k : ℕ) → build-refusal limits t (room-of before) ≡ k → printed r (after .words) (after .sets) ≡ answered k t
     go zero e = let z : r .number ≡ 0 = number 0 e in rw (eq-eqb z) (built-right says z)
     go (suc k) e =
         let z : r .number ≡ suc k = number (suc k) e in
@@ -140,7 +141,8 @@ unfolding text-bytes
 text-fits n m l k = omega arith
 
 -- what the build left can be printed
-module _ {t : List ℕ} {r : Counts} {before after : Lent} (says : Build-says t r before after) (room : room-of before ≡ listing-room) where
+module _
+    {limits : Limits} {t : List ℕ} {r : Counts} {before after : Lent} (says : Build-says limits t r before after) (room : room-of before ≡ listing-room) where
   words-room : length (before .words) ≡ most-words
   unfolding room-of listing-room
   words-room = ap (λ (x : Room). x .words) room
@@ -175,9 +177,10 @@ module _ {t : List ℕ} {r : Counts} {before after : Lent} (says : Build-says t 
 
 -- THE ANSWER to a table
 pub answer-put :
-    {t : List ℕ} {r : Counts} {before after : Lent} {output output-now : List ℕ} {end : ℕ} → Build-says t r before after →
+    {limits : Limits} {t : List ℕ} {r : Counts} {before after : Lent} {output output-now : List ℕ} {end : ℕ} →
+    Build-says limits t r before after →
     room-of before ≡ listing-room → Put output 0 output-bytes (printed r (after .words) (after .sets)) output-now end →
-    Put output 0 output-bytes (answered (build-refusal t listing-room) t) output-now end
+    Put output 0 output-bytes (answered (build-refusal limits t listing-room) t) output-now end
 answer-put says room p = let e = rw room at (printed-right says) in rw (← e) p
 
 -- WHAT WAS READ decides what is listed
@@ -194,7 +197,7 @@ module _ (s : Scan) {w w′ : List ℕ} {r : Reading} (b : Became (ended s) w r 
   unfolding text-of numbers-of listing-of
   text-failed e = let f : ended s .failed ≡ true = sym failed-is ∙ e in rw f
 
-  pub text-read : r .failed ≡ false → text-of s ≡ answered (build-refusal (take (r .count) w′) listing-room) (take (r .count) w′)
+  pub text-read : r .failed ≡ false → text-of s ≡ answered (build-refusal wide-range (take (r .count) w′) listing-room) (take (r .count) w′)
   unfolding text-of numbers-of listing-of
   text-read e = let f : ended s .failed ≡ false = sym failed-is ∙ e in rw (f, numbers-are)
 
@@ -206,7 +209,7 @@ module _ {r r′ : Reading} {t t′ output output-now : List ℕ} {end : ℕ} (b
 
   pub listed-read :
       r′ .failed ≡ false →
-      Put output 0 output-bytes (answered (build-refusal (take (r′ .count) t′) listing-room) (take (r′ .count) t′)) output-now end →
+      Put output 0 output-bytes (answered (build-refusal wide-range (take (r′ .count) t′) listing-room) (take (r′ .count) t′)) output-now end →
       Listed r t t′ output output-now end
   listed-read e p = record { ended-table = b .words; text = rw (text-read (scan-of r t) b e) p }
 

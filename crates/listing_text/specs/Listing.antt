@@ -6,17 +6,17 @@ use lib.ListN.{length}
 use Rattle.basics.specs.Words.{word-bits, largest-word}
 use Rattle.basics.specs.Rows.{rows}
 use Rattle.automata.specs.System.{Edge, Built, System, state-at, edge-at, numbered}
-use Rattle.tables.specs.Table.{pattern-range}
+use Rattle.tables.specs.Table.{table-words, pattern-range, wide-range}
 use Rattle.ncsb.specs.declared.Quadruple.{Quadruple}
 use Rattle.layout.specs.Chained.{flags-word}
-use Rattle.complement.specs.Build.{Room, words-needed, build-refusal}
+use Rattle.complement.specs.Build.{Room, build-refusal}
 use Rattle.complement.specs.Complement.{system-of, complement}
 use Rattle.decimal.specs.Lines.{decimal, line, ascii}
 use Rattle.decimal.specs.Reading.{Bounds, read-numbers}
 
 -- REFUSAL 1: numbers are from 0 to 65,535, and there are at most as many as the largest pattern has words: 12,355
 unfoldable pub listing-bounds : Bounds
-listing-bounds = record { largest = largest-word word-bits; most = words-needed (pattern-range .states) (pattern-range .records) }
+listing-bounds = record { largest = largest-word word-bits; most = table-words (pattern-range .states) (pattern-range .records) }
 
 -- room for 1,024 states and 16,384 table words
 abbrev pub most-states : ℕ
@@ -59,7 +59,7 @@ answered (suc r) t = refused-line (suc r)
 -- the listing of the numbers that were read, or of none
 unfoldable pub listing-of : Option (List ℕ) → List ℕ
 listing-of none = refused-line 1
-listing-of (some t) = answered (build-refusal t listing-room) t
+listing-of (some t) = answered (build-refusal wide-range t listing-room) t
 
 unfoldable pub listing : (input : List ℕ) → List ℕ
 listing input = listing-of (read-numbers listing-bounds input)

@@ -6,6 +6,7 @@ use tables::PATTERN_RECORDS;
 use tables::PATTERN_STATES;
 ghost use Prim.Native.Nat.{_≤_};
 ghost use lib.ListN.{length};
+ghost use Rattle.tables.specs.Table.{wide-range};
 ghost use Rattle.complement.specs.Build.{build-refusal};
 ghost use Rattle.decimal.specs.Lines.{Put};
 ghost use Rattle.decimal.specs.Reading.{Ready};
@@ -31,7 +32,7 @@ pub const OUTPUT_BYTES: usize = 262144;
 // The listing of a table: its complement, or the refusal.
 fn list_table(table: &[u16], output: &mut [u8]) -> usize
     requires { ⌜ output-bytes ≤ length (now output) ⌝ }
-    ensures { λ r. ⌜ Put (now (output .entry)) 0 output-bytes (answered (build-refusal (now (table .entry)) listing-room) (now (table .entry))) (now (output .exit)) r ⌝ }
+    ensures { λ r. ⌜ Put (now (output .entry)) 0 output-bytes (answered (build-refusal wide-range (now (table .entry)) listing-room) (now (table .entry))) (now (output .exit)) r ⌝ }
 {
     let mut words = [0u16; TABLE_WORDS];
     let mut sets = [0u32; SETS_WORDS];

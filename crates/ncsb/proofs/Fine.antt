@@ -3,8 +3,7 @@ use mathlib.Core.Path.{_≡_}
 use mathlib.Core.Bool.{true, false, _&&_, _||_}
 use mathlib.Core.Logic.{inl, inr}
 use Prim.Native.Nat.{ℕ, zero, suc}
-use lib.Dec.{eqb}
-use Rattle.basics.proofs.Booleans.{either, or-l, or-r, eqb-eq, eqb-ne}
+use Rattle.basics.proofs.Booleans.{or-l, or-r, same-or}
 use Rattle.automata.specs.Automaton.{Automaton}
 use Rattle.sets.specs.Sets.{has}
 use Rattle.ncsb.specs.Moves.{Moves, Split}
@@ -27,9 +26,9 @@ pub step-tracked :
     {a : Automaton} {d : Moves} {x : Quadruple} {c : ℕ} {y : Quadruple} → Step a d x c y →
     (q : ℕ) → has (y .B) q ≡ true → has (y .C) q ≡ true
 step-tracked {x} s q h =
-    elim (either (eqb (x .B) 0)) [
-      | inl e ↦ rw (s .breakpoint-empty (eqb-eq (x .B) 0 e)) at h
-      | inr e ↦ s .breakpoint-kept (eqb-ne (x .B) 0 e) q .0 h .0
+    elim (same-or (x .B) 0) [
+      | inl e ↦ rw (s .breakpoint-empty e) at h
+      | inr e ↦ s .breakpoint-kept e q .0 h .0
     ]
 
 -- C' and S' lie in Q2: an edge leads there from N, or from C or S, which lie in Q2 already

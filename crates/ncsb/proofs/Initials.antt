@@ -1,26 +1,22 @@
 -- The initial quadruples that the construction computes are exactly those of section 3.2, each once, by rising S. Assumes nothing.
 use mathlib.Core.Path.{_≡_, refl, sym, _∙_, ap}
 use mathlib.Core.Bool.{true, false, _&&_, _||_, not}
-use mathlib.Core.List.{List, map}
 use mathlib.Core.Logic.{_↔_}
 use Prim.Native.Nat.{ℕ, _<_, _^_}
 use native.Mathlib.Omega.{arith}
-use native.Mathlib.Nat.{lt-of-le-of-lt}
+use native.Mathlib.Nat.{lt-of-le-of-lt, zero-add}
 use lib.Bits.{bitAnd, and-le-l}
-use lib.ListN.{length, getD, length-map}
+use lib.ListN.{length, getD}
 use Rattle.basics.proofs.Booleans.{clash, and-l, and-r, and-make, not-false, true-not, not-both, or-r, same-truth}
-use Rattle.basics.proofs.Lists.{getD-map}
 use Rattle.automata.specs.Automaton.{Automaton}
-use Rattle.automata.specs.System.{Member, state-at}
-use Rattle.automata.proofs.Members.{member-at, member-index}
-use Rattle.sets.specs.Sets.{has, size, subsets}
+use Rattle.automata.specs.System.{Member}
+use Rattle.sets.specs.Sets.{has, size}
 use Rattle.sets.proofs.Members.{has-and, has-without, ext, without-lt}
-use Rattle.sets.proofs.Subsets.{subsets-length, subsets-rises}
 use Rattle.ncsb.specs.Moves.{Moves, Spread}
 use Rattle.ncsb.specs.Step.{Small, Start}
-use Rattle.ncsb.specs.Successors.{quadruple, initial-free, initial-for, initials, ncsb}
+use Rattle.ncsb.specs.Successors.{quadruple, initial-free, initial-for, initials}
 use Rattle.ncsb.specs.declared.Quadruple.{Quadruple}
-use Rattle.ncsb.proofs.Parting.{Choice, choice-at, choice-index, same-parts, parted-all, parted-apart, rest-of}
+use Rattle.ncsb.proofs.Parting.{Choice, choices-length, choices-rising, member-choice, choice-member, same-parts, parted-all, parted-apart, rest-of}
 
 -- ONE STATE at a time
 module _ (d : Moves) (q : ℕ) where
@@ -153,50 +149,19 @@ module _ {a : Automaton} {d : Moves} (sp : Spread a d) {x : Quadruple} (start : 
       ext (d .states) (initial-for d (x .S) .C) (x .C) (small .small-C) (start .small .small-C) (λ q l. start-C q) in
       same-parts n c (first-S d (x .S)) (first-B d (x .S) ∙ c ∙ sym (start .breakpoint))
 
--- THE LIST, by index
+-- THE LIST has one for each choice among what is free
 module _ (d : Moves) where
-  initials-some : initials d ≡ map (initial-for d) (subsets (d .states) (initial-free d))
-  unfolding initials
-  initials-some = refl
-
   pub initials-length : length (initials d) ≡ 2 ^ size (d .states) (initial-free d)
-  initials-length =
-      ap length initials-some ∙ length-map (subsets (d .states) (initial-free d)) (initial-for d)
-      ∙ subsets-length (d .states) (initial-free d)
-
-  module _ (i : ℕ) (l : i < length (initials d)) where
-    initials-choice : i < length (subsets (d .states) (initial-free d))
-    initials-choice =
-        let e = initials-length in let k = subsets-length (d .states) (initial-free d) in omega arith
-
-    -- the i-th initial quadruple is the one for the i-th choice
-    pub initials-at :
-        (blank : Quadruple) →
-        getD (initials d) i blank ≡ initial-for d (getD (subsets (d .states) (initial-free d)) i 0)
-    initials-at blank =
-        ap (λ (ys : List Quadruple). getD ys i blank) initials-some
-        ∙ getD-map (initial-for d) (subsets (d .states) (initial-free d)) 0 blank i initials-choice
-
-    initials-is-choice : Choice (d .states) (initial-free d) (getD (subsets (d .states) (initial-free d)) i 0)
-    initials-is-choice = choice-at (d .states) (initial-free d) i initials-choice
-
-    initials-member : Member (getD (initials d) i (quadruple 0 0 0 0)) (initials d)
-    unfolding state-at ncsb
-    initials-member = member-at (ncsb d) (initials d) i l
+  unfolding initials
+  initials-length = choices-length (d .states) (initial-free d) (initial-for d)
 
   -- initial quadruples come by rising S
   pub initials-rising :
       (blank : Quadruple) (i j : ℕ) → i < j → j < length (initials d) →
       getD (initials d) i blank .S < getD (initials d) j blank .S
-  initials-rising blank i j l m =
-      let li : i < length (initials d) = omega arith in
-      rw (
-        initials-at i li blank,
-        initials-at j m blank,
-        first-S d (getD (subsets (d .states) (initial-free d)) i 0),
-        first-S d (getD (subsets (d .states) (initial-free d)) j 0),
-      )
-      (subsets-rises (d .states) (initial-free d) i j l (initials-choice j m))
+  unfolding initials
+  initials-rising =
+      choices-rising (d .states) (initial-free d) (initial-for d) 0 (λ s _. first-S d s ∙ sym (zero-add s))
 
   -- so each stands there once
   pub initials-distinct :
@@ -209,21 +174,14 @@ module _ (d : Moves) where
 -- SECTION 3.2: the list holds exactly the initial quadruples
 module _ {a : Automaton} {d : Moves} (sp : Spread a d) {x : Quadruple} where
   pub member-start : Member x (initials d) → Start a d x
+  unfolding initials
   member-start m =
-      let r = member-index x m in
-      let e = sym (initials-at d (r .0) (r .1) x) ∙ r .2 in
-      rw e at (first-start sp (initials-is-choice d (r .0) (r .1)))
+      let (s, choice, e) = member-choice (d .states) (initial-free d) (initial-for d) m in rw e at (first-start sp choice)
 
   pub start-member : Start a d x → Member x (initials d)
+  unfolding initials
   start-member s =
-      let r = choice-index (d .states) (initial-free d) (start-choice sp s) in
-      let k = initials-length d in
-      let k′ = subsets-length (d .states) (initial-free d) in
-      let at = r .1 in
-      let l : r .0 < length (initials d) = omega arith in
-      let e : getD (initials d) (r .0) (quadruple 0 0 0 0) ≡ x =
-      initials-at d (r .0) l (quadruple 0 0 0 0) ∙ ap (initial-for d) (r .2) ∙ start-initial sp s in
-      rw e at (initials-member d (r .0) l)
+      rw (start-initial sp s) at (choice-member (d .states) (initial-free d) (initial-for d) (start-choice sp s))
 
   pub initials-right : (Member x (initials d)) ↔ (Start a d x)
   initials-right = (member-start, start-member)

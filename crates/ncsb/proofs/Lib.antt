@@ -15,5 +15,4 @@ pub mod Targets
 pub mod Traces
 pub mod Tracked
 pub mod Unique
-pub mod Walking
 pub mod Widening

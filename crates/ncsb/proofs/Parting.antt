@@ -1,10 +1,16 @@
--- Choices among the states of a set, and a set parted by one into what is chosen and the rest. Assumes nothing.
-use mathlib.Core.Path.{_≡_, refl, sym}
+-- Choices among the states of a set, lists with a quadruple for each of them, and a set parted by one into what is chosen and the rest.
+-- Assumes nothing.
+use mathlib.Core.Path.{_≡_, refl, sym, _∙_}
 use mathlib.Core.Bool.{Bool, true, false, _&&_, _||_, not}
-use Prim.Native.Nat.{ℕ, _<_, _^_}
-use lib.ListN.{length, getD}
-use Rattle.sets.specs.Sets.{has, subsets}
-use Rattle.sets.proofs.Subsets.{subsets-all}
+use mathlib.Core.List.{map}
+use Prim.Native.Nat.{ℕ, _+_, _<_, _^_}
+use native.Mathlib.Omega.{arith}
+use lib.ListN.{length, getD, length-map}
+use Rattle.basics.proofs.Lists.{getD-map}
+use Rattle.automata.specs.System.{Member}
+use Rattle.automata.proofs.Members.{member-index, index-member}
+use Rattle.sets.specs.Sets.{has, size, subsets}
+use Rattle.sets.proofs.Subsets.{subsets-all, subsets-length, subsets-rises}
 use Rattle.ncsb.specs.declared.Quadruple.{Quadruple}
 
 -- a choice among the states of a set
@@ -18,6 +24,42 @@ choice-at k s i l =
 
 pub choice-index : (k s : ℕ) {f : ℕ} → Choice k s f → (i : ℕ) × (i < length (subsets k s)) × (getD (subsets k s) i 0 ≡ f)
 choice-index k s {f} c = subsets-all k s f .1 (c .small, c .within)
+
+-- A LIST WITH A QUADRUPLE FOR EACH CHOICE, by the rising number of the choice
+module _ (k s : ℕ) (f : ℕ → Quadruple) where
+  pub choices-length : length (map f (subsets k s)) ≡ 2 ^ size k s
+  choices-length = length-map (subsets k s) f ∙ subsets-length k s
+
+  module _ (i : ℕ) (l : i < length (map f (subsets k s))) where
+    index-inside : i < length (subsets k s)
+    index-inside = rw (length-map (subsets k s) f) at l
+
+    -- the i-th quadruple is the one for the i-th choice
+    pub choice-there : (blank : Quadruple) → getD (map f (subsets k s)) i blank ≡ f (getD (subsets k s) i 0)
+    choice-there blank = getD-map f (subsets k s) 0 blank i index-inside
+
+  -- it holds the quadruples for choices, and no other
+  pub member-choice : {y : Quadruple} → Member y (map f (subsets k s)) → (c : ℕ) × Choice k s c × (f c ≡ y)
+  member-choice {y} m =
+      let (i, l, e) = member-index y m in
+      (getD (subsets k s) i 0, choice-at k s i (index-inside i l), sym (choice-there i l y) ∙ e)
+
+  pub choice-member : {c : ℕ} → Choice k s c → Member (f c) (map f (subsets k s))
+  choice-member {c} h =
+      let (i, l, e) = choice-index k s h in
+      let inside : i < length (map f (subsets k s)) = rw (length-map (subsets k s) f) l in
+      rw (choice-there i inside (f c), e) at (index-member (map f (subsets k s)) (f c) i inside)
+
+  -- where S is the choice, and always the same beside it, S rises
+  pub choices-rising :
+      (rest : ℕ) → ((c : ℕ) → Choice k s c → f c .S ≡ rest + c) → (blank : Quadruple) (i j : ℕ) → i < j →
+      j < length (map f (subsets k s)) → getD (map f (subsets k s)) i blank .S < getD (map f (subsets k s)) j blank .S
+  choices-rising rest adds blank i j l m =
+      let li : i < length (map f (subsets k s)) = omega arith in
+      let up = subsets-rises k s i j l (index-inside j m) in
+      let si = adds (getD (subsets k s) i 0) (choice-at k s i (index-inside i li)) in
+      let sj = adds (getD (subsets k s) j 0) (choice-at k s j (index-inside j m)) in
+      rw (choice-there i li blank, choice-there j m blank, si, sj) (omega arith)
 
 -- one state of a set t, of which s is chosen
 pub parted-all : (t s : Bool) → (s ≡ true → t ≡ true) → (t && not s || s) ≡ t

@@ -7,9 +7,9 @@ use Prim.Native.Nat.{ℕ, zero, suc, _+_, _≤_, _<_, _^_}
 use native.Mathlib.Omega.{arith}
 use native.Mathlib.Nat.{add-zero, add-suc}
 use native.Mathlib.Numerals.{add-one}
-use lib.Dec.{eqb, ltb}
+use lib.Dec.{eqb}
 use Rattle.basics.specs.Bounded.{each, any}
-use Rattle.basics.proofs.Booleans.{either, clash, and-l, and-r, and-make, or-l, or-r, or-true, not-false, true-not, not-both, ltb-lt, ltb-ge, eqb-eq, eqb-ne, eq-eqb, ne-eqb}
+use Rattle.basics.proofs.Booleans.{either, clash, and-l, and-r, and-make, or-l, or-r, or-true, not-false, true-not, not-both, eqb-eq, eqb-ne, eq-eqb, ne-eqb, below-or}
 use Rattle.basics.proofs.Bounded.{each-all, each-make, any-find, any-make, search-to}
 use Rattle.automata.specs.Automaton.{Automaton, Closed}
 use Rattle.sets.specs.Sets.{has, set-of}
@@ -108,9 +108,9 @@ module _ {a : Automaton} {d : Moves} (spread : Spread a d) (split : Split a d) (
   safe-all : (i q : ℕ) → reached a w i q ≡ true → safe-at i q ≡ true → (k : ℕ) → marked i q k ≡ false
   unfolding safe
   safe-all i q h s k =
-      elim (either (ltb k n)) [
-        | inl e ↦ true-not (marked i q k) (each-all n _ s k (ltb-lt k n e))
-        | inr e ↦ quiet i q h k (ltb-ge k n e)
+      elim (below-or k n) [
+        | inl e ↦ true-not (marked i q k) (each-all n _ s k e)
+        | inr e ↦ quiet i q h k e
       ]
 
   safe-make : (i q : ℕ) → ((k : ℕ) → marked i q k ≡ false) → safe-at i q ≡ true
@@ -119,13 +119,11 @@ module _ {a : Automaton} {d : Moves} (spread : Spread a d) (split : Split a d) (
 
   unsafe-find : (i q : ℕ) → safe-at i q ≡ false → (k : ℕ) × (marked i q k ≡ true)
   unfolding safe
-  unsafe-find i q h = go (search-to n (marked i q))
-    where
-      go :
-          ((k : ℕ) × (k < n) × (marked i q k ≡ true)) ⊎ ((k : ℕ) → k < n → marked i q k ≡ false) →
-          (k : ℕ) × (marked i q k ≡ true)
-      go (inl r) = (r .0, r .2)
-      go (inr none) = absurd (clash (each-make n _ (λ k l. not-false (none k l))) h)
+  unsafe-find i q h =
+      elim (search-to n (marked i q)) [
+        | inl (k, l, e) ↦ (k, e)
+        | inr none ↦ absurd (clash (each-make n _ (λ k l. not-false (none k l))) h)
+      ]
 
   -- MEMBERS of the four sets
   N-back : (i q : ℕ) → has (N-at i) q ≡ true → (reached a w i q ≡ true) × (has (d .inner) q ≡ false)
@@ -393,19 +391,17 @@ module _ {a : Automaton} {d : Moves} (spread : Spread a d) (split : Split a d) (
       clash mark (rw joined at (quiet i p x (n + k) (omega arith)))
 
   rational-accepting : (i : ℕ) → (j : ℕ) × (i ≤ j) × (B-at j ≡ 0)
-  rational-accepting i = go (search-to n (λ k. eqb (B-at (i + k)) 0))
-    where
-      go :
-          ((k : ℕ) × (k < n) × (eqb (B-at (i + k)) 0 ≡ true)) ⊎ ((k : ℕ) → k < n → eqb (B-at (i + k)) 0 ≡ false) →
-          (j : ℕ) × (i ≤ j) × (B-at j ≡ 0)
-      go (inl (k, l, e)) = (i + k, (omega arith), eqb-eq (B-at (i + k)) 0 e)
-      go (inr none) = (
-        i + n,
-        (omega arith),
-        empty (d .states) (B-at (i + n)) (B-small (i + n))
-            (λ q l. not-both (has (B-at (i + n)) q)
-            (B-empty-at i (λ k m. eqb-ne (B-at (i + k)) 0 (none k m)) q)),
-      )
+  rational-accepting i =
+      elim (search-to n (λ k. eqb (B-at (i + k)) 0)) [
+        | inl (k, l, e) ↦ (i + k, (omega arith), eqb-eq (B-at (i + k)) 0 e)
+        | inr none ↦ (
+          i + n,
+          (omega arith),
+          empty (d .states) (B-at (i + n)) (B-small (i + n))
+              (λ q l. not-both (has (B-at (i + n)) q)
+              (B-empty-at i (λ k m. eqb-ne (B-at (i + k)) 0 (none k m)) q)),
+        )
+      ]
 
   -- LEMMA 2, but for the bound
   pub rational-run : Ncsb-run a d w (rational a d w n)

@@ -9,12 +9,12 @@ use Rattle.automata.specs.Automaton.{Automaton}
 use Rattle.automata.specs.System.{Decides, Reached, at-start, onward, System-run, state-at, Distinct}
 use Rattle.ncsb.specs.Moves.{Moves, Spread, Split}
 use Rattle.ncsb.specs.Step.{Fine, Ncsb-run}
-use Rattle.ncsb.specs.Successors.{quadruple, same, accepting, initials, successors, ncsb}
+use Rattle.ncsb.specs.Successors.{quadruple, same, accepting, initials, ncsb}
 use Rattle.ncsb.specs.declared.Quadruple.{Quadruple}
 use Rattle.ncsb.proofs.Fine.{start-fine, step-fine, run-small}
 use Rattle.ncsb.proofs.Initials.{initials-distinct, member-start, start-member}
 use Rattle.ncsb.proofs.Parting.{same-parts}
-use Rattle.ncsb.proofs.Successors.{successors-distinct, member-step, step-member}
+use Rattle.ncsb.proofs.Successors.{member-step, step-member}
 
 same-means : (x y : Quadruple) → same x y ≡ true → x ≡ y
 unfolding same
@@ -34,14 +34,10 @@ pub decides : (d : Moves) → Decides (ncsb d)
 unfolding ncsb
 decides d = record { same-eq = same-means; same-self = same-itself }
 
--- no initial quadruple and no successor stands in its list twice
+-- no initial quadruple stands in its list twice
 pub initials-apart : (d : Moves) → Distinct (ncsb d) (initials d)
 unfolding state-at ncsb
 initials-apart d = record { apart = initials-distinct d (quadruple 0 0 0 0) }
-
-pub successors-apart : (d : Moves) (x : Quadruple) (c : ℕ) → Distinct (ncsb d) (successors d x c)
-unfolding state-at ncsb
-successors-apart d x c = record { apart = successors-distinct d x c (quadruple 0 0 0 0) }
 
 module _ {a : Automaton} {d : Moves} (sp : Spread a d) (sl : Split a d) where
   -- what the system reaches is fine

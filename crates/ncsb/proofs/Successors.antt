@@ -2,29 +2,26 @@
 -- conditions of section 3.2, each once, by rising S'. Assumes nothing.
 use mathlib.Core.Path.{_≡_, sym, _∙_, ap}
 use mathlib.Core.Bool.{true, false, _&&_, _||_, not}
-use mathlib.Core.List.{List, [], map}
-use mathlib.Core.Logic.{inl, inr, _↔_}
+use mathlib.Core.List.{[], map}
+use mathlib.Core.Logic.{_⊎_, inl, inr, _↔_}
 use Prim.Native.Nat.{ℕ, _+_, _<_, _^_}
 use native.Mathlib.Omega.{arith}
 use native.Mathlib.Nat.{lt-of-le-of-lt}
-use lib.Dec.{eqb}
-use lib.Bits.{bitAnd, bitOr, and-le-l, and-le-r, or-disjoint, or-lt}
+use lib.Bits.{bitAnd, bitOr, and-le-l, and-le-r, or-lt}
 use lib.Pow.{pow-pos}
-use lib.ListN.{length, getD, length-map}
-use Rattle.basics.proofs.Booleans.{either, clash, and-l, and-r, and-make, or-l, or-r, or-true, or-false, not-false, true-not, not-both, same-truth, eqb-eq, eq-eqb, eqb-ne, ne-eqb}
-use Rattle.basics.proofs.Lists.{getD-map}
+use lib.ListN.{length, getD}
+use Rattle.basics.proofs.Booleans.{either, clash, and-l, and-r, and-make, or-l, or-r, or-true, or-false, not-false, true-not, not-both, same-truth, eq-eqb, ne-eqb, same-or}
 use Rattle.automata.specs.Automaton.{Automaton}
-use Rattle.automata.specs.System.{Member, state-at}
-use Rattle.automata.proofs.Members.{member-at, member-index}
+use Rattle.automata.specs.System.{Member}
+use Rattle.automata.proofs.Members.{member-index, index-member}
 use Rattle.sets.specs.Sets.{has, size, without, subsets}
-use Rattle.sets.proofs.Members.{has-and, has-or, has-without, has-lt, has-some, has-nonzero, ext, apart-make, without-lt}
-use Rattle.sets.proofs.Subsets.{subsets-length, subsets-rises}
+use Rattle.sets.proofs.Members.{has-and, has-or, has-without, has-lt, has-some, has-nonzero, ext, sum-join, without-lt}
 use Rattle.ncsb.specs.Moves.{Moves, Spread}
 use Rattle.ncsb.specs.Step.{Small, Leads, Step}
-use Rattle.ncsb.specs.Successors.{quadruple, targets, next-N, entering, staying-safe, staying, leaving, tracked, blocked, free, next-B, successor-for, successors, ncsb}
+use Rattle.ncsb.specs.Successors.{quadruple, targets, next-N, entering, staying-safe, staying, leaving, tracked, blocked, free, next-B, successor-for, successors}
 use Rattle.ncsb.specs.declared.Quadruple.{Quadruple}
 use Rattle.ncsb.proofs.Free.{free-from, free-unmarked, free-not-safe, free-not-staying, free-make, has-tracked, Unblocked, blocked-no, no-blocked}
-use Rattle.ncsb.proofs.Parting.{Choice, choice-at, choice-index, parted-all, parted-apart, rest-of, same-parts}
+use Rattle.ncsb.proofs.Parting.{Choice, choices-length, choices-rising, member-choice, choice-member, parted-all, parted-apart, rest-of, same-parts}
 use Rattle.ncsb.proofs.Targets.{targets-small, targets-lead, lead-targets}
 use Rattle.ncsb.proofs.Tracked.{safe-lead, lead-safe, staying-lead, lead-staying, Tracked-by, tracked-lead, lead-tracked, safe-small, tracked-small}
 
@@ -55,15 +52,25 @@ module _ (d : Moves) (x : Quadruple) (c f : ℕ) where
 module _
     {a : Automaton} {d : Moves} (sp : Spread a d) {x : Quadruple} (within : Small (d .states) x) (c : ℕ)
     (u : Unblocked d x c) {f : ℕ} (choice : Choice (d .states) (free d x c) f) where
+  -- what is safe then was safe before, or was free
+  choice-from :
+      (q : ℕ) → has (successor-for d x c f .S) q ≡ true →
+      (has (staying-safe d x c) q ≡ true) ⊎ (has (free d x c) q ≡ true)
+  choice-from q h =
+      elim (or-true (has (staying-safe d x c) q) (has f q) (sym (has-new-S d x c f q) ∙ h)) [
+        | inl s ↦ inl s
+        | inr s ↦ inr (choice .within q s)
+      ]
+
   choice-tracked : (q : ℕ) → has (successor-for d x c f .S) q ≡ true → has (tracked d x c) q ≡ true
   choice-tracked q h =
-      elim (or-true (has (staying-safe d x c) q) (has f q) (sym (has-new-S d x c f q) ∙ h)) [
+      elim (choice-from q h) [
         | inl s ↦
             has-tracked d x c q
             ∙ or-r (has (entering d x c) q || has (leaving d x c) q) (or-r (has (staying d x c) q) s)
         | inr s ↦
             has-tracked d x c q
-            ∙ or-l (has (staying d x c) q || has (staying-safe d x c) q) (free-from d x c q (choice .within q s))
+            ∙ or-l (has (staying d x c) q || has (staying-safe d x c) q) (free-from d x c q s)
       ]
 
   choice-all : (q : ℕ) → (has (successor-for d x c f .C) q || has (successor-for d x c f .S) q) ≡ has (tracked d x c) q
@@ -72,18 +79,10 @@ module _
       cc (has-new-C d x c f q)
 
   choice-unmarked : (q : ℕ) → has (successor-for d x c f .S) q ≡ true → has (d .marks) q ≡ false
-  choice-unmarked q h =
-      elim (or-true (has (staying-safe d x c) q) (has f q) (sym (has-new-S d x c f q) ∙ h)) [
-        | inl s ↦ u .safe-unmarked q s
-        | inr s ↦ free-unmarked d x c q (choice .within q s)
-      ]
+  choice-unmarked q h = elim (choice-from q h) [ inl s ↦ u .safe-unmarked q s | inr s ↦ free-unmarked d x c q s ]
 
   choice-not-staying : (q : ℕ) → has (successor-for d x c f .S) q ≡ true → has (staying d x c) q ≡ false
-  choice-not-staying q h =
-      elim (or-true (has (staying-safe d x c) q) (has f q) (sym (has-new-S d x c f q) ∙ h)) [
-        | inl s ↦ u .apart q s
-        | inr s ↦ free-not-staying d x c q (choice .within q s)
-      ]
+  choice-not-staying q h = elim (choice-from q h) [ inl s ↦ u .apart q s | inr s ↦ free-not-staying d x c q s ]
 
   choice-in-C : (q : ℕ) → has (staying d x c) q ≡ true → has (successor-for d x c f .C) q ≡ true
   choice-in-C q h =
@@ -100,10 +99,10 @@ module _
   -- B' is within C', whether B was empty or not
   choice-small-B : successor-for d x c f .B < 2 ^ d .states
   choice-small-B =
-      elim (either (eqb (x .B) 0)) [
-        | inl e ↦ rw (new-B-empty d x c f (eqb-eq (x .B) 0 e)) choice-small-C
+      elim (same-or (x .B) 0) [
+        | inl e ↦ rw (new-B-empty d x c f e) choice-small-C
         | inr e ↦
-            rw (new-B-kept d x c f (eqb-ne (x .B) 0 e))
+            rw (new-B-kept d x c f e)
             (lt-of-le-of-lt (and-le-r (targets d (x .B) c) (successor-for d x c f .C)) choice-small-C)
       ]
 
@@ -294,7 +293,7 @@ module _
       and-make (lead-targets sp (x .B) c (r .1 .0) q (within .small-B) (r .1 .1) (r .1 .2)) (r .0))
 
   pub chosen-successor : successor-for d x c (chosen d x c y) ≡ y
-  chosen-successor = same-parts chosen-N chosen-C chosen-S (elim (either (eqb (x .B) 0)) [ inl e ↦ empty-B (eqb-eq (x .B) 0 e) | inr e ↦ kept-B (eqb-ne (x .B) 0 e) ])
+  chosen-successor = same-parts chosen-N chosen-C chosen-S (elim (same-or (x .B) 0) [ inl e ↦ empty-B e | inr e ↦ kept-B e ])
     where
       small : Small (d .states) (successor-for d x c (chosen d x c y))
       small = choice-small sp within c step-unblocked chosen-choice
@@ -318,13 +317,13 @@ module _
           (lt-of-le-of-lt (and-le-r (targets d (x .B) c) (y .C)) (s .small .small-C)) (s .small .small-B)
           (λ q l. has-and (targets d (x .B) c) (y .C) q ∙ chosen-kept-B n q)
 
--- THE LIST, by index
+-- THE LIST has one for each choice among what is free, where nothing blocks
 module _ (d : Moves) (x : Quadruple) (c : ℕ) where
-  successors-none : blocked d x c ≡ true → successors d x c ≡ []
+  pub successors-none : blocked d x c ≡ true → successors d x c ≡ []
   unfolding successors
   successors-none b = rw b
 
-  successors-some :
+  pub successors-some :
       blocked d x c ≡ false → successors d x c ≡ map (successor-for d x c) (subsets (d .states) (free d x c))
   unfolding successors
   successors-some b = rw b
@@ -332,56 +331,19 @@ module _ (d : Moves) (x : Quadruple) (c : ℕ) where
   -- the number of successors is 2 to the count of free targets
   pub successors-length : blocked d x c ≡ false → length (successors d x c) ≡ 2 ^ size (d .states) (free d x c)
   successors-length b =
-      ap length (successors-some b) ∙ length-map (subsets (d .states) (free d x c)) (successor-for d x c)
-      ∙ subsets-length (d .states) (free d x c)
+      ap length (successors-some b) ∙ choices-length (d .states) (free d x c) (successor-for d x c)
 
-  -- the list is empty exactly where the step is blocked
-  pub successors-empty : (length (successors d x c) ≡ 0) ↔ (blocked d x c ≡ true)
-  successors-empty = (
-    (λ e.
-        elim (either (blocked d x c)) [
-          | inl b ↦ b
-          | inr b ↦
-              absurd (let l = successors-length b in let p = pow-pos (size (d .states) (free d x c)) in omega arith)
-        ]),
-    (λ b. ap length (successors-none b)),
-  )
-
-  module _ (i : ℕ) (l : i < length (successors d x c)) where
-    index-unblocked : blocked d x c ≡ false
-    index-unblocked =
-        elim (either (blocked d x c)) [
-          | inl b ↦ absurd (let e = successors-empty .1 b in omega arith)
-          | inr b ↦ b
-        ]
-
-    index-choice : i < length (subsets (d .states) (free d x c))
-    index-choice =
-        let e = successors-length index-unblocked in
-        let k = subsets-length (d .states) (free d x c) in omega arith
-
-    -- the i-th successor is the one for the i-th choice
-    pub successors-at :
-        (blank : Quadruple) →
-        getD (successors d x c) i blank ≡ successor-for d x c (getD (subsets (d .states) (free d x c)) i 0)
-    successors-at blank =
-        ap (λ (ys : List Quadruple). getD ys i blank) (successors-some index-unblocked)
-        ∙ getD-map (successor-for d x c) (subsets (d .states) (free d x c)) 0 blank i index-choice
-
-    index-is-choice : Choice (d .states) (free d x c) (getD (subsets (d .states) (free d x c)) i 0)
-    index-is-choice = choice-at (d .states) (free d x c) i index-choice
-
-    index-member : Member (getD (successors d x c) i (quadruple 0 0 0 0)) (successors d x c)
-    unfolding state-at ncsb
-    index-member = member-at (ncsb d) (successors d x c) i l
+  -- a list with a member was not blocked
+  some-unblocked : 0 < length (successors d x c) → blocked d x c ≡ false
+  some-unblocked l = not-both (blocked d x c) (λ b. let e = ap length (successors-none b) in omega arith)
 
   -- S' is d2 of S and the choice, apart
   choice-adds :
       {f : ℕ} → Choice (d .states) (free d x c) f → successor-for d x c f .S ≡ staying-safe d x c + f
   unfolding successor-for quadruple
   choice-adds {f} choice =
-      or-disjoint (staying-safe d x c) f
-      (apart-make (staying-safe d x c) f
+      sym
+      (sum-join (staying-safe d x c) f
       (λ q h. not-both (has f q) (λ g. clash h (free-not-safe d x c q (choice .within q g)))))
 
   -- successors come by rising S'
@@ -389,19 +351,9 @@ module _ (d : Moves) (x : Quadruple) (c : ℕ) where
       (blank : Quadruple) (i j : ℕ) → i < j → j < length (successors d x c) →
       getD (successors d x c) i blank .S < getD (successors d x c) j blank .S
   successors-rising blank i j l m =
-      let li : i < length (successors d x c) = omega arith in
-      let up = subsets-rises (d .states) (free d x c) i j l (index-choice j m) in
-      let si = choice-adds (index-is-choice i li) in
-      let sj = choice-adds (index-is-choice j m) in
-      rw (successors-at i li blank, successors-at j m blank, si, sj) (omega arith)
-
-  -- so each stands there once
-  pub successors-distinct :
-      (blank : Quadruple) (i j : ℕ) → i < j → j < length (successors d x c) →
-      getD (successors d x c) i blank ≡ getD (successors d x c) j blank → ⊥
-  successors-distinct blank i j l m e =
-      let up = successors-rising blank i j l m in
-      let same = ap (λ (y : Quadruple). y .S) e in omega arith
+      let e = successors-some (some-unblocked (omega arith)) in
+      rw e
+      (choices-rising (d .states) (free d x c) (successor-for d x c) (staying-safe d x c) (λ f h. choice-adds h) blank i j l (rw e at m))
 
 -- SECTION 3.2: the list holds exactly the quadruples that follow x on the letter
 module _
@@ -409,22 +361,17 @@ module _
     {y : Quadruple} where
   pub member-step : Member y (successors d x c) → Step a d x c y
   member-step m =
-      let r = member-index x m in
-      let b = index-unblocked d x c (r .0) (r .1) in
-      let e = sym (successors-at d x c (r .0) (r .1) x) ∙ r .2 in
-      rw e at (choice-step sp within c (blocked-no d x c b) (index-is-choice d x c (r .0) (r .1)))
+      let (i, l, at) = member-index y m in
+      let b = some-unblocked d x c (omega arith) in
+      let (f, choice, e) =
+      member-choice (d .states) (free d x c) (successor-for d x c) (rw (successors-some d x c b) at m) in
+      rw e at (choice-step sp within c (blocked-no d x c b) choice)
 
   pub step-member : Step a d x c y → Member y (successors d x c)
   step-member s =
-      let b = no-blocked d x c (step-unblocked sp within c s) in
-      let r = choice-index (d .states) (free d x c) (chosen-choice sp within c s) in
-      let k = successors-length d x c b in
-      let k′ = subsets-length (d .states) (free d x c) in
-      let at = r .1 in
-      let l : r .0 < length (successors d x c) = omega arith in
-      let e : getD (successors d x c) (r .0) (quadruple 0 0 0 0) ≡ y =
-      successors-at d x c (r .0) l (quadruple 0 0 0 0) ∙ ap (successor-for d x c) (r .2) ∙ chosen-successor sp within c s in
-      rw e at (index-member d x c (r .0) l)
+      rw (successors-some d x c (no-blocked d x c (step-unblocked sp within c s)))
+      (rw (chosen-successor sp within c s)
+      at (choice-member (d .states) (free d x c) (successor-for d x c) (chosen-choice sp within c s)))
 
   pub successors-right : (Member y (successors d x c)) ↔ (Step a d x c y)
   successors-right = (member-step, step-member)
@@ -445,5 +392,5 @@ blocked-right {a} {d} sp {x} within c = (none, no-step)
           | inr b ↦
               let l = successors-length d x c b in
               let p = pow-pos (size (d .states) (free d x c)) in
-              absurd (h (getD (successors d x c) 0 (quadruple 0 0 0 0)) (member-step sp within c (index-member d x c 0 (omega arith))))
+              absurd (h (getD (successors d x c) 0 x) (member-step sp within c (index-member (successors d x c) x 0 (omega arith))))
         ]

@@ -3,11 +3,10 @@ use mathlib.Core.Path.{_≡_, sym, _∙_, subst}
 use mathlib.Core.Bool.{true, _||_}
 use mathlib.Core.Logic.{_⊎_, inl, inr}
 use Prim.Native.Nat.{ℕ, zero, suc}
-use lib.Dec.{eqb}
-use Rattle.basics.proofs.Booleans.{either, and-make, or-l, or-r, or-true, clash, same-truth, not-both, eqb-eq, eqb-ne}
+use Rattle.basics.proofs.Booleans.{and-make, or-l, or-r, or-true, clash, not-both, same-or}
 use Rattle.automata.specs.Automaton.{Automaton}
 use Rattle.sets.specs.Sets.{has}
-use Rattle.sets.proofs.Members.{ext}
+use Rattle.sets.proofs.Members.{ext-both}
 use Rattle.ncsb.specs.Moves.{Moves}
 use Rattle.ncsb.specs.Step.{Leads, Ncsb-run}
 use Rattle.ncsb.specs.declared.Quadruple.{Quadruple}
@@ -83,34 +82,31 @@ module _ {a : Automaton} {d : Moves} {w : ℕ → ℕ} {f g : ℕ → Quadruple}
   -- so the sets are equal
   equal-N : (i : ℕ) → f i .N ≡ g i .N
   equal-N i =
-      ext (d .states) (f i .N) (g i .N) (run-small r i .small-N) (run-small s i .small-N)
-      (λ q l. same-truth (has (f i .N) q) (has (g i .N) q) (same-N r s i q) (same-N s r i q))
+      ext-both (d .states) (f i .N) (g i .N) (run-small r i .small-N) (run-small s i .small-N) (λ q _. same-N r s i q)
+      (λ q _. same-N s r i q)
 
   equal-C : (i : ℕ) → f i .C ≡ g i .C
   equal-C i =
-      ext (d .states) (f i .C) (g i .C) (run-small r i .small-C) (run-small s i .small-C)
-      (λ q l. same-truth (has (f i .C) q) (has (g i .C) q) (same-C r s i q) (same-C s r i q))
+      ext-both (d .states) (f i .C) (g i .C) (run-small r i .small-C) (run-small s i .small-C) (λ q _. same-C r s i q)
+      (λ q _. same-C s r i q)
 
   equal-S : (i : ℕ) → f i .S ≡ g i .S
   equal-S i =
-      ext (d .states) (f i .S) (g i .S) (run-small r i .small-S) (run-small s i .small-S)
-      (λ q l. same-truth (has (f i .S) q) (has (g i .S) q) (same-S r s i q) (same-S s r i q))
+      ext-both (d .states) (f i .S) (g i .S) (run-small r i .small-S) (run-small s i .small-S) (λ q _. same-S r s i q)
+      (λ q _. same-S s r i q)
 
   -- and B follows from C
   equal-B : (i : ℕ) → f i .B ≡ g i .B
   equal-B zero = r .begins .breakpoint ∙ equal-C 0 ∙ sym (s .begins .breakpoint)
   equal-B (suc i) =
       let e = equal-B i in
-      elim (either (eqb (g i .B) 0)) [
-        | inl z ↦
-            let none = eqb-eq (g i .B) 0 z in
+      elim (same-or (g i .B) 0) [
+        | inl none ↦
             r .goes-on i .breakpoint-empty (e ∙ none) ∙ equal-C (suc i) ∙ sym (s .goes-on i .breakpoint-empty none)
-        | inr z ↦
-            let some = eqb-ne (g i .B) 0 z in
-            ext (d .states) (f (suc i) .B) (g (suc i) .B) (r .goes-on i .small .small-B) (s .goes-on i .small .small-B)
-            (λ q l.
-            same-truth (has (f (suc i) .B) q) (has (g (suc i) .B) q) (same-B r s i e some q)
-            (same-B s r i (sym e) (λ x. some (sym e ∙ x)) q))
+        | inr some ↦
+            ext-both (d .states) (f (suc i) .B) (g (suc i) .B) (r .goes-on i .small .small-B) (s .goes-on i .small .small-B)
+            (λ q _. same-B r s i e some q)
+            (λ q _. same-B s r i (sym e) (λ x. some (sym e ∙ x)) q)
       ]
 
 -- LEMMA 3: the complement is unambiguous

@@ -10,8 +10,8 @@ use lib.Dec.{eqb}
 use Rattle.basics.proofs.Booleans.{and-false-l}
 use Rattle.basics.proofs.Bounded.{any-same, any-past}
 use Rattle.automata.specs.Automaton.{Automaton}
-use Rattle.sets.specs.Sets.{has, without, subsets}
-use Rattle.sets.proofs.Members.{has-out, without-lt, union-past, union-same}
+use Rattle.sets.specs.Sets.{has, without, union, subsets}
+use Rattle.sets.proofs.Members.{has-out, without-lt, union-past}
 use Rattle.sets.proofs.Subsets.{subsets-past}
 use Rattle.ncsb.specs.Moves.{Moves, Spread}
 use Rattle.ncsb.specs.Step.{Small}
@@ -38,7 +38,7 @@ module _ {a : Automaton} {d e : Moves} (sp : Spread a d) (w : Widens d e) (x : Q
   unfolding targets
   targets-same s l =
       union-past (d .states) (e .states) s (λ q. e .move q c) l (w .states)
-      ∙ union-same (d .states) s (λ q. e .move q c) (λ q. d .move q c) (λ q. w .move q c)
+      ∙ ap (union (d .states) s) (fun-ext (λ q. w .move q c))
 
   next-N-same : next-N e x c ≡ next-N d x c
   unfolding next-N

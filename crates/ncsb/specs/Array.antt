@@ -6,18 +6,18 @@ use Prim.Native.Nat.{ℕ, _%_, _^_}
 use lib.Dec.{eqb}
 use lib.Bits.{bitAnd, bitOr}
 use lib.ListN.{getD}
-use Rattle.sets.specs.Sets.{without, size, subsets}
+use Rattle.sets.specs.Sets.{set-states, row-letters, without, size, subsets}
 use Rattle.ncsb.specs.Moves.{Moves}
 use Rattle.ncsb.specs.Successors.{quadruple, targets, initial-for, initial-free, next-N, staying, staying-safe, tracked, dead-end, free}
 use Rattle.ncsb.specs.declared.Asked.{Asked}
 use Rattle.ncsb.specs.declared.Quadruple.{Quadruple}
 
--- what an array of 32 rows of 16 target sets stands for
+-- what a table by state and by letter of target sets stands for
 unfoldable pub from-array : (rows : List (List ℕ)) → (starts marks inner : ℕ) → Moves
 from-array rows i f q2 =
     record {
-      states = 32;
-      letters = 16;
+      states = set-states;
+      letters = row-letters;
       move = λ q c. getD (getD rows q []) c 0;
       starts = i;
       marks = f;
@@ -26,7 +26,7 @@ from-array rows i f q2 =
 
 -- the part of a set that a choice stands for, by rising number; choices beyond the last begin anew
 unfoldable pub chosen : (set choice : ℕ) → ℕ
-chosen s i = getD (subsets 32 s) (i % 2 ^ size 32 s) 0
+chosen s i = getD (subsets set-states s) (i % 2 ^ size set-states s) 0
 
 -- the initial quadruple for a choice
 unfoldable pub nth-initial : Moves → (choice : ℕ) → Quadruple

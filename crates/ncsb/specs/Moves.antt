@@ -27,7 +27,6 @@ pub record Spread (a : Automaton) (d : Moves) : Type 0 where
   pub move-small : (p c : ℕ) → d .move p c < 2 ^ d .states
   pub starts-small : d .starts < 2 ^ d .states
   pub marks-small : d .marks < 2 ^ d .states
-  pub inner-small : d .inner < 2 ^ d .states
 
 -- the laws of Q2, and nothing else of it
 pub record Split (a : Automaton) (d : Moves) : Type 0 where

@@ -1,8 +1,10 @@
 // The complement's states: quadruples (N, C, S, B) of sets of pattern states, and their step (docs/RULES.md, "The quadruple and its step").
+use sets::ROW_LETTERS;
+use sets::TargetSets;
 ghost use mathlib.Core.Path.{_≡_};
 ghost use mathlib.Core.List.{[]};
 ghost use Prim.Native.Nat.{_^_};
-ghost use Rattle.sets.specs.Sets.{size, Narrow};
+ghost use Rattle.sets.specs.Sets.{set-states, size, Narrow};
 ghost use Rattle.ncsb.specs.Array.{from-array, nth-initial, asks, blocked-by, nth-successor};
 ghost use Rattle.ncsb.specs.Successors.{same, accepting, dead-end};
 
@@ -62,7 +64,7 @@ impl Quadruple {
     }
 
     // What the letter asks, in the order of the paper's conditions.
-    pub fn on_letter(self, moves: &[[u32; 16]; 32], marks: u32, inner: u32, letter: usize) -> Asked
+    pub fn on_letter(self, moves: &TargetSets, marks: u32, inner: u32, letter: usize) -> Asked
         requires { ⌜ Narrow (now moves) ⌝ }
         ensures { λ r. ⌜ r ≡ asks (from-array (now (moves .entry)) 0 marks inner) self letter ⌝ }
     {
@@ -85,12 +87,12 @@ impl Quadruple {
     }
 
     // Some state of C without F has no target on the letter: the run that ends there was safe already.
-    fn dead_end(self, moves: &[[u32; 16]; 32], marks: u32, letter: usize) -> bool
+    fn dead_end(self, moves: &TargetSets, marks: u32, letter: usize) -> bool
         requires { ⌜ Narrow (now moves) ⌝ }
         ensures { λ r. ⌜ r ≡ dead-end (from-array (now (moves .entry)) 0 marks 0) self letter ⌝ }
     {
         let mut left = sets::without(self.C, marks);
-        if 16 <= letter {
+        if ROW_LETTERS <= letter {
             return left != 0;
         }
         while left != 0 {
@@ -104,7 +106,7 @@ impl Quadruple {
     }
 
     // No quadruple follows: a run is not both safe and in C or F, and none in C without F ends.
-    pub fn blocked(self, moves: &[[u32; 16]; 32], marks: u32, letter: usize, asked: Asked) -> bool
+    pub fn blocked(self, moves: &TargetSets, marks: u32, letter: usize, asked: Asked) -> bool
         requires { ⌜ Narrow (now moves) ⌝ }
         ensures { λ r. ⌜ r ≡ blocked-by (from-array (now (moves .entry)) 0 marks 0) self letter asked ⌝ }
     {
@@ -141,7 +143,7 @@ impl Quadruple {
 impl Asked {
     // Where nothing blocks, the number of successors is 2 to the count of free targets.
     pub fn choices(self) -> u64
-        ensures { λ r. ⌜ r ≡ 2 ^ size 32 (self .free) ⌝ }
+        ensures { λ r. ⌜ r ≡ 2 ^ size set-states (self .free) ⌝ }
     {
         sets::choices(self.free)
     }

@@ -13,8 +13,8 @@ use Rattle.patterns.specs.Masks.{masks-of}
 use Rattle.patterns.specs.Pattern.{moves}
 use Rattle.patterns.specs.Shape.{shape-of, masks-fork, Shape-asks, Small-shape}
 use Rattle.patterns.specs.declared.Checked.the-variants.{Passed, Refused}
-use Rattle.patterns.specs.declared.Reading.{Reading}
-use Rattle.patterns.specs.declared.Reading.the-variants as read
+use Rattle.patterns.specs.declared.PatternReading.{PatternReading}
+use Rattle.patterns.specs.declared.PatternReading.the-variants as read
 use Rattle.patterns.specs.declared.Shape.{Shape}
 use Rattle.patterns.proofs.Forks.{check-number}
 use Rattle.patterns.proofs.Masks.{pattern-fits}
@@ -26,11 +26,6 @@ as-refused : (number : ℕ) (shape : Shape) → (number ≡ 0 → ⊥) → read.
 unfolding as-reading
 as-refused zero shape met = absurd (met refl)
 as-refused (suc r) shape met = refl
-
-as-passed : (number : ℕ) (shape : Shape) → number ≡ 0 → read.Pattern shape ≡ as-reading number shape
-unfolding as-reading
-as-passed zero shape none = refl
-as-passed (suc r) shape none = absurd (omega arith)
 
 -- what refusals 2 to 9 say
 module _ (t : List ℕ) (number : ℕ) (told : number ≡ table-refusal pattern-range t) where
@@ -78,15 +73,15 @@ module _ (t : List ℕ) (number : ℕ) (told : number ≡ table-refusal pattern-
           let e : 0 ≡ check-refusal t = cc (check-number t (table-passed none)) in rw (← e, shaped)
 
 -- WHAT A READING SAYS
-number-in : Reading → ℕ
+number-in : PatternReading → ℕ
 number-in (read.Refused r) = r
 number-in (read.Pattern shape) = 0
 
-refusals-in : Reading → ℕ
+refusals-in : PatternReading → ℕ
 refusals-in (read.Refused r) = 1
 refusals-in (read.Pattern shape) = 0
 
-shape-in : Reading → (other : Shape) → Shape
+shape-in : PatternReading → (other : Shape) → Shape
 shape-in (read.Refused r) other = other
 shape-in (read.Pattern shape) other = shape
 
@@ -126,7 +121,7 @@ module _ (t : List ℕ) where
     pub reading-shape : shape ≡ shape-of (moves (meaning t))
     unfolding reading shape-in
     reading-shape =
-        ap (λ (r : Reading). shape-in r (shape-of (moves (meaning t)))) told
+        ap (λ (r : PatternReading). shape-in r (shape-of (moves (meaning t)))) told
         ∙ as-shaped (check-refusal t) (shape-of (moves (meaning t))) (sym reading-passed)
 
     pub reading-masks :

@@ -1,6 +1,6 @@
 -- The loop that gathers the initial and the accepting states: one law of a turn, over any test of states, and for each of the two tests
 -- that a state's flag is its bit. Assumes nothing.
-use mathlib.Core.Path.{_≡_, refl, sym, _∙_, ap}
+use mathlib.Core.Path.{_≡_, refl, _∙_, ap}
 use mathlib.Core.Bool.{Bool, true, false, cond, _&&_}
 use mathlib.Core.List.{List}
 use mathlib.Core.Logic.{_⊎_, inl, inr}
@@ -12,12 +12,11 @@ use lib.Dec.{ltb, leb, eqb}
 use lib.Bits.{bitOr, or-shifted-r, or-zero-r}
 use Rattle.basics.proofs.Booleans.{either, lt-ltb, eqb-eq, eqb-ne, leb-le, leb-gt}
 use Rattle.basics.proofs.Packed.{shift-one}
-use Rattle.sets.specs.Sets.{set-of}
+use Rattle.sets.specs.Sets.{set-states, set-of}
 use Rattle.sets.proofs.Members.{set-of-lt}
 use Rattle.tables.specs.Access.{State-asks}
 use Rattle.tables.specs.Table.{pattern-range, table-refusal, n-of, flags-of, is-initial, is-accepting, meaning}
 use Rattle.tables.proofs.Laws.{valid, pattern-few, state-asked}
-use Rattle.patterns.specs.Masks.{mask-rows}
 use Rattle.patterns.specs.Pattern.{initial-states, accepting-states}
 
 -- the set so far is that of the states below `state` of which the test holds
@@ -32,7 +31,7 @@ module _ (f : ℕ → Bool) (n : ℕ) where
 
   -- one state more: 1 where the test holds, and 0 where it does not, goes to the state's place
   pub gathered-turn :
-      (set state bit : ℕ) → state < n → n ≤ mask-rows → bit ≡ cond (f state) 1 0 → Gathered f n set state →
+      (set state bit : ℕ) → state < n → n ≤ set-states → bit ≡ cond (f state) 1 0 → Gathered f n set state →
       Gathered f n (bitOr set (bit * 2 ^ state % 2 ^ 32)) (state + 1)
   unfolding set-of
   gathered-turn set state bit l few e g = record { inside = omega arith; so-far = go (either (f state)) }
@@ -61,7 +60,7 @@ module _ (f : ℕ → Bool) (n : ℕ) where
 
 -- the states of a pattern
 module _ (t : List ℕ) (pattern : table-refusal pattern-range t ≡ 0) (states state : ℕ) (counted : states ≡ n-of t) where
-  pub gathered-small : state < states → state < mask-rows
+  pub gathered-small : state < states → state < set-states
   gathered-small l = let n = pattern-few t pattern in omega arith
 
   pub gathered-reads : state < states → State-asks t state

@@ -14,11 +14,11 @@ use Rattle.basics.proofs.Booleans.{either, clash, and-l, and-r, and-make, not-t
 use Rattle.basics.proofs.Bounded.{each-all, each-make, any-make, any-find, any-no}
 use Rattle.basics.proofs.Scans.{None-below, none-turn, none-end}
 use Rattle.automata.specs.Automaton.{Automaton}
-use Rattle.sets.specs.Sets.{has, size}
+use Rattle.sets.specs.Sets.{set-states, has, size}
 use Rattle.sets.proofs.Size.{size-ones, size-past}
 use Rattle.tables.specs.Table.{pattern-range, table-refusal, meaning}
 use Rattle.patterns.specs.Check.{check-refusal}
-use Rattle.patterns.specs.Masks.{mask-rows, masks-of}
+use Rattle.patterns.specs.Masks.{masks-of}
 use Rattle.patterns.specs.Pattern.{targets-of, inner-of, forks, semi-deterministic, moves}
 use Rattle.patterns.specs.Shape.{shape-of, two-targets, row-forked, masks-fork}
 use Rattle.patterns.specs.declared.Shape.{Shape}
@@ -30,16 +30,16 @@ module _ (row : List ℕ) (letters : ℕ) where
       (letter : ℕ) → letter < letters → getD row letter 0 < 2 ^ 32 → 1 < ones (getD row letter 0) → row-forked letters row ≡ true
   unfolding row-forked two-targets
   row-hit letter l small h =
-      let e = size-ones mask-rows (getD row letter 0) small in
-      any-make letters (two-targets row) letter l (lt-ltb {m = 1} {n = size mask-rows (getD row letter 0)} (omega arith))
+      let e = size-ones set-states (getD row letter 0) small in
+      any-make letters (two-targets row) letter l (lt-ltb {m = 1} {n = size set-states (getD row letter 0)} (omega arith))
 
   pub row-turn :
       (letter : ℕ) → letter < letters → getD row letter 0 < 2 ^ 32 → ones (getD row letter 0) ≤ 1 →
       None-below (two-targets row) letters letter → None-below (two-targets row) letters (letter + 1)
   unfolding two-targets
   row-turn letter l small h =
-      let e = size-ones mask-rows (getD row letter 0) small in
-      none-turn (two-targets row) letters letter l (ge-ltb {m = 1} {n = size mask-rows (getD row letter 0)} (omega arith))
+      let e = size-ones set-states (getD row letter 0) small in
+      none-turn (two-targets row) letters letter l (ge-ltb {m = 1} {n = size set-states (getD row letter 0)} (omega arith))
 
   pub row-end : (letter : ℕ) → letters ≤ letter → None-below (two-targets row) letters letter → row-forked letters row ≡ false
   unfolding row-forked
@@ -83,10 +83,10 @@ module _ (masks : List (List ℕ)) (shape : Shape) where
 
 -- THE TEST OVER THE MASKS IS THE TEST OVER THE EDGES
 module _ (a : Automaton) (f : Fits-masks a) where
-  mask-size : (q c : ℕ) → size mask-rows (getD (getD (masks-of (moves a)) q []) c 0) ≡ size (a .states) (targets-of a q c)
+  mask-size : (q c : ℕ) → size set-states (getD (getD (masks-of (moves a)) q []) c 0) ≡ size (a .states) (targets-of a q c)
   mask-size q c =
-      ap (size mask-rows) (mask-right a f q c)
-      ∙ size-past (a .states) mask-rows (targets-of a q c) (targets-lt a q c) (f .states)
+      ap (size set-states) (mask-right a f q c)
+      ∙ size-past (a .states) set-states (targets-of a q c) (targets-lt a q c) (f .states)
 
   abbrev test : (q c : ℕ) → Bool
   test q = two-targets (getD (masks-of (moves a)) q [])

@@ -1,17 +1,19 @@
 -- Q2: n rounds reach a set that grows no more, so edges from Q2 stay in Q2; and a state is in Q2 exactly if an accepting state reaches it.
 -- Assumes nothing.
 use mathlib.Core.Path.{_≡_, sym, _∙_, ap}
-use mathlib.Core.Bool.{Bool, true, false, _&&_, _||_, not}
+use mathlib.Core.Bool.{Bool, true, _&&_, _||_}
 use mathlib.Core.Logic.{_⊎_, inl, inr, _↔_}
-use Prim.Native.Nat.{ℕ, zero, suc, _^_, _≤_, _<_}
+use Prim.Native.Nat.{ℕ, zero, suc, _^_, _<_}
 use native.Mathlib.Omega.{arith}
 use lib.Dec.{ltb}
-use Rattle.basics.specs.Bounded.{any, count}
-use Rattle.basics.proofs.Booleans.{either, clash, and-l, and-r, and-make, or-l, or-r, or-true, true-not, not-false, lt-ltb, ltb-lt, same-truth}
-use Rattle.basics.proofs.Bounded.{any-make, any-find, search-to, count-le, count-less}
+use Rattle.basics.specs.Bounded.{any}
+use Rattle.basics.proofs.Booleans.{and-l, and-r, and-make, or-l, or-r, or-true, lt-ltb, ltb-lt}
+use Rattle.basics.proofs.Bounded.{any-make, any-find}
+use Rattle.basics.proofs.Growing.{Still, rounds-keep, still-by}
+use Rattle.basics.proofs.Upward.{upward}
 use Rattle.automata.specs.Automaton.{Automaton, Closed}
 use Rattle.sets.specs.Sets.{has}
-use Rattle.sets.proofs.Members.{has-set-of, set-of-lt, ext, has-lt}
+use Rattle.sets.proofs.Members.{has-set-of, set-of-lt, set-of-make, ext-both, has-lt}
 use Rattle.patterns.specs.Pattern.{accepting-states, grown, reached-in, inner-of}
 use Rattle.patterns.specs.Reach.{Reaches, From-accepting}
 use Rattle.patterns.specs.Reach.Reaches.{none, more}
@@ -48,76 +50,33 @@ module _ (a : Automaton) where
   grown-keeps s q l h =
       has-grown s q ∙ and-make (lt-ltb (has-lt (a .states) s q l h)) (or-l (led s q) h)
 
-  -- it grows no more, or it has one state more
-  grown-more :
-      (s : ℕ) → s < 2 ^ a .states → (grown a s ≡ s) ⊎ (count (a .states) (has s) < count (a .states) (has (grown a s)))
-  grown-more s l = go (search-to (a .states) (λ q. has (grown a s) q && not (has s q)))
-    where
-      go :
-          ((q : ℕ) × (q < a .states) × ((has (grown a s) q && not (has s q)) ≡ true))
-          ⊎ ((q : ℕ) → q < a .states → (has (grown a s) q && not (has s q)) ≡ false) →
-          (grown a s ≡ s) ⊎ (count (a .states) (has s) < count (a .states) (has (grown a s)))
-      go (inl r) =
-          inr
-          (count-less (a .states) (has s) (has (grown a s)) (λ i _ h. grown-keeps s i l h) (r .0) (r .1)
-          (true-not (has s (r .0)) (and-r (has (grown a s) (r .0)) (r .2)))
-          (and-l (not (has s (r .0))) (r .2)))
-      go (inr nothing) =
-          inl
-          (ext (a .states) (grown a s) s (grown-lt s) l
-          (λ q m. same-truth (has (grown a s) q) (has s q)
-          (λ h. elim (either (has s q)) [
-            | inl e ↦ e
-            | inr e ↦ absurd (clash (and-make h (not-false e)) (nothing q m))
-          ])
-          (λ h. grown-keeps s q l h)))
-
   -- ALL ROUNDS
   pub reached-lt : (r s : ℕ) → s < 2 ^ a .states → reached-in a r s < 2 ^ a .states
   unfolding reached-in
   reached-lt zero s l = l
   reached-lt (suc r) s l = grown-lt (reached-in a r s)
 
-  reached-keeps : (r s q : ℕ) → s < 2 ^ a .states → has s q ≡ true → has (reached-in a r s) q ≡ true
-  unfolding reached-in
-  reached-keeps zero s q l h = h
-  reached-keeps (suc r) s q l h = grown-keeps (reached-in a r s) q (reached-lt r s l) (reached-keeps r s q l h)
+  module _ (s : ℕ) (l : s < 2 ^ a .states) where
+    abbrev after : (rounds state : ℕ) → Bool
+    after r q = has (reached-in a r s) q
 
-  -- after r rounds the set grows no more, or it has at least r states
-  reached-count :
-      (r s : ℕ) → s < 2 ^ a .states →
-      (grown a (reached-in a r s) ≡ reached-in a r s) ⊎ (r ≤ count (a .states) (has (reached-in a r s)))
-  unfolding reached-in
-  reached-count zero s l = inr (omega arith)
-  reached-count (suc r) s l = go (reached-count r s l) (grown-more (reached-in a r s) (reached-lt r s l))
-    where
-      go :
-          (grown a (reached-in a r s) ≡ reached-in a r s) ⊎ (r ≤ count (a .states) (has (reached-in a r s))) →
-          (grown a (reached-in a r s) ≡ reached-in a r s)
-          ⊎ (count (a .states) (has (reached-in a r s)) < count (a .states) (has (grown a (reached-in a r s)))) →
-          (grown a (grown a (reached-in a r s)) ≡ grown a (reached-in a r s))
-          ⊎ (suc r ≤ count (a .states) (has (grown a (reached-in a r s))))
-      go (inl e) g = inl (ap (grown a) e)
-      go (inr m) (inl e) = inl (ap (grown a) e)
-      go (inr m) (inr g) = inr (omega arith)
+    kept : (r q : ℕ) → q < a .states → after r q ≡ true → after (suc r) q ≡ true
+    unfolding reached-in
+    kept r q m h = grown-keeps (reached-in a r s) q (reached-lt r s l) h
 
-  -- so n rounds reach all
-  pub reached-all : (s : ℕ) → s < 2 ^ a .states → grown a (reached-in a (a .states) s) ≡ reached-in a (a .states) s
-  reached-all s l =
-      go (reached-count (a .states) s l)
-      (grown-more (reached-in a (a .states) s) (reached-lt (a .states) s l))
-    where
-      go :
-          (grown a (reached-in a (a .states) s) ≡ reached-in a (a .states) s)
-          ⊎ (a .states ≤ count (a .states) (has (reached-in a (a .states) s))) →
-          (grown a (reached-in a (a .states) s) ≡ reached-in a (a .states) s)
-          ⊎ (count (a .states) (has (reached-in a (a .states) s))
-          < count (a .states) (has (grown a (reached-in a (a .states) s)))) →
-          grown a (reached-in a (a .states) s) ≡ reached-in a (a .states) s
-      go (inl e) g = e
-      go (inr m) (inl e) = e
-      go (inr m) (inr g) =
-          let most = count-le (a .states) (has (grown a (reached-in a (a .states) s))) in absurd (omega arith)
+    -- once a round adds nothing, no later one does
+    still-fixed : (r : ℕ) → Still (a .states) after kept r → grown a (reached-in a r s) ≡ reached-in a r s
+    unfolding reached-in
+    still-fixed r h =
+        ext-both (a .states) (grown a (reached-in a r s)) (reached-in a r s) (grown-lt (reached-in a r s)) (reached-lt r s l)
+        (h .no-more) (kept r)
+
+    -- so n rounds reach all
+    pub reached-all : grown a (reached-in a (a .states) s) ≡ reached-in a (a .states) s
+    unfolding reached-in
+    reached-all =
+        let (r, m, still) = still-by (a .states) after kept in
+        upward (λ r. grown a (reached-in a r s) ≡ reached-in a r s) r (still-fixed r still) (λ r _ e. ap (grown a) e) (a .states) m
 
   -- Q2
   pub accepting-lt : accepting-states a < 2 ^ a .states
@@ -126,7 +85,7 @@ module _ (a : Automaton) where
 
   pub accepting-has : (q : ℕ) → q < a .states → a .accepting q ≡ true → has (accepting-states a) q ≡ true
   unfolding accepting-states
-  accepting-has q l h = has-set-of (a .states) (a .accepting) q ∙ and-make (lt-ltb l) h
+  accepting-has = set-of-make (a .states) (a .accepting)
 
   pub has-accepting : (q : ℕ) → has (accepting-states a) q ≡ true → (q < a .states) × (a .accepting q ≡ true)
   unfolding accepting-states
@@ -141,8 +100,10 @@ module _ (a : Automaton) where
 
   -- the accepting states are in Q2
   pub inner-accepting : (q : ℕ) → has (accepting-states a) q ≡ true → has (inner-of a) q ≡ true
-  unfolding inner-of
-  inner-accepting q h = reached-keeps (a .states) (accepting-states a) q accepting-lt h
+  unfolding inner-of reached-in
+  inner-accepting q h =
+      rounds-keep (a .states) (after (accepting-states a) accepting-lt) (kept (accepting-states a) accepting-lt) 0 (a .states) q
+      (omega arith) (has-accepting q h .0) h
 
   -- edges from Q2 stay in Q2
   pub inner-closed :
@@ -150,10 +111,6 @@ module _ (a : Automaton) where
   inner-closed closed p c q h e =
       ap (λ (s : ℕ). has s q) (sym inner-fixed) ∙ has-grown (inner-of a) q
       ∙ and-make (lt-ltb (closed .edge p c q e .2)) (or-r (has (inner-of a) q) (led-make closed (inner-of a) p c q h e))
-
-  pub inner-lt : inner-of a < 2 ^ a .states
-  unfolding inner-of
-  inner-lt = reached-lt (a .states) (accepting-states a) accepting-lt
 
   reached-from : (r q : ℕ) → has (reached-in a r (accepting-states a)) q ≡ true → From-accepting a q
   unfolding reached-in

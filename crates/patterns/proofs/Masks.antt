@@ -1,17 +1,16 @@
 -- The table by state and by letter of target sets: each entry is the targets of that state on that letter; and the loop that fills it.
 -- Assumes nothing.
 use mathlib.Core.Path.{_≡_, sym, _∙_, ap}
-use mathlib.Core.Bool.{true, false}
 use mathlib.Core.List.{List, []}
-use mathlib.Core.Logic.{_⊎_, inl, inr}
+use mathlib.Core.Logic.{inl, inr}
 use Prim.Native.Nat.{ℕ, _+_, _^_, _≤_, _<_}
 use native.Mathlib.Omega.{arith}
 use borrow.Author.Count.{below-more}
-use lib.Dec.{ltb}
 use lib.ListN.{length, getD, set, replicate, length-set, length-replicate, getD-replicate, List·getD-eq-default}
 use lib.Seq.{getD-set-same, getD-set-other, ext-getD}
-use Rattle.basics.proofs.Booleans.{either, not-both, ltb-lt, ltb-ge}
+use Rattle.basics.proofs.Booleans.{not-both, below-or}
 use Rattle.basics.proofs.Clears.{zeros-at}
+use Rattle.sets.specs.Sets.{set-states, row-letters}
 use Rattle.automata.specs.Automaton.{Automaton, Closed}
 use Rattle.automata.specs.Decision.{tabulate}
 use Rattle.automata.proofs.Graphs.{tabulate-at, tabulate-length}
@@ -19,14 +18,14 @@ use Rattle.sets.proofs.Members.{empty, set-of-lt}
 use Rattle.tables.specs.Table.{pattern-range, table-refusal, n-of, meaning}
 use Rattle.tables.proofs.Laws.{valid, meaning-closed, pattern-few}
 use Rattle.patterns.specs.Pattern.{targets-of, moves}
-use Rattle.patterns.specs.Masks.{mask-rows, mask-letters, row-of, masks-of, Row-asks}
+use Rattle.patterns.specs.Masks.{row-of, masks-of, Row-asks}
 use Rattle.patterns.proofs.Split.{has-targets}
 
 -- an automaton that the table has room for
 pub record Fits-masks (a : Automaton) : Type 0 where
   pub closed : Closed a
-  pub states : a .states ≤ mask-rows
-  pub letters : a .letters ≤ mask-letters
+  pub states : a .states ≤ set-states
+  pub letters : a .letters ≤ row-letters
 
 module _ (a : Automaton) where
   pub targets-lt : (p c : ℕ) → targets-of a p c < 2 ^ a .states
@@ -41,38 +40,35 @@ module _ (a : Automaton) where
       has-targets a closed p c q
       ∙ not-both (a .edge p c q) (λ e. let ends = closed .edge p c q e in out (ends .0, ends .1)))
 
-  row-none : Closed a → (p : ℕ) → a .states ≤ p → row-of (moves a) p ≡ replicate mask-letters 0
+  row-none : Closed a → (p : ℕ) → a .states ≤ p → row-of (moves a) p ≡ replicate row-letters 0
   unfolding row-of moves
   row-none closed p past =
-      ext-getD 0 (tabulate mask-letters (targets-of a p)) (replicate mask-letters 0)
-      (tabulate-length mask-letters (targets-of a p) ∙ sym (length-replicate {A = ℕ} mask-letters 0))
+      ext-getD 0 (tabulate row-letters (targets-of a p)) (replicate row-letters 0)
+      (tabulate-length row-letters (targets-of a p) ∙ sym (length-replicate {A = ℕ} row-letters 0))
       (λ c l.
-      let long = tabulate-length mask-letters (targets-of a p) in
-      tabulate-at mask-letters (targets-of a p) c 0 (omega arith) ∙ targets-none closed p c (λ both. let x = both .0 in omega arith)
-      ∙ sym (zeros-at mask-letters c))
+      let long = tabulate-length row-letters (targets-of a p) in
+      tabulate-at row-letters (targets-of a p) c 0 (omega arith) ∙ targets-none closed p c (λ both. let x = both .0 in omega arith)
+      ∙ sym (zeros-at row-letters c))
 
   -- each entry of the table is the targets of that state on that letter; so is each place beyond it
   pub mask-right : Fits-masks a → (p c : ℕ) → getD (getD (masks-of (moves a)) p []) c 0 ≡ targets-of a p c
   unfolding masks-of row-of moves
-  mask-right f p c = go (either (ltb p mask-rows)) (either (ltb c mask-letters))
-    where
-      go :
-          (ltb p mask-rows ≡ true) ⊎ (ltb p mask-rows ≡ false) → (ltb c mask-letters ≡ true) ⊎ (ltb c mask-letters ≡ false) →
-          getD (getD (tabulate mask-rows (row-of (moves a))) p []) c 0 ≡ targets-of a p c
-      go (inl x) (inl y) =
-          ap (λ (r : List ℕ). getD r c 0) (tabulate-at mask-rows (row-of (moves a)) p [] (ltb-lt p mask-rows x))
-          ∙ tabulate-at mask-letters (targets-of a p) c 0 (ltb-lt c mask-letters y)
-      go (inl x) (inr y) =
-          let far = ltb-ge c mask-letters y in
-          let long = tabulate-length mask-letters (targets-of a p) in
-          ap (λ (r : List ℕ). getD r c 0) (tabulate-at mask-rows (row-of (moves a)) p [] (ltb-lt p mask-rows x))
-          ∙ List·getD-eq-default (tabulate mask-letters (targets-of a p)) 0 (omega arith)
-          ∙ sym (targets-none (f .closed) p c (λ both. let l = both .1 in let m = f .letters in omega arith))
-      go (inr x) y =
-          let far = ltb-ge p mask-rows x in
-          let long = tabulate-length mask-rows (row-of (moves a)) in
-          ap (λ (r : List ℕ). getD r c 0) (List·getD-eq-default (tabulate mask-rows (row-of (moves a))) [] (omega arith))
-          ∙ sym (targets-none (f .closed) p c (λ both. let l = both .0 in let m = f .states in omega arith))
+  mask-right f p c =
+      elim (below-or p set-states) [
+        | inl inside ↦
+            ap (λ (r : List ℕ). getD r c 0) (tabulate-at set-states (row-of (moves a)) p [] inside)
+            ∙ elim (below-or c row-letters) [
+              | inl l ↦ tabulate-at row-letters (targets-of a p) c 0 l
+              | inr far ↦
+                  let long = tabulate-length row-letters (targets-of a p) in
+                  List·getD-eq-default (tabulate row-letters (targets-of a p)) 0 (omega arith)
+                  ∙ sym (targets-none (f .closed) p c (λ both. let l = both .1 in let m = f .letters in omega arith))
+            ]
+        | inr far ↦
+            let long = tabulate-length set-states (row-of (moves a)) in
+            ap (λ (r : List ℕ). getD r c 0) (List·getD-eq-default (tabulate set-states (row-of (moves a))) [] (omega arith))
+            ∙ sym (targets-none (f .closed) p c (λ both. let l = both .0 in let m = f .states in omega arith))
+      ]
 
   pub mask-move : Fits-masks a → (p c : ℕ) → getD (getD (masks-of (moves a)) p []) c 0 ≡ moves a .move p c
   unfolding moves
@@ -87,22 +83,22 @@ pattern-fits t h =
 
 -- FILLING THE TABLE: rows below `state` are filled, the others are empty
 pub record Filled (t : List ℕ) (masks : List (List ℕ)) (state : ℕ) : Type 0 where
-  pub whole : length masks ≡ mask-rows
+  pub whole : length masks ≡ set-states
   pub inside : state ≤ n-of t
   pub done : (q : ℕ) → q < state → getD masks q [] ≡ row-of (moves (meaning t)) q
-  pub rest : (q : ℕ) → state ≤ q → q < mask-rows → getD masks q [] ≡ replicate mask-letters 0
+  pub rest : (q : ℕ) → state ≤ q → q < set-states → getD masks q [] ≡ replicate row-letters 0
 
 module _ (t : List ℕ) (pattern : table-refusal pattern-range t ≡ 0) where
   fits : Fits-masks (meaning t)
   fits = pattern-fits t pattern
 
-  pub filled-start : Filled t (replicate mask-rows (replicate mask-letters 0)) 0
+  pub filled-start : Filled t (replicate set-states (replicate row-letters 0)) 0
   filled-start =
       record {
-        whole = length-replicate mask-rows (replicate {A = ℕ} mask-letters 0);
+        whole = length-replicate set-states (replicate {A = ℕ} row-letters 0);
         inside = omega arith;
         done = λ q l. absurd (omega arith);
-        rest = λ q _ l. getD-replicate mask-rows q (replicate mask-letters 0) [] l;
+        rest = λ q _ l. getD-replicate set-states q (replicate row-letters 0) [] l;
       }
 
   -- what one turn asks
@@ -110,7 +106,7 @@ module _ (t : List ℕ) (pattern : table-refusal pattern-range t ≡ 0) where
       (states state : ℕ) → states ≡ n-of t → state < states → Row-asks t states state
   filled-asks states state e l = record { pattern = pattern; counted = e; inside = l }
 
-  pub filled-inside : (states state : ℕ) → states ≡ n-of t → state < states → state < mask-rows
+  pub filled-inside : (states state : ℕ) → states ≡ n-of t → state < states → state < set-states
   filled-inside states state e l = let n = pattern-few t pattern in omega arith
 
   pub filled-turn :
@@ -132,13 +128,14 @@ module _ (t : List ℕ) (pattern : table-refusal pattern-range t ≡ 0) where
       masks ≡ masks-of (moves (meaning t))
   unfolding masks-of meaning
   filled-end masks states state counted past f =
-      ext-getD [] masks (tabulate mask-rows (row-of (moves (meaning t)))) (f .whole ∙ sym (tabulate-length mask-rows (row-of (moves (meaning t)))))
+      ext-getD [] masks (tabulate set-states (row-of (moves (meaning t)))) (f .whole ∙ sym (tabulate-length set-states (row-of (moves (meaning t)))))
       (λ q l.
-      let below : q < mask-rows = let a = f .whole in omega arith in
-      row-at q below (either (ltb q state)) ∙ sym (tabulate-at mask-rows (row-of (moves (meaning t))) q [] below))
+      let below : q < set-states = let a = f .whole in omega arith in
+      row-at q below ∙ sym (tabulate-at set-states (row-of (moves (meaning t))) q [] below))
     where
-      row-at : (q : ℕ) → q < mask-rows → (ltb q state ≡ true) ⊎ (ltb q state ≡ false) → getD masks q [] ≡ row-of (moves (meaning t)) q
-      row-at q below (inl x) = f .done q (ltb-lt q state x)
-      row-at q below (inr x) =
-          let m = ltb-ge q state x in
-          f .rest q m below ∙ sym (row-none (meaning t) (fits .closed) q (omega arith))
+      row-at : (q : ℕ) → q < set-states → getD masks q [] ≡ row-of (moves (meaning t)) q
+      row-at q below =
+          elim (below-or q state) [
+            | inl l ↦ f .done q l
+            | inr l ↦ f .rest q l below ∙ sym (row-none (meaning t) (fits .closed) q (omega arith))
+          ]

@@ -1,4 +1,4 @@
--- What a passed check says: the table is a pattern, so a wide table too; it is semi-deterministic; and its sets and its Q2 are as the
+-- What a passed check says: the table is a pattern, so one of every wider range too; it is semi-deterministic; and its sets and its Q2 are as the
 -- construction asks. Assumes nothing.
 use mathlib.Core.Path.{_≡_, refl}
 use mathlib.Core.Bool.{Bool, true, false, cond}
@@ -7,8 +7,8 @@ use Prim.Native.Nat.{ℕ}
 use native.Mathlib.Omega.{arith}
 use Rattle.basics.proofs.Refusing.{or-else-none}
 use Rattle.automata.specs.Automaton.{Closed}
-use Rattle.tables.specs.Table.{pattern-range, wide-range, table-refusal, meaning}
-use Rattle.tables.proofs.Laws.{valid, meaning-closed, pattern-is-wide}
+use Rattle.tables.specs.Table.{Limits, Wider, pattern-range, table-refusal, meaning}
+use Rattle.tables.proofs.Laws.{valid, meaning-closed, passes-wider}
 use Rattle.ncsb.specs.Moves.{Spread, Split}
 use Rattle.patterns.specs.Pattern.{semi-deterministic, moves}
 use Rattle.patterns.specs.Check.{check-refusal}
@@ -27,9 +27,9 @@ module _ (t : List ℕ) (passed : check-refusal t ≡ 0) where
   pub checked-table : table-refusal pattern-range t ≡ 0
   checked-table = both .0
 
-  -- so it is a wide table
-  pub checked-wide : table-refusal wide-range t ≡ 0
-  checked-wide = pattern-is-wide t checked-table
+  -- so it is a table of every range that allows what a pattern may have
+  pub checked-wider : {r : Limits} → Wider pattern-range r → table-refusal r t ≡ 0
+  checked-wider {r} w = passes-wider pattern-range r t w checked-table
 
   pub checked-closed : Closed (meaning t)
   checked-closed = meaning-closed (valid pattern-range t checked-table)

@@ -14,10 +14,10 @@ use Rattle.basics.proofs.Booleans.{and-l, and-make, and-r, lt-ltb, or-assoc, or
 use Rattle.basics.proofs.Bounded.{any-make, any-find, any-zero, any-suc}
 use Rattle.basics.proofs.Upward.{upward}
 use Rattle.automata.specs.Automaton.{Automaton}
-use Rattle.sets.specs.Sets.{has, union}
+use Rattle.sets.specs.Sets.{set-states, has, union}
 use Rattle.sets.proofs.Members.{ext, has-or, has-union, union-lt}
 use Rattle.patterns.specs.Pattern.{accepting-states, grown, reached-in, inner-of, moves}
-use Rattle.patterns.specs.Masks.{mask-rows, masks-of, joined, joined-in}
+use Rattle.patterns.specs.Masks.{masks-of, joined, joined-in}
 use Rattle.patterns.proofs.Inner.{led, led-make, led-find, has-grown, grown-lt, reached-lt, accepting-lt}
 use Rattle.patterns.proofs.Masks.{Fits-masks, mask-right, targets-lt}
 use Rattle.patterns.proofs.Split.{has-targets}
@@ -31,7 +31,7 @@ module _ (masks : List (List ℕ)) (letters : ℕ) where
 
   pub joined-turn :
       (set all letter : ℕ) → all ≡ joined letter masks set →
-      (more : ℕ) → more ≡ union mask-rows set (λ q. getD (getD masks q []) letter 0) →
+      (more : ℕ) → more ≡ union set-states set (λ q. getD (getD masks q []) letter 0) →
       bitOr all more ≡ joined (letter + 1) masks set
   unfolding joined
   joined-turn set all letter e more h = rw (add-one letter, e, h)
@@ -69,7 +69,7 @@ module _ (masks : List (List ℕ)) (letters : ℕ) where
 module _ (a : Automaton) (f : Fits-masks a) where
   -- some state of the set has this target on the letter; on one of the letters
   abbrev entered-on : (letter set q : ℕ) → Bool
-  entered-on c s q = any mask-rows (λ p. has s p && has (getD (getD (masks-of (moves a)) p []) c 0) q)
+  entered-on c s q = any set-states (λ p. has s p && has (getD (getD (masks-of (moves a)) p []) c 0) q)
 
   entered : (letters set q : ℕ) → Bool
   entered k s q = any k (λ c. entered-on c s q)
@@ -79,8 +79,8 @@ module _ (a : Automaton) (f : Fits-masks a) where
   has-joined zero s q = sym (ap (λ (b : Bool). has s q || b) (any-zero (λ c. entered-on c s q)) ∙ or-none (has s q))
   has-joined (suc k) s q =
       let ih = has-joined k s q in
-      let j = has-or (joined k (masks-of (moves a)) s) (union mask-rows s (λ p. getD (getD (masks-of (moves a)) p []) k 0)) q in
-      let u = has-union mask-rows s (λ p. getD (getD (masks-of (moves a)) p []) k 0) q in
+      let j = has-or (joined k (masks-of (moves a)) s) (union set-states s (λ p. getD (getD (masks-of (moves a)) p []) k 0)) q in
+      let u = has-union set-states s (λ p. getD (getD (masks-of (moves a)) p []) k 0) q in
       let one = any-suc k (λ c. entered-on c s q) in
       let assoc = or-assoc (has s q) (entered k s q) (entered-on k s q) in cc
 
@@ -88,15 +88,15 @@ module _ (a : Automaton) (f : Fits-masks a) where
   unfolding joined
   joined-lt zero s l = l
   joined-lt (suc k) s l =
-      or-lt (a .states) (joined k (masks-of (moves a)) s) (union mask-rows s (λ p. getD (getD (masks-of (moves a)) p []) k 0)) (joined-lt k s l)
-      (union-lt (a .states) mask-rows s (λ p. getD (getD (masks-of (moves a)) p []) k 0) (λ p. rw (mask-right a f p k) (targets-lt a p k)))
+      or-lt (a .states) (joined k (masks-of (moves a)) s) (union set-states s (λ p. getD (getD (masks-of (moves a)) p []) k 0)) (joined-lt k s l)
+      (union-lt (a .states) set-states s (λ p. getD (getD (masks-of (moves a)) p []) k 0) (λ p. rw (mask-right a f p k) (targets-lt a p k)))
 
   -- a letter and a state of the set that has this target on it, and so an edge
   entered-led : (s q : ℕ) → entered (a .letters) s q ≡ true → led a s q ≡ true
   unfolding entered
   entered-led s q h =
       let x = any-find (a .letters) (λ c. entered-on c s q) h in
-      let y = any-find mask-rows (λ p. has s p && has (getD (getD (masks-of (moves a)) p []) (x .0) 0) q) (x .2) in
+      let y = any-find set-states (λ p. has s p && has (getD (getD (masks-of (moves a)) p []) (x .0) 0) q) (x .2) in
       led-make a (f .closed) s (y .0) (x .0) q
       (and-l (has (getD (getD (masks-of (moves a)) (y .0) []) (x .0) 0) q) (y .2))
       (sym (has-targets a (f .closed) (y .0) (x .0) q) ∙ ap (λ (m : ℕ). has m q) (sym (mask-right a f (y .0) (x .0)))
@@ -110,7 +110,7 @@ module _ (a : Automaton) (f : Fits-masks a) where
       let c = x .2 .0 in
       let ends = f .closed .edge p c q (x .2 .1) in
       any-make (a .letters) (λ c. entered-on c s q) c (ends .1)
-      (any-make mask-rows (λ p. has s p && has (getD (getD (masks-of (moves a)) p []) c 0) q) p (let n = f .states in let l = ends .0 in omega arith)
+      (any-make set-states (λ p. has s p && has (getD (getD (masks-of (moves a)) p []) c 0) q) p (let n = f .states in let l = ends .0 in omega arith)
       (and-make (x .1) (ap (λ (m : ℕ). has m q) (mask-right a f p c) ∙ has-targets a (f .closed) p c q ∙ x .2 .1)))
 
   joined-grown : (s : ℕ) → s < 2 ^ a .states → joined (a .letters) (masks-of (moves a)) s ≡ grown a s

@@ -17,7 +17,7 @@ use Rattle.sets.specs.Sets.{has, size}
 use Rattle.sets.proofs.Members.{set-of-test, set-of-lt, has-and}
 use Rattle.ncsb.specs.Moves.{Spread, Split}
 use Rattle.patterns.specs.Pattern.{targets-of, initial-states, accepting-states, inner-of, marks-of, forks, semi-deterministic, moves}
-use Rattle.patterns.proofs.Inner.{accepting-has, has-accepting, accepting-lt, inner-lt, inner-accepting, inner-closed}
+use Rattle.patterns.proofs.Inner.{accepting-has, has-accepting, accepting-lt, inner-accepting, inner-closed}
 
 module _ (a : Automaton) (closed : Closed a) where
   -- the targets of a state on a letter are where its edges on that letter lead
@@ -42,7 +42,6 @@ module _ (a : Automaton) (closed : Closed a) where
         starts-small = set-of-lt (a .states) (a .initial);
         marks-small =
             let l = and-le-l (accepting-states a) (inner-of a) in let m = accepting-lt a in omega arith;
-        inner-small = inner-lt a;
       }
 
   -- a state of Q2 that does not fork has at most one target

@@ -15,22 +15,22 @@ use Rattle.basics.proofs.Clears.{zeros-at}
 use Rattle.basics.proofs.Packed.{shift-one}
 use Rattle.automata.specs.Decision.{tabulate}
 use Rattle.automata.proofs.Graphs.{tabulate-at, tabulate-length}
-use Rattle.sets.specs.Sets.{has}
+use Rattle.sets.specs.Sets.{set-states, row-letters, has}
 use Rattle.sets.proofs.Members.{has-zero, has-or, has-single, ext, set-of-lt}
 use Rattle.tables.specs.Access.{State-asks, Record-asks}
 use Rattle.tables.specs.Table.{pattern-range, n-of, m-of, head-of, letter-of, target-of, next-of, chain-has, edge, meaning}
 use Rattle.tables.proofs.Chains.{left, left-less}
 use Rattle.tables.proofs.Laws.{Valid, valid, pattern-few, state-asked, record-asked, chain-ends, chain-step, meaning-closed}
 use Rattle.patterns.specs.Pattern.{targets-of, moves}
-use Rattle.patterns.specs.Masks.{mask-rows, mask-letters, row-of, Row-asks}
+use Rattle.patterns.specs.Masks.{row-of, Row-asks}
 use Rattle.patterns.proofs.Split.{has-targets}
 
 -- the sets so far, with what the chain from record `at` on still has, are the state's edges
 pub record Walked (t : List ℕ) (state : ℕ) (row : List ℕ) (at : ℕ) : Type 0 where
-  pub whole : length row ≡ mask-letters
+  pub whole : length row ≡ row-letters
   pub link : at ≤ m-of t
   pub small : (c : ℕ) → getD row c 0 < 2 ^ n-of t
-  pub rest : (c q : ℕ) → c < mask-letters → (has (getD row c 0) q || chain-has (m-of t) t at c q) ≡ edge t state c q
+  pub rest : (c q : ℕ) → c < row-letters → (has (getD row c 0) q || chain-has (m-of t) t at c q) ≡ edge t state c q
 
 module _ (t : List ℕ) (states s : ℕ) (asks : Row-asks t states s) where
   v : Valid pattern-range t
@@ -46,20 +46,20 @@ module _ (t : List ℕ) (states s : ℕ) (asks : Row-asks t states s) where
   pub walk-record : (row : List ℕ) (at : ℕ) → (at ≡ 0 → ⊥) → Walked t s row at → Record-asks t states at
   walk-record row at some w = record-asked pattern-range t (asks .pattern) (asks .counted) (omega arith) (w .link)
 
-  pub walk-letter : (row : List ℕ) (at l : ℕ) → (at ≡ 0 → ⊥) → Walked t s row at → l ≡ letter-of t at → l < mask-letters
+  pub walk-letter : (row : List ℕ) (at l : ℕ) → (at ≡ 0 → ⊥) → Walked t s row at → l ≡ letter-of t at → l < row-letters
   walk-letter row at l some w e = let a = v .letter at (omega arith) (w .link) in let k = v .letters-to in omega arith
 
-  pub walk-target : (row : List ℕ) (at q : ℕ) → (at ≡ 0 → ⊥) → Walked t s row at → q ≡ target-of t at → q < mask-rows
+  pub walk-target : (row : List ℕ) (at q : ℕ) → (at ≡ 0 → ⊥) → Walked t s row at → q ≡ target-of t at → q < set-states
   walk-target row at q some w e = let a = v .target at (omega arith) (w .link) in let n = pattern-few t (asks .pattern) in omega arith
 
-  pub walk-start : (at : ℕ) → at ≡ head-of t s → Walked t s (replicate mask-letters 0) at
+  pub walk-start : (at : ℕ) → at ≡ head-of t s → Walked t s (replicate row-letters 0) at
   unfolding edge
   walk-start at e =
       record {
-        whole = length-replicate {A = ℕ} mask-letters 0;
+        whole = length-replicate {A = ℕ} row-letters 0;
         link = let h = v .head s inside in omega arith;
-        small = λ c. rw (zeros-at mask-letters c) (pow-pos (n-of t));
-        rest = λ c q l. rw (zeros-at mask-letters c, has-zero q, e);
+        small = λ c. rw (zeros-at row-letters c) (pow-pos (n-of t));
+        rest = λ c q l. rw (zeros-at row-letters c, has-zero q, e);
       }
 
   -- one record read: its edge is in the sets, and the rest of the chain is left
@@ -104,7 +104,7 @@ module _ (t : List ℕ) (states s : ℕ) (asks : Row-asks t states s) where
       small c (inr e) = rw (others c e) (w .small c)
 
       rest :
-          (c r : ℕ) → c < mask-letters → (eqb c l ≡ true) ⊎ (eqb c l ≡ false) →
+          (c r : ℕ) → c < row-letters → (eqb c l ≡ true) ⊎ (eqb c l ≡ false) →
           (has (getD (set row l (bitOr (getD row l 0) (1 * 2 ^ q % 2 ^ 32))) c 0) r || chain-has (m-of t) t x c r) ≡ edge t s c r
       rest c r below (inl e) =
           let before = w .rest c r below in
@@ -129,12 +129,12 @@ module _ (t : List ℕ) (states s : ℕ) (asks : Row-asks t states s) where
   pub walk-end : (row : List ℕ) (at : ℕ) → at ≡ 0 → Walked t s row at → row ≡ row-of (moves (meaning t)) s
   unfolding row-of moves targets-of meaning
   walk-end row at none w =
-      ext-getD 0 row (tabulate mask-letters (targets-of (meaning t) s)) (w .whole ∙ sym (tabulate-length mask-letters (targets-of (meaning t) s)))
+      ext-getD 0 row (tabulate row-letters (targets-of (meaning t) s)) (w .whole ∙ sym (tabulate-length row-letters (targets-of (meaning t) s)))
       (λ c l.
-      let below : c < mask-letters = let e = w .whole in omega arith in
-      set-at c below ∙ sym (tabulate-at mask-letters (targets-of (meaning t) s) c 0 below))
+      let below : c < row-letters = let e = w .whole in omega arith in
+      set-at c below ∙ sym (tabulate-at row-letters (targets-of (meaning t) s) c 0 below))
     where
-      set-at : (c : ℕ) → c < mask-letters → getD row c 0 ≡ targets-of (meaning t) s c
+      set-at : (c : ℕ) → c < row-letters → getD row c 0 ≡ targets-of (meaning t) s c
       set-at c below =
           ext (n-of t) (getD row c 0) (targets-of (meaning t) s c) (w .small c) (set-of-lt (n-of t) (meaning t .edge s c))
           (λ q l.

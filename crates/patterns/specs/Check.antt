@@ -10,8 +10,8 @@ use Rattle.patterns.specs.Pattern.{semi-deterministic, moves}
 use Rattle.patterns.specs.Shape.{shape-of}
 use Rattle.patterns.specs.declared.Checked.{Checked}
 use Rattle.patterns.specs.declared.Checked.the-variants.{Passed, Refused}
-use Rattle.patterns.specs.declared.Reading.{Reading}
-use Rattle.patterns.specs.declared.Reading.the-variants as read
+use Rattle.patterns.specs.declared.PatternReading.{PatternReading}
+use Rattle.patterns.specs.declared.PatternReading.the-variants as read
 use Rattle.patterns.specs.declared.Shape.{Shape}
 
 -- 2 to 9 in the pattern's range, then 10; zero where the pattern passes
@@ -24,11 +24,11 @@ as-checked zero = Passed
 as-checked (suc r) = Refused (suc r)
 
 -- the reading for each number: the pattern's shape where no refusal is met
-unfoldable pub as-reading : (number : ℕ) → Shape → Reading
+unfoldable pub as-reading : (number : ℕ) → Shape → PatternReading
 as-reading zero s = read.Pattern s
 as-reading (suc r) s = read.Refused (suc r)
 
-unfoldable pub reading : List ℕ → Reading
+unfoldable pub reading : List ℕ → PatternReading
 reading t = as-reading (check-refusal t) (shape-of (moves (meaning t)))
 
 -- what a reading leaves in the masks: the pattern's target sets where refusals 2 to 9 have passed, and else what they held

@@ -6,29 +6,22 @@ use Prim.Native.Nat.{ℕ, zero, suc, _<_}
 use lib.Bits.{bitOr}
 use lib.ListN.{getD}
 use Rattle.automata.specs.Decision.{tabulate}
-use Rattle.sets.specs.Sets.{union}
-use Rattle.tables.specs.Table.{most-letters, pattern-range, table-refusal, n-of}
+use Rattle.sets.specs.Sets.{set-states, row-letters, union}
+use Rattle.tables.specs.Table.{pattern-range, table-refusal, n-of}
 use Rattle.ncsb.specs.Moves.{Moves}
-
--- its size: a row for each state that a pattern may have, and in each row a set for each letter that a table may have
-abbrev pub mask-rows : ℕ
-mask-rows = 32
-
-abbrev pub mask-letters : ℕ
-mask-letters = most-letters
 
 -- a state's targets for each letter; a letter that the pattern lacks has none
 unfoldable pub row-of : Moves → (state : ℕ) → List ℕ
-row-of d q = tabulate mask-letters (d .move q)
+row-of d q = tabulate row-letters (d .move q)
 
 -- the rows of all states; what is no state has no target
 unfoldable pub masks-of : Moves → List (List ℕ)
-masks-of d = tabulate mask-rows (row-of d)
+masks-of d = tabulate set-states (row-of d)
 
 -- a set, joined with its targets on each letter
 unfoldable pub joined : (letters : ℕ) → (masks : List (List ℕ)) → (set : ℕ) → ℕ
 joined zero m s = s
-joined (suc c) m s = bitOr (joined c m s) (union mask-rows s (λ q. getD (getD m q []) c 0))
+joined (suc c) m s = bitOr (joined c m s) (union set-states s (λ q. getD (getD m q []) c 0))
 
 unfoldable pub joined-in : (rounds letters : ℕ) → (masks : List (List ℕ)) → (set : ℕ) → ℕ
 joined-in zero k m s = s

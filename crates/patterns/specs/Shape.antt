@@ -6,10 +6,10 @@ use Prim.Native.Nat.{ℕ, _≤_}
 use lib.Dec.{ltb}
 use lib.ListN.{getD}
 use Rattle.basics.specs.Bounded.{any}
-use Rattle.sets.specs.Sets.{has, size}
+use Rattle.sets.specs.Sets.{set-states, row-letters, has, size}
 use Rattle.tables.specs.Table.{pattern-range, table-refusal, meaning}
 use Rattle.ncsb.specs.Moves.{Moves}
-use Rattle.patterns.specs.Masks.{mask-rows, mask-letters, masks-of}
+use Rattle.patterns.specs.Masks.{masks-of}
 use Rattle.patterns.specs.Pattern.{moves}
 use Rattle.patterns.specs.declared.Shape.{Shape}
 
@@ -20,7 +20,7 @@ shape-of d =
 
 -- a letter has two targets in a state's row
 unfoldable pub two-targets : (row : List ℕ) → (letter : ℕ) → Bool
-two-targets r c = ltb 1 (size mask-rows (getD r c 0))
+two-targets r c = ltb 1 (size set-states (getD r c 0))
 
 -- some letter has
 unfoldable pub row-forked : (letters : ℕ) → (row : List ℕ) → Bool
@@ -37,5 +37,5 @@ pub record Shape-asks (table : List ℕ) (masks : List (List ℕ)) : Type 0 wher
 
 -- no more states and letters than the masks have rows and columns
 pub record Small-shape (s : Shape) : Type 0 where
-  pub states : s .states ≤ mask-rows
-  pub letters : s .letters ≤ mask-letters
+  pub states : s .states ≤ set-states
+  pub letters : s .letters ≤ row-letters

@@ -1,4 +1,7 @@
 // The pattern check: refusals 2 to 10, and what the construction reads of a pattern, spread out by state and by letter.
+use sets::ROW_LETTERS;
+use sets::SET_STATES;
+use sets::TargetSets;
 use sets::targets;
 use tables::PATTERN_RECORDS;
 use tables::PATTERN_STATES;
@@ -13,10 +16,10 @@ use tables::target_of;
 ghost use mathlib.Core.Path.{_≡_};
 ghost use mathlib.Core.Bool.{_&&_};
 ghost use Prim.Native.Nat.{_≤_, _<_};
-ghost use Rattle.sets.specs.Sets.{has, Narrow};
+ghost use Rattle.sets.specs.Sets.{set-states, row-letters, has, Narrow};
 ghost use Rattle.tables.specs.Table.{pattern-range, table-refusal, meaning};
 ghost use Rattle.patterns.specs.Check.{check-refusal, as-checked, reading, masks-read};
-ghost use Rattle.patterns.specs.Masks.{mask-rows, mask-letters, row-of, masks-of, joined, joined-in, Row-asks};
+ghost use Rattle.patterns.specs.Masks.{row-of, masks-of, joined, joined-in, Row-asks};
 ghost use Rattle.patterns.specs.Pattern.{initial-states, accepting-states, moves};
 ghost use Rattle.patterns.specs.Shape.{shape-of, row-forked, masks-fork, Shape-asks, Small-shape};
 
@@ -36,7 +39,7 @@ pub struct Shape {
 }
 
 // What a reading of a table answers: the number of the refusal, or what the step reads of the pattern beside the masks.
-pub enum Reading {
+pub enum PatternReading {
     Refused(u32),
     Pattern(Shape),
 }
@@ -44,11 +47,11 @@ pub enum Reading {
 // THE TABLE BY STATE AND BY LETTER OF TARGET SETS
 
 // The targets of one state, by letter: one walk along its chain. A record that repeats an edge adds nothing.
-fn row_of(table: &[u16], states: usize, state: usize) -> [u32; 16]
+fn row_of(table: &[u16], states: usize, state: usize) -> [u32; ROW_LETTERS]
     requires { ⌜ Row-asks (now table) states state ⌝ }
     ensures { λ r. ⌜ r ≡ row-of (moves (meaning (now (table .entry)))) state ⌝ }
 {
-    let mut row = [0u32; 16];
+    let mut row = [0u32; ROW_LETTERS];
     let mut at = head_of(table, state);
     while at != 0 {
         // The next record is read before the set is stored: the walk need not wait for that.
@@ -61,13 +64,13 @@ fn row_of(table: &[u16], states: usize, state: usize) -> [u32; 16]
 }
 
 // Lays out the rows of all states. Each chain is walked once; every later test and step reads these sets alone.
-fn spread_out(table: &[u16], masks: &mut [[u32; 16]; 32])
+fn spread_out(table: &[u16], masks: &mut TargetSets)
     requires { ⌜ table-refusal pattern-range (now table) ≡ 0 ⌝ }
     ensures { λ _. ⌜ now (masks .exit) ≡ masks-of (moves (meaning (now (table .entry)))) ⌝ }
 {
     let states = states_of(table);
-    let empty = [0u32; 16];
-    *masks = [empty; 32];
+    let empty = [0u32; ROW_LETTERS];
+    *masks = [empty; SET_STATES];
     let mut state = 0;
     while state < states {
         masks[state] = row_of(table, states, state);
@@ -103,7 +106,7 @@ fn flagged_states(table: &[u16]) -> Flagged
 }
 
 // One round of the closure: the set joined with its targets on each letter.
-fn grown(masks: &[[u32; 16]; 32], letters: usize, set: u32) -> u32
+fn grown(masks: &TargetSets, letters: usize, set: u32) -> u32
     requires { ⌜ Narrow (now masks) ⌝ }
     ensures { λ r. ⌜ r ≡ joined letters (now (masks .entry)) set ⌝ }
 {
@@ -117,7 +120,7 @@ fn grown(masks: &[[u32; 16]; 32], letters: usize, set: u32) -> u32
 }
 
 // All that a set reaches in so many rounds. Once a round adds nothing, no later one does.
-fn closure(masks: [[u32; 16]; 32], letters: usize, rounds: usize, set: u32) -> u32
+fn closure(masks: TargetSets, letters: usize, rounds: usize, set: u32) -> u32
     ensures { λ r. ⌜ r ≡ joined-in rounds letters masks set ⌝ }
 {
     let mut reached = set;
@@ -134,7 +137,7 @@ fn closure(masks: [[u32; 16]; 32], letters: usize, rounds: usize, set: u32) -> u
 }
 
 // All that the step reads beside the masks. Q2 is what the accepting states reach in n rounds.
-fn shape_of(table: &[u16], masks: &[[u32; 16]; 32]) -> Shape
+fn shape_of(table: &[u16], masks: &TargetSets) -> Shape
     requires { ⌜ Shape-asks (now table) (now masks) ⌝ }
     ensures { λ r. ⌜ r ≡ shape-of (moves (meaning (now (table .entry)))) ⌝ }
 {
@@ -154,8 +157,8 @@ fn shape_of(table: &[u16], masks: &[[u32; 16]; 32]) -> Shape
 // SEMI-DETERMINISM
 
 // Some letter has two targets in a state's row.
-fn row_forks(row: [u32; 16], letters: usize) -> bool
-    requires { ⌜ letters ≤ mask-letters ⌝ }
+fn row_forks(row: [u32; ROW_LETTERS], letters: usize) -> bool
+    requires { ⌜ letters ≤ row-letters ⌝ }
     ensures { λ r. ⌜ r ≡ row-forked letters row ⌝ }
 {
     let mut letter = 0;
@@ -169,8 +172,8 @@ fn row_forks(row: [u32; 16], letters: usize) -> bool
 }
 
 // A state with this row forks: it is in Q2, and some letter has two targets.
-fn state_forks(row: [u32; 16], shape: Shape, state: usize) -> bool
-    requires { ⌜ Small-shape shape × (state < mask-rows) ⌝ }
+fn state_forks(row: [u32; ROW_LETTERS], shape: Shape, state: usize) -> bool
+    requires { ⌜ Small-shape shape × (state < set-states) ⌝ }
     ensures { λ r. ⌜ r ≡ (has (shape .inner) state && row-forked (shape .letters) row) ⌝ }
 {
     if (shape.inner >> state) % 2 == 0 {
@@ -180,7 +183,7 @@ fn state_forks(row: [u32; 16], shape: Shape, state: usize) -> bool
 }
 
 // Some state of Q2 has two targets on one letter: the pattern is not semi-deterministic.
-fn some_fork(masks: &[[u32; 16]; 32], shape: Shape) -> bool
+fn some_fork(masks: &TargetSets, shape: Shape) -> bool
     requires { ⌜ Small-shape shape ⌝ }
     ensures { λ r. ⌜ r ≡ masks-fork (now (masks .entry)) shape ⌝ }
 {
@@ -199,30 +202,30 @@ fn some_fork(masks: &[[u32; 16]; 32], shape: Shape) -> bool
 
 // Reads a pattern once, for the check and for the build: the first of refusals 2 to 10 that the table meets, or the shape. Where 2 to 9
 // have passed the masks become the pattern's, also where it forks; where one of them is met the masks are left as they are.
-pub fn read_pattern(table: &[u16], masks: &mut [[u32; 16]; 32]) -> Reading
+pub fn read_pattern(table: &[u16], masks: &mut TargetSets) -> PatternReading
     ensures told { λ r. ⌜ r ≡ reading (now (table .entry)) ⌝ }
     ensures spread { λ _. ⌜ now (masks .exit) ≡ masks-read (now (table .entry)) (now (masks .entry)) ⌝ }
 {
     let refusal = table_refusal(table, PATTERN_STATES, PATTERN_RECORDS);
     if refusal != 0 {
-        return Reading::Refused(refusal);
+        return PatternReading::Refused(refusal);
     }
     spread_out(table, masks);
     let shape = shape_of(table, masks);
     if some_fork(masks, shape) {
-        return Reading::Refused(10);
+        return PatternReading::Refused(10);
     }
-    Reading::Pattern(shape)
+    PatternReading::Pattern(shape)
 }
 
 // The first of refusals 2 to 10 that the table meets, or zero.
 pub fn check_refusal(table: &[u16]) -> u32
     ensures { λ r. ⌜ r ≡ check-refusal (now (table .entry)) ⌝ }
 {
-    let mut masks = [[0u32; 16]; 32];
+    let mut masks = [[0u32; ROW_LETTERS]; SET_STATES];
     match read_pattern(table, &mut masks) {
-        Reading::Refused(number) => number,
-        Reading::Pattern(_) => 0,
+        PatternReading::Refused(number) => number,
+        PatternReading::Pattern(_) => 0,
     }
 }
 

@@ -1,7 +1,7 @@
 // Random semi-deterministic patterns, laid out as chained tables.
 use crate::draw::Draw;
 ghost use Prim.Native.Nat.{_≤_};
-ghost use Rattle.random.specs.Plans.{Small};
+ghost use Rattle.random.specs.Plans.{Small-plan};
 
 // What a pattern is drawn by. Only states from `inner` on may accept; their edges stay among them, with one target for each letter.
 pub(crate) struct Plan {
@@ -13,7 +13,7 @@ pub(crate) struct Plan {
 
 // One to six states, one to three letters, and up to six records for each state.
 pub(crate) fn plan_by(draw: Draw) -> Plan
-    ensures { λ r. ⌜ Small (r .states) (r .records) (r .inner) ⌝ }
+    ensures { λ r. ⌜ Small-plan (r .states) (r .records) (r .inner) ⌝ }
 {
     let second = draw.next();
     let third = second.next();
@@ -29,7 +29,7 @@ pub(crate) fn plan_by(draw: Draw) -> Plan
 
 // How many words the table has.
 pub(crate) fn table_length(plan: Plan) -> usize
-    requires { ⌜ Small (plan .states) (plan .records) (plan .inner) ⌝ }
+    requires { ⌜ Small-plan (plan .states) (plan .records) (plan .inner) ⌝ }
     ensures { λ r. ⌜ r ≤ 146 ⌝ }
 {
     3 + 2 * plan.states + 3 * plan.records
@@ -48,7 +48,7 @@ fn flags_count(plan: Plan, state: usize) -> usize {
 
 // Draws the states' flags.
 fn put_flags(table: &mut [u16], plan: Plan, draw: Draw) -> Draw
-    requires { ⌜ Small (plan .states) (plan .records) (plan .inner) ⌝ }
+    requires { ⌜ Small-plan (plan .states) (plan .records) (plan .inner) ⌝ }
 {
     let mut drawn = draw;
     let mut state = 0;
@@ -62,7 +62,7 @@ fn put_flags(table: &mut [u16], plan: Plan, draw: Draw) -> Draw
 
 // Draws a target among the inner states for each of six states and three letters.
 fn inner_targets(plan: Plan, draw: Draw) -> [usize; 18]
-    requires { ⌜ Small (plan .states) (plan .records) (plan .inner) ⌝ }
+    requires { ⌜ Small-plan (plan .states) (plan .records) (plan .inner) ⌝ }
 {
     let mut targets = [0; 18];
     let mut drawn = draw;
@@ -85,7 +85,7 @@ fn target_of(plan: Plan, targets: [usize; 18], source: usize, letter: usize, dra
 
 // Draws the records one after the other. `ends` has for each state the word that names the next record of its chain.
 fn put_records(table: &mut [u16], plan: Plan, targets: [usize; 18], draw: Draw) -> Draw
-    requires { ⌜ Small (plan .states) (plan .records) (plan .inner) ⌝ }
+    requires { ⌜ Small-plan (plan .states) (plan .records) (plan .inner) ⌝ }
 {
     let mut ends = [4, 6, 8, 10, 12, 14];
     let mut drawn = draw;
@@ -112,7 +112,7 @@ fn put_records(table: &mut [u16], plan: Plan, targets: [usize; 18], draw: Draw) 
 
 // Draws a pattern into words that are all zero.
 pub(crate) fn put_pattern(table: &mut [u16], plan: Plan, draw: Draw) -> Draw
-    requires { ⌜ Small (plan .states) (plan .records) (plan .inner) ⌝ }
+    requires { ⌜ Small-plan (plan .states) (plan .records) (plan .inner) ⌝ }
 {
     put(table, 0, plan.states);
     put(table, 1, plan.letters);

@@ -10,7 +10,7 @@ use Rattle.basics.specs.Words.{word-bits}
 use Rattle.tables.specs.Access.{Word}
 use Rattle.tables.specs.Table.{n-of, m-of, head-of, record-at, letter-of, target-of, next-of}
 use Rattle.reader.specs.declared.ChainItem.the-variants.{Edge, End}
-use Rattle.reader.specs.Chain.{is-record, either-item, item-at, record-after, head-record}
+use Rattle.reader.specs.Chain.{is-record, item-at, record-after, head-record}
 
 -- WHICH NUMBERS ARE RECORDS
 pub record-yes : (t : List ℕ) (r : ℕ) → 1 ≤ r → r ≤ m-of t → is-record t r ≡ true
@@ -54,11 +54,11 @@ read-high t r w high = and-false-r (leb 1 r) (gt-leb (rw (w .is) at high))
 pub read-edge :
     (t : List ℕ) (r : ℕ) {p c q : ℕ} → is-record t r ≡ true → p ≡ record-at t r → Word word-bits c (getD t p 0) → Word word-bits q (getD t (p + 1) 0) →
     Edge c q ≡ item-at t r
-unfolding item-at either-item letter-of target-of
+unfolding item-at letter-of target-of
 read-edge t r e place c q = rw (e, c .is, q .is, place) refl
 
 pub read-end : (t : List ℕ) (r : ℕ) → is-record t r ≡ false → End ≡ item-at t r
-unfolding item-at either-item
+unfolding item-at
 read-end t r e = rw e refl
 
 pub read-next :

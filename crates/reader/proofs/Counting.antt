@@ -3,7 +3,7 @@ use native.Mathlib.Nat.{zero-add}
 use native.Mathlib.Numerals.{unary-clauses}
 use native.Mathlib.Omega.{arith}
 use mathlib.Core.Path.{_≡_, refl, sym, _∙_}
-use mathlib.Core.Bool.{Bool, true, false, _&&_}
+use mathlib.Core.Bool.{Bool, true, false, _&&_, cond}
 use mathlib.Core.List.{List}
 use mathlib.Core.Logic.{_⊎_, inl, inr}
 use Prim.Native.Nat.{ℕ, zero, suc, _+_, _-_, _≤_, _<_}
@@ -11,7 +11,7 @@ use lib.Dec.{ltb}
 use Rattle.basics.proofs.Booleans.{and-l, and-r, and-false, ltb-lt, ltb-ge}
 use Rattle.tables.specs.Table.{m-of, letter-of, target-of}
 use Rattle.reader.specs.declared.ChainItem.the-variants.{Edge, End}
-use Rattle.reader.specs.Chain.{is-record, either-item, item-at, record-after, head-record, goes-on, chain-length, records-in-chain}
+use Rattle.reader.specs.Chain.{is-record, item-at, record-after, head-record, goes-on, chain-length, records-in-chain}
 
 -- the walk stands at record r, and has counted i records of state q's chain
 pub record Counted (t : List ℕ) (q r i : ℕ) : Type 0 where
@@ -19,8 +19,8 @@ pub record Counted (t : List ℕ) (q r i : ℕ) : Type 0 where
   pub whole : i + chain-length (m-of t - i) t r ≡ records-in-chain t q
 
 -- a walk goes on where it stands at a record and turns are left
-picked : (b : Bool) (c q i m : ℕ) → goes-on (either-item b (Edge c q) End) i m ≡ (b && ltb i m)
-unfolding goes-on either-item
+picked : (b : Bool) (c q i m : ℕ) → goes-on (cond b (Edge c q) End) i m ≡ (b && ltb i m)
+unfolding goes-on
 picked true c q i m = refl
 picked false c q i m = refl
 

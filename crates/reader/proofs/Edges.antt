@@ -11,7 +11,7 @@ use Rattle.basics.proofs.Bounded.{any-front}
 use Rattle.tables.specs.Table.{Limits, n-of, m-of, head-of, chain-has, edge, table-refusal}
 use Rattle.tables.proofs.Laws.{Valid, valid}
 use Rattle.reader.specs.declared.ChainItem.the-variants.{End}
-use Rattle.reader.specs.Chain.{is-record, either-item, item-at, record-after, head-record, chain-length, records-in-chain, record-nth, reads}
+use Rattle.reader.specs.Chain.{is-record, item-at, record-after, head-record, chain-length, records-in-chain, record-nth, reads}
 use Rattle.reader.proofs.Chain_laws.{record-yes, record-from, record-to, after-record, first-head, read-end}
 use Rattle.reader.proofs.Counting.{length-more, length-none}
 
@@ -19,7 +19,7 @@ use Rattle.reader.proofs.Counting.{length-more, length-none}
 module _ (t : List ℕ) where
   -- the chain has what is read here, and what it has after this record
   has-more : (f x c q : ℕ) → is-record t x ≡ true → chain-has (suc f) t x c q ≡ (reads (item-at t x) c q || chain-has f t (record-after t x) c q)
-  unfolding chain-has reads item-at either-item
+  unfolding chain-has reads item-at
   has-more f x c q e =
       let some = record-from t x e in
       let far : (x ≡ 0) → ⊥ = λ z. omega arith in

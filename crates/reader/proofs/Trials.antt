@@ -4,7 +4,7 @@ use mathlib.Core.List.{[], _∷_}
 use Rattle.tables.specs.Rows.{pattern-A}
 use Rattle.tables.specs.Table.{n-of, m-of, head-of, record-at, letter-of, target-of, next-of}
 use Rattle.reader.specs.declared.ChainItem.the-variants.{Edge, End}
-use Rattle.reader.specs.Chain.{is-record, either-item, item-at, record-after, head-record, chain-length, records-in-chain, record-nth}
+use Rattle.reader.specs.Chain.{is-record, item-at, record-after, head-record, chain-length, records-in-chain, record-nth}
 
 -- the chain of pattern A's state 0 has three records and that of state 1 one; there is no state 2
 three-records : records-in-chain pattern-A 0 ≡ 3
@@ -21,11 +21,11 @@ no-state = refl
 
 -- the third edge of state 0 is on letter 0 to state 1, and after it the chain ends
 third : item-at pattern-A (record-nth 2 pattern-A (head-record pattern-A 0)) ≡ Edge 0 1
-unfolding item-at either-item record-nth head-record record-after is-record pattern-A n-of m-of head-of record-at letter-of target-of next-of
+unfolding item-at record-nth head-record record-after is-record pattern-A n-of m-of head-of record-at letter-of target-of next-of
 third = refl
 
 after-third : item-at pattern-A (record-nth 3 pattern-A (head-record pattern-A 0)) ≡ End
-unfolding item-at either-item record-nth head-record record-after is-record pattern-A n-of m-of head-of record-at letter-of target-of next-of
+unfolding item-at record-nth head-record record-after is-record pattern-A n-of m-of head-of record-at letter-of target-of next-of
 after-third = refl
 
 -- two records that repeat an edge count as two

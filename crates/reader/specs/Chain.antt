@@ -1,5 +1,5 @@
 -- A reader over a chained table: what stands at a record number, and what follows it, on any words, sound or damaged. Assumes nothing: these are definitions.
-use mathlib.Core.Bool.{Bool, true, false, _&&_, cond}
+use mathlib.Core.Bool.{Bool, false, _&&_, cond}
 use mathlib.Core.List.{List}
 use Prim.Native.Nat.{ℕ, zero, suc}
 use lib.Dec.{ltb, leb, eqb}
@@ -11,14 +11,9 @@ use Rattle.reader.specs.declared.ChainItem.the-variants.{Edge, End}
 unfoldable pub is-record : List ℕ → (number : ℕ) → Bool
 is-record t r = leb 1 r && leb r (m-of t)
 
--- the first where the test holds, else the second
-unfoldable pub either-item : Bool → ChainItem → ChainItem → ChainItem
-either-item true a b = a
-either-item false a b = b
-
 -- the edge of a record; elsewhere the end
 unfoldable pub item-at : List ℕ → (number : ℕ) → ChainItem
-item-at t r = either-item (is-record t r) (Edge (letter-of t r) (target-of t r)) End
+item-at t r = cond (is-record t r) (Edge (letter-of t r) (target-of t r)) End
 
 -- the record that follows in the chain; zero elsewhere
 unfoldable pub record-after : List ℕ → (number : ℕ) → ℕ

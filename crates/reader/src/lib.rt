@@ -26,7 +26,7 @@ pub struct Reader<'a> {
 // ON THE SLICE AND THE NUMBER
 
 // The first record of a state's chain; zero where it has none, or where there is no such state.
-pub fn head_record(table: &[u16], state: usize) -> usize
+fn head_record(table: &[u16], state: usize) -> usize
     ensures { λ r. ⌜ r ≡ head-record (now (table .entry)) state ⌝ }
 {
     if state < states_of(table) {
@@ -45,7 +45,7 @@ fn record_place(table: &[u16], number: usize) -> usize
 }
 
 // The edge of a record, or the end where there is no such record.
-pub fn edge_at(table: &[u16], number: usize) -> ChainItem
+fn edge_at(table: &[u16], number: usize) -> ChainItem
     ensures { λ r. ⌜ r ≡ item-at (now (table .entry)) number ⌝ }
 {
     if number < 1 {
@@ -62,7 +62,7 @@ pub fn edge_at(table: &[u16], number: usize) -> ChainItem
 }
 
 // The number of the record that follows in the chain; zero where there is no such record.
-pub fn record_after(table: &[u16], number: usize) -> usize
+fn record_after(table: &[u16], number: usize) -> usize
     ensures { λ r. ⌜ r ≡ record-after (now (table .entry)) number ⌝ }
 {
     if number < 1 {

@@ -1,6 +1,6 @@
 -- What is stored for a state: a record of words in a run of them (docs/RULES.md, "Numbering and result": record i has N, C, S, B). Assumes
 -- nothing: these are definitions.
-use mathlib.Core.List.{List, [], _++_, _∷_}
+use mathlib.Core.List.{List, flatMap}
 use Prim.Native.Nat.{ℕ, _+_, _*_, _/_}
 use lib.ListN.{length, getD}
 use lib.Seq.{sets}
@@ -16,9 +16,8 @@ unfoldable pub words-of : Quadruple → List ℕ
 words-of x = four-sets x
 
 -- the records of several, one after the other
-unfoldable pub all-words : List Quadruple → List ℕ
-all-words [] = []
-all-words (x ∷ xs) = words-of x ++ all-words xs
+abbrev pub all-words : List Quadruple → List ℕ
+all-words = flatMap words-of
 
 -- how many full records a run of words holds
 unfoldable pub full-records : (words : List ℕ) → ℕ

@@ -1,6 +1,7 @@
 -- A lent run of records, a quadruple each (docs/RULES.md, "Numbering and result"). Assumes nothing: these are definitions.
-use mathlib.Core.List.{List, [], _∷_}
-use Prim.Native.Nat.{ℕ, zero, suc}
+use mathlib.Core.List.{List}
+use Prim.Native.Nat.{ℕ}
+use lib.ListN.{getD}
 use Rattle.automata.specs.Decision.{tabulate}
 use Rattle.ncsb.specs.Successors.{quadruple}
 use Rattle.ncsb.specs.declared.Quadruple.{Quadruple}
@@ -16,6 +17,4 @@ records-in w = tabulate (full-records w) (quadruple-at w)
 
 -- so many records that begin with given ones, as many as fit, and are blank beyond them
 unfoldable pub fitted : (count : ℕ) → List Quadruple → List Quadruple
-fitted zero xs = []
-fitted (suc n) [] = blank ∷ fitted n []
-fitted (suc n) (x ∷ xs) = x ∷ fitted n xs
+fitted n xs = tabulate n (λ i. getD xs i blank)

@@ -32,7 +32,7 @@ pub fn store(records: &mut [Quadruple], number: usize, x: Quadruple)
 }
 
 // The record with a number of a run of words, and four empty sets where the words make no full record.
-pub fn record_in(sets: &[u32], number: usize) -> Quadruple
+fn record_in(sets: &[u32], number: usize) -> Quadruple
     ensures { λ r. ⌜ r ≡ getD (records-in (now (sets .entry))) number blank ⌝ }
 {
     if number < full_records(sets) {

@@ -2,7 +2,7 @@
 -- Halving carries the laws between a number and its members: state 0 is the lowest digit, and state q + 1 of a set is state q of its half.
 use mathlib.Core.Path.{_≡_, refl, sym, _∙_, ap}
 use mathlib.Core.Bool.{Bool, true, false, _&&_, _||_, not, cond}
-use mathlib.Core.Logic.{_⊎_, inl, inr}
+use mathlib.Core.Logic.{inl, inr}
 use Prim.Native.Nat.{ℕ, zero, suc, _+_, _-_, _*_, _/_, _%_, _^_, _≤_, _<_, min, max}
 use native.Mathlib.Omega.{arith}
 use native.Mathlib.Nat.{pow-suc, div-div-eq-div-mul, div-eq-of-lt, one-mul, pow-succ', div-one, add-comm, add-zero, zero-add, lt-of-lt-of-le, lt-of-le-of-lt, sub-le}
@@ -11,7 +11,7 @@ use lib.Arith.{mod-mul}
 use lib.Pow.{pow-pos, pow-mono}
 use lib.Bits.{bitAnd, bitOr, and-step, or-step, and-le-l, or-lt, or-shifted, or-disjoint}
 use Rattle.basics.specs.Bounded.{any}
-use Rattle.basics.proofs.Booleans.{either, and-r, and-make, false-not, clash, eqb-eq, eq-eqb, eqb-ne, ne-eqb, lt-ltb, ge-ltb, ltb-lt, ltb-ge, or-none, same-truth}
+use Rattle.basics.proofs.Booleans.{either, and-r, and-make, clash, eqb-eq, eq-eqb, eqb-ne, ne-eqb, lt-ltb, ge-ltb, or-none, same-truth, same-or, below-or, below-suc}
 use Rattle.basics.proofs.Bounded.{search-to}
 use Rattle.basics.proofs.Upward.{upward}
 use Rattle.sets.specs.Sets.{has, without, set-of, union}
@@ -43,75 +43,51 @@ pub has-zero : (q : ℕ) → has 0 q ≡ false
 has-zero zero = first-unmade 0 refl
 has-zero (suc q) = has-half 0 q ∙ has-zero q
 
--- meet and join
-and-half : (a b : ℕ) → bitAnd a b / 2 ≡ bitAnd (a / 2) (b / 2)
-and-half a b = let h = and-step a b in omega arith
-
-and-digit : (a b : ℕ) → bitAnd a b % 2 ≡ min (a % 2) (b % 2)
-and-digit a b = let h = and-step a b in omega arith
-
-or-half : (a b : ℕ) → bitOr a b / 2 ≡ bitOr (a / 2) (b / 2)
-or-half a b = let h = or-step a b in omega arith
-
-or-digit : (a b : ℕ) → bitOr a b % 2 ≡ max (a % 2) (b % 2)
-or-digit a b = let h = or-step a b in omega arith
-
-pub has-and : (a b q : ℕ) → has (bitAnd a b) q ≡ (has a q && has b q)
-has-and a b zero =
-    let d = and-digit a b in
-    elim (either (has a 0)) [
+-- AN OPERATION DIGIT BY DIGIT: halving goes through it, and its lowest digit is that of the lowest digits. So each state is decided by itself
+two-digits : (P : ℕ → ℕ → Type 0) → P 0 0 → P 0 1 → P 1 0 → P 1 1 → (a b : ℕ) → P (a % 2) (b % 2)
+two-digits P both-out last first both-in a b =
+    elim (same-or (a % 2) 0) [
       | inl x ↦
-          let xd = first-in a x in
-          elim (either (has b 0)) [
-            | inl y ↦ let yd = first-in b y in let e = first-made (bitAnd a b) (omega arith) in cc
-            | inr y ↦ let yd = first-out b y in let e = first-unmade (bitAnd a b) (omega arith) in cc
+          elim (same-or (b % 2) 0) [
+            | inl y ↦ rw (x, y) both-out
+            | inr n ↦ let y : b % 2 ≡ 1 = omega arith in rw (x, y) last
           ]
-      | inr x ↦ let xd = first-out a x in let e = first-unmade (bitAnd a b) (omega arith) in cc
+      | inr m ↦
+          let x : a % 2 ≡ 1 = omega arith in
+          elim (same-or (b % 2) 0) [
+            | inl y ↦ rw (x, y) first
+            | inr n ↦ let y : b % 2 ≡ 1 = omega arith in rw (x, y) both-in
+          ]
     ]
-has-and a b (suc q) =
-    let ih = has-and (a / 2) (b / 2) q in
-    cc (has-half (bitAnd a b) q, and-half a b, has-half a q, has-half b q)
+
+by-digits :
+    (op digit : ℕ → ℕ → ℕ) (f : Bool → Bool → Bool) → ((a b : ℕ) → op a b / 2 ≡ op (a / 2) (b / 2)) →
+    ((a b : ℕ) → op a b % 2 ≡ digit (a % 2) (b % 2)) →
+    ((a b : ℕ) → eqb (digit (a % 2) (b % 2)) 1 ≡ f (eqb (a % 2) 1) (eqb (b % 2) 1)) →
+    (a b q : ℕ) → has (op a b) q ≡ f (has a q) (has b q)
+by-digits op digit f half low table a b zero = rw (has-first, low a b, has-first a, has-first b) (table a b)
+by-digits op digit f half low table a b (suc q) =
+    rw (has-half, half a b, has-half a q, has-half b q) (by-digits op digit f half low table (a / 2) (b / 2) q)
+
+-- meet and join
+pub has-and : (a b q : ℕ) → has (bitAnd a b) q ≡ (has a q && has b q)
+has-and =
+    by-digits bitAnd min _&&_ (λ a b. let h = and-step a b in omega arith) (λ a b. let h = and-step a b in omega arith)
+    (two-digits (λ x y. eqb (min x y) 1 ≡ (eqb x 1 && eqb y 1)) refl refl refl refl)
 
 pub has-or : (a b q : ℕ) → has (bitOr a b) q ≡ (has a q || has b q)
-has-or a b zero =
-    let d = or-digit a b in
-    elim (either (has a 0)) [
-      | inl x ↦ let xd = first-in a x in let e = first-made (bitOr a b) (omega arith) in cc
-      | inr x ↦
-          let xd = first-out a x in
-          elim (either (has b 0)) [
-            | inl y ↦ let yd = first-in b y in let e = first-made (bitOr a b) (omega arith) in cc
-            | inr y ↦ let yd = first-out b y in let e = first-unmade (bitOr a b) (omega arith) in cc
-          ]
-    ]
-has-or a b (suc q) =
-    let ih = has-or (a / 2) (b / 2) q in
-    cc (has-half (bitOr a b) q, or-half a b, has-half a q, has-half b q)
+has-or =
+    by-digits bitOr max _||_ (λ a b. let h = or-step a b in omega arith) (λ a b. let h = or-step a b in omega arith)
+    (two-digits (λ x y. eqb (max x y) 1 ≡ (eqb x 1 || eqb y 1)) refl refl refl refl)
 
 -- what is in a and not in b
-without-half : (a b : ℕ) → without a b / 2 ≡ without (a / 2) (b / 2)
-unfolding without
-without-half a b = let h = and-step a b in let l = and-le-l (a / 2) (b / 2) in omega arith
-
-without-digit : (a b : ℕ) → without a b % 2 ≡ a % 2 - min (a % 2) (b % 2)
-unfolding without
-without-digit a b = let h = and-step a b in let l = and-le-l (a / 2) (b / 2) in omega arith
-
 pub has-without : (a b q : ℕ) → has (without a b) q ≡ (has a q && not (has b q))
-has-without a b zero =
-    let d = without-digit a b in
-    elim (either (has a 0)) [
-      | inl x ↦
-          let xd = first-in a x in
-          elim (either (has b 0)) [
-            | inl y ↦ let yd = first-in b y in let e = first-unmade (without a b) (omega arith) in cc
-            | inr y ↦ let yd = first-out b y in let e = first-made (without a b) (omega arith) in cc
-          ]
-      | inr x ↦ let xd = first-out a x in let e = first-unmade (without a b) (omega arith) in cc
-    ]
-has-without a b (suc q) =
-    let ih = has-without (a / 2) (b / 2) q in
-    cc (has-half (without a b) q, without-half a b, has-half a q, has-half b q)
+unfolding without
+has-without =
+    by-digits without (λ x y. x - min x y) (λ x y. x && not y)
+    (λ a b. let h = and-step a b in let l = and-le-l (a / 2) (b / 2) in omega arith)
+    (λ a b. let h = and-step a b in let l = and-le-l (a / 2) (b / 2) in omega arith)
+    (two-digits (λ x y. eqb (x - min x y) 1 ≡ (eqb x 1 && not (eqb y 1))) refl refl refl refl)
 
 pub without-le : (a b : ℕ) → without a b ≤ a
 unfolding without
@@ -140,9 +116,9 @@ has-out k s q l m =
 -- so a member is below k
 pub has-lt : (k s q : ℕ) → s < 2 ^ k → has s q ≡ true → q < k
 has-lt k s q l h =
-    elim (either (ltb q k)) [
-      | inl e ↦ ltb-lt q k e
-      | inr e ↦ absurd (clash h (has-out k s q l (ltb-ge q k e)))
+    elim (below-or q k) [
+      | inl e ↦ e
+      | inr e ↦ absurd (clash h (has-out k s q l e))
     ]
 
 -- sets with the same members are equal
@@ -158,6 +134,12 @@ ext (suc k) a b la lb h =
       | inl x ↦ let da = first-in a x in let db = first-in b (sym first ∙ x) in omega arith
       | inr x ↦ let da = first-out a x in let db = first-out b (sym first ∙ x) in omega arith
     ]
+
+-- so are two sets of which each has the other's members
+pub ext-both :
+    (k a b : ℕ) → a < 2 ^ k → b < 2 ^ k → ((q : ℕ) → q < k → has a q ≡ true → has b q ≡ true) →
+    ((q : ℕ) → q < k → has b q ≡ true → has a q ≡ true) → a ≡ b
+ext-both k a b la lb f g = ext k a b la lb (λ q l. same-truth (has a q) (has b q) (f q l) (g q l))
 
 -- a number is below its own power of two
 pub lt-pow : (s : ℕ) → s < 2 ^ s
@@ -181,13 +163,7 @@ pub has-nonzero : (s q : ℕ) → has s q ≡ true → s ≡ 0 → ⊥
 has-nonzero s q h e = clash h (empty-no s q e)
 
 pub has-some : (k s : ℕ) → s < 2 ^ k → (s ≡ 0 → ⊥) → (q : ℕ) × (q < k) × (has s q ≡ true)
-has-some k s l n = go (search-to k (has s))
-  where
-    go :
-        ((q : ℕ) × (q < k) × (has s q ≡ true)) ⊎ ((q : ℕ) → q < k → has s q ≡ false) →
-        (q : ℕ) × (q < k) × (has s q ≡ true)
-    go (inl r) = r
-    go (inr none) = absurd (n (empty k s l none))
+has-some k s l n = elim (search-to k (has s)) [ inl r ↦ r | inr none ↦ absurd (n (empty k s l none)) ]
 
 -- a set below 2 ^ k with the state k added
 pub has-top : (k s q : ℕ) → s < 2 ^ k → has (2 ^ k + s) q ≡ (eqb k q || has s q)
@@ -207,21 +183,6 @@ apart-make a b apart =
 
 pub apart-has : (a b q : ℕ) → bitAnd a b ≡ 0 → has a q ≡ true → has b q ≡ false
 apart-has a b q e h = let n = empty-no (bitAnd a b) q e in cc (has-and a b q)
-
--- a is a part of b exactly if nothing of a is outside b
-pub part-make : (a b : ℕ) → ((q : ℕ) → has a q ≡ true → has b q ≡ true) → without a b ≡ 0
-part-make a b inside =
-    ext-all (without a b) 0
-    (λ q.
-    elim (either (has a q)) [
-      | inl h ↦ let n = inside q h in cc (has-without a b q, has-zero q)
-      | inr h ↦ cc (has-without a b q, has-zero q)
-    ])
-
-pub part-has : (a b q : ℕ) → without a b ≡ 0 → has a q ≡ true → has b q ≡ true
-part-has a b q e h =
-    let n = empty-no (without a b) q e in
-    let f : not (has b q) ≡ false = cc (has-without a b q) in false-not (has b q) f
 
 -- sets with no state in common add
 pub sum-join : (a b : ℕ) → ((q : ℕ) → has a q ≡ true → has b q ≡ false) → a + b ≡ bitOr a b
@@ -267,11 +228,6 @@ has-added : (k s : ℕ) (b : Bool) (q : ℕ) → s < 2 ^ k → has (s + cond b (
 has-added k s true q l = rw (add-comm s (2 ^ k)) (has-top k s q l)
 has-added k s false q l = rw (add-zero s)
 
-below-suc : (k q : ℕ) → (k ≡ q → ⊥) → ltb q (suc k) ≡ ltb q k
-below-suc k q n =
-    same-truth (ltb q (suc k)) (ltb q k) (λ h. let l = ltb-lt q (suc k) h in lt-ltb {m = q} {n = k} (omega arith))
-    (λ h. let l = ltb-lt q k h in lt-ltb {m = q} {n = suc k} (omega arith))
-
 pub has-set-of : (k : ℕ) (f : ℕ → Bool) (q : ℕ) → has (set-of k f) q ≡ (ltb q k && f q)
 unfolding set-of
 has-set-of zero f q = let e : ltb q 0 ≡ false = ge-ltb {m = q} {n = 0} (omega arith) in rw e (has-zero q)
@@ -285,7 +241,7 @@ has-set-of (suc k) f q =
           let out : ltb q k ≡ false = ge-ltb {m = q} {n = k} (omega arith) in
           elim (either (f k)) [ inl y ↦ cc | inr y ↦ cc ]
       | inr e ↦
-          let below = below-suc k q (eqb-ne k q e) in
+          let below = below-suc q k (λ s. eqb-ne k q e (sym s)) in
           elim (either (f k)) [ inl y ↦ cc | inr y ↦ cc ]
     ]
 
@@ -326,12 +282,7 @@ has-union (suc k) s row r =
       | inr e ↦ rw e (ih ∙ sym (or-none (any k (λ q. has s q && has (row q) r))))
     ]
 
--- rows that agree, and states beyond those that the set may have
-pub union-same : (k s : ℕ) (row other : ℕ → ℕ) → ((q : ℕ) → row q ≡ other q) → union k s row ≡ union k s other
-unfolding union
-union-same zero s row other same = refl
-union-same (suc k) s row other same = rw (union-same k s row other same, same k) refl
-
+-- states beyond those that the set may have
 pub union-past : (n k s : ℕ) (row : ℕ → ℕ) → s < 2 ^ n → n ≤ k → union k s row ≡ union n s row
 unfolding union
 union-past n k s row small l =

@@ -1,20 +1,18 @@
 -- How many states a set has: the count of a number's set digits, and how it grows. Assumes nothing.
 use mathlib.Core.Path.{_≡_, sym, _∙_, ap}
-use mathlib.Core.Bool.{Bool, true, false, _&&_, not}
+use mathlib.Core.Bool.{true, false}
 use mathlib.Core.Logic.{inl, inr}
 use Prim.Native.Nat.{ℕ, zero, suc, _+_, _/_, _%_, _^_, _≤_, _<_}
 use native.Mathlib.Omega.{arith}
 use native.Mathlib.Nat.{pow-suc, add-zero}
 use native.Mathlib.Numerals.{add-one}
-use lib.Bits.{bitAnd}
 use lib.Count.{ones, onesIn, ones-step}
-use lib.Dec.{ltb}
 use Rattle.basics.specs.Bounded.{count}
-use Rattle.basics.proofs.Booleans.{either, lt-ltb}
-use Rattle.basics.proofs.Bounded.{count-same, count-le, count-mono, count-less}
-use Rattle.sets.specs.Sets.{has, size, without, set-of}
-use Rattle.basics.proofs.Counting.{count-front, count-none, count-hit, count-longer, count-past, count-split}
-use Rattle.sets.proofs.Members.{has-half, has-zero, has-and, has-without, has-out, has-set-of, empty, first-in, first-out}
+use Rattle.basics.proofs.Booleans.{either}
+use Rattle.basics.proofs.Bounded.{count-same, count-le}
+use Rattle.sets.specs.Sets.{has, size}
+use Rattle.basics.proofs.Counting.{count-front, count-none, count-hit, count-longer, count-past}
+use Rattle.sets.proofs.Members.{has-half, has-out, first-in, first-out}
 
 -- the lowest digit, and the size of the half
 pub size-step : (k s : ℕ) → size (suc k) s ≡ s % 2 + size k (s / 2)
@@ -44,13 +42,6 @@ size-ones (suc k) s l =
     let p = pow-suc 2 k in
     let ih = size-ones k (s / 2) (omega arith) in size-step k s ∙ ap (λ (n : ℕ). s % 2 + n) ih ∙ sym (ones-step s)
 
--- a set of the states that pass a test has as many states as pass
-pub size-set-of : (k : ℕ) (f : ℕ → Bool) → size k (set-of k f) ≡ count k f
-unfolding size
-size-set-of k f =
-    count-same k (has (set-of k f)) f
-    (λ i l. let b : ltb i k ≡ true = lt-ltb l in has-set-of k f i ∙ ap (λ (x : Bool). x && f i) b)
-
 -- bounds
 pub size-le : (k s : ℕ) → size k s ≤ k
 unfolding size
@@ -69,40 +60,7 @@ pub size-hit : (q k s : ℕ) → q < k → has s q ≡ true → size q s < size 
 unfolding size
 size-hit q k s l h = count-hit q k (has s) l h
 
--- a part has no more states, and fewer where a state is left out
-pub size-mono : (k a b : ℕ) → ((q : ℕ) → q < k → has a q ≡ true → has b q ≡ true) → size k a ≤ size k b
-unfolding size
-size-mono k a b h = count-mono k (has a) (has b) h
-
-pub size-less :
-    (k a b : ℕ) → ((q : ℕ) → q < k → has a q ≡ true → has b q ≡ true) → (p : ℕ) → p < k → has a p ≡ false →
-    has b p ≡ true → size k a < size k b
-unfolding size
-size-less k a b h p l n y = count-less k (has a) (has b) h p l n y
-
-pub size-same : (k a b : ℕ) → ((q : ℕ) → q < k → has a q ≡ has b q) → size k a ≡ size k b
-unfolding size
-size-same k a b h = count-same k (has a) (has b) h
-
--- the empty set alone has no state
-pub size-zero : (k : ℕ) → size k 0 ≡ 0
-unfolding size
-size-zero k = count-none k (has 0) (λ q l. has-zero q)
-
+-- a set with no member below the limit
 pub size-none : (k s : ℕ) → ((q : ℕ) → q < k → has s q ≡ false) → size k s ≡ 0
 unfolding size
 size-none k s h = count-none k (has s) h
-
-pub size-empty : (k s : ℕ) → s < 2 ^ k → size k s ≡ 0 → s ≡ 0
-size-empty k s l e =
-    empty k s l
-    (λ q m.
-    elim (either (has s q)) [ inl h ↦ absurd (let c = size-hit q k s m h in omega arith) | inr h ↦ h ])
-
--- a set is what it shares with another and what it does not
-pub size-split : (k a b : ℕ) → size k a ≡ size k (bitAnd a b) + size k (without a b)
-unfolding size
-size-split k a b =
-    let e = count-split k (has a) (has b) in
-    let x = count-same k (has (bitAnd a b)) (λ i. has a i && has b i) (λ i l. has-and a b i) in
-    let y = count-same k (has (without a b)) (λ i. has a i && not (has b i)) (λ i l. has-without a b i) in omega arith

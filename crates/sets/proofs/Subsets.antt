@@ -12,7 +12,7 @@ use lib.Dec.{eqb, ltb}
 use lib.ListN.{length, getD, length-append, length-map, List·getD-append}
 use lib.Pow.{pow-mono}
 use lib.Seq.{getD-append-add}
-use Rattle.basics.proofs.Booleans.{either, clash, and-l, and-r, and-false-l, and-false-r, eqb-eq, eqb-ne, eqb-self, ne-eqb, lt-ltb, ltb-lt, ltb-ge, not-true, or-l, or-r}
+use Rattle.basics.proofs.Booleans.{either, clash, and-l, and-r, and-false-l, and-false-r, eqb-eq, eqb-ne, eqb-self, ne-eqb, lt-ltb, ltb-lt, ltb-ge, not-true, or-l, or-r, below-or}
 use Rattle.basics.proofs.Lists.{getD-map}
 use Rattle.basics.proofs.Upward.{upward}
 use Rattle.sets.specs.Sets.{has, size, set-of, subsets}
@@ -113,10 +113,9 @@ choice k s i l =
       | inl h ↦
           let e : i < 2 ^ suc (size k s) = rw (size-grows k s h) at l in
           let p = pow-suc 2 (size k s) in
-          elim (either (ltb i n)) [
-            | inl x ↦ leaves (ltb-lt i n x)
-            | inr x ↦
-                let m = ltb-ge i n x in
+          elim (below-or i n) [
+            | inl x ↦ leaves x
+            | inr m ↦
                 let q : i ≡ n + (i - n) = omega arith in
                 let b : i - n < n = omega arith in takes (i - n) q b h
           ]
@@ -160,9 +159,9 @@ spread-rises (suc k) s i j l m = go (spread-rises k s) (choice k s i (omega arit
 -- the highest state of a set below 2 ^ (k + 1)
 top-in : (k y : ℕ) → has y k ≡ true → 2 ^ k ≤ y
 top-in k y h =
-    elim (either (ltb y (2 ^ k))) [
-      | inl x ↦ absurd (clash h (has-out k y k (ltb-lt y (2 ^ k) x) (omega arith)))
-      | inr x ↦ ltb-ge y (2 ^ k) x
+    elim (below-or y (2 ^ k)) [
+      | inl x ↦ absurd (clash h (has-out k y k x (omega arith)))
+      | inr x ↦ x
     ]
 
 top-out : (k y : ℕ) → y < 2 ^ suc k → has y k ≡ false → y < 2 ^ k
@@ -215,10 +214,6 @@ subsets-rises k s i j l m =
     let x = subsets-nth k s i (omega arith) in
     let y = subsets-nth k s j (omega arith) in
     let z = spread-rises k s i j l (omega arith) in omega arith
-
-pub subsets-distinct :
-    (k s i j : ℕ) → i < j → j < length (subsets k s) → getD (subsets k s) i 0 ≡ getD (subsets k s) j 0 → ⊥
-subsets-distinct k s i j l m e = let z = subsets-rises k s i j l m in omega arith
 
 -- a number is in the list exactly if it is a part of the set
 pub subsets-all :
@@ -285,9 +280,9 @@ spread-turn k i {s} {t} {rest} l w =
         elim (either (has s q)) [
           | inl h ↦
               let above : t < q =
-              elim (either (ltb q t)) [
-                | inl x ↦ absurd (clash h (w .below q (ltb-lt q t x)))
-                | inr x ↦ let g = ltb-ge q t x in omega arith
+              elim (below-or q t) [
+                | inl x ↦ absurd (clash h (w .below q x))
+                | inr g ↦ omega arith
               ] in
               let n = lowest-size w q above in
               let kept : has rest q ≡ true = cc (w .others q) in

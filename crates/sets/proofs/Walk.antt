@@ -1,22 +1,23 @@
--- Laws for walking the members of a set from the lowest one up, and for the operations of 32-bit words. Assumes nothing.
+-- Laws for walking the members of a set from the lowest one up, to find one, to join their rows or to choose among them, and for the
+-- operations of 32-bit words. Assumes nothing.
 use mathlib.Core.Path.{_≡_, refl, sym, _∙_, ap}
-use mathlib.Core.Bool.{Bool, true, _&&_, _||_, not}
+use mathlib.Core.Bool.{Bool, true, false, _&&_, _||_, not}
 use mathlib.Core.Logic.{inl, inr}
 use Prim.Native.Nat.{ℕ, zero, suc, _+_, _-_, _*_, _/_, _%_, _^_, _<_}
 use native.Mathlib.Omega.{arith}
-use native.Mathlib.Nat.{pow-suc, mod-lt, lt-of-le-of-lt}
-use lib.Bits.{bitAnd, bitOr, and-le-l, or-zero-r}
+use native.Mathlib.Nat.{mod-lt, mod-eq-of-lt, lt-of-le-of-lt}
+use lib.Bits.{bitAnd, bitOr, and-comm, and-le-l, and-mask, or-zero-r}
 use lib.Count.{trailingZeros}
 use lib.Dec.{eqb}
 use lib.ListN.{getD}
-use lib.Pow.{pow-pos}
+use lib.Pow.{pow-pos, pow-lt}
 use Rattle.basics.specs.Bounded.{any}
-use Rattle.basics.proofs.Booleans.{and-l, and-make, and-r, either, eqb-eq, not-false, or-assoc as or-assoc-bool, or-l, or-r, or-true, same-truth}
-use Rattle.basics.proofs.Bounded.{any-find, any-make}
+use Rattle.basics.proofs.Booleans.{and-false-l, and-l, and-make, and-r, either, eqb-eq, eqb-self, not-false, or-assoc as or-assoc-bool, or-l, or-r, or-true, same-truth, eqb-ne}
+use Rattle.basics.proofs.Bounded.{any-find, any-make, any-none}
 use Rattle.basics.proofs.Packed.{shift-one}
 use Rattle.sets.specs.Sets.{has, size, subsets, union, without}
 use Rattle.sets.proofs.Lowest.{Lowest, lowest, lowest-less, lowest-lt, lowest-part}
-use Rattle.sets.proofs.Members.{ext, ext-all, first-in, first-made, first-out, first-unmade, has-and, has-half, has-lt, has-or, has-union, has-without, has-zero, without-lt}
+use Rattle.sets.proofs.Members.{ext, ext-all, first-made, first-unmade, has-and, has-lt, has-or, has-single, has-union, has-without, has-zero, without-lt}
 use Rattle.sets.proofs.Subsets.{spread, spread-lt, spread-mod, spread-turn, spread-zero, subsets-nth}
 
 -- join is associative
@@ -27,25 +28,20 @@ or-assoc a b c =
     let e = or-assoc-bool (has a q) (has b q) (has c q) in
     cc (has-or (bitOr a b) c q, has-or a b q, has-or a (bitOr b c) q, has-or b c q))
 
--- the states below k that are not in b
-flip-half : (k b : ℕ) → b < 2 ^ suc k → (2 ^ suc k - 1 - b) / 2 ≡ 2 ^ k - 1 - b / 2
-flip-half k b l = let p = pow-suc 2 k in omega arith
-
-flip-digit : (k b : ℕ) → b < 2 ^ suc k → (2 ^ suc k - 1 - b) % 2 ≡ 1 - b % 2
-flip-digit k b l = let p = pow-suc 2 k in omega arith
+-- the states below k are those of 2 ^ k - 1, and 2 ^ k - 1 - b is what is not in b
+mask-has : (k q : ℕ) → q < k → has (2 ^ k - 1) q ≡ true
+mask-has k q l =
+    let own = has-single q q in
+    let self = eqb-self q in
+    let one : bitAnd (2 ^ q) (2 ^ k - 1) ≡ 2 ^ q = and-mask (2 ^ q) k ∙ mod-eq-of-lt (pow-lt l) in
+    cc (has-and (2 ^ q) (2 ^ k - 1) q)
 
 pub has-flip : (k b q : ℕ) → b < 2 ^ k → q < k → has (2 ^ k - 1 - b) q ≡ not (has b q)
-has-flip zero b q l m = absurd (omega arith)
-has-flip (suc k) b zero l m =
-    let d = flip-digit k b l in
-    elim (either (has b 0)) [
-      | inl h ↦ let e = first-in b h in let z = first-unmade (2 ^ suc k - 1 - b) (omega arith) in cc
-      | inr h ↦ let e = first-out b h in let z = first-made (2 ^ suc k - 1 - b) (omega arith) in cc
-    ]
-has-flip (suc k) b (suc q) l m =
-    let p = pow-suc 2 k in
-    let ih = has-flip k (b / 2) q (omega arith) (omega arith) in
-    cc (has-half (2 ^ suc k - 1 - b) q, flip-half k b l, has-half b q)
+unfolding without
+has-flip k b q l m =
+    let inside : bitAnd (2 ^ k - 1) b ≡ b = and-comm (2 ^ k - 1) b ∙ and-mask b k ∙ mod-eq-of-lt l in
+    let in-mask = mask-has k q m in
+    cc (has-without (2 ^ k - 1) b q)
 
 -- a & !b takes away from a what is in b
 pub flip-without : (k a b : ℕ) → a < 2 ^ k → b < 2 ^ k → bitAnd a (2 ^ k - 1 - b) ≡ without a b
@@ -53,7 +49,67 @@ flip-without k a b la lb =
     ext k (bitAnd a (2 ^ k - 1 - b)) (without a b) (lt-of-le-of-lt (and-le-l a (2 ^ k - 1 - b)) la) (without-lt k a b la)
     (λ q l. let f = has-flip k b q lb l in cc (has-and a (2 ^ k - 1 - b) q, has-without a b q))
 
--- the union over a set is the row of its lowest state joined with the union over the rest
+-- SOME MEMBER of the set passes the test
+unfoldable pub some-member : (k set : ℕ) → (ℕ → Bool) → Bool
+some-member k s f = any k (λ q. has s q && f q)
+
+-- the lowest one does, or one of the rest
+some-turn :
+    (k : ℕ) (f : ℕ → Bool) {s t rest : ℕ} → s < 2 ^ k → Lowest s t rest → some-member k s f ≡ (f t || some-member k rest f)
+unfolding some-member
+some-turn k f {s} {t} {rest} l w = same-truth (any k whole) (f t || any k rested) down up
+  where
+    whole : ℕ → Bool
+    whole q = has s q && f q
+
+    rested : ℕ → Bool
+    rested q = has rest q && f q
+
+    down : any k whole ≡ true → (f t || any k rested) ≡ true
+    down h =
+        let (q, b, e) = any-find k whole h in
+        let x : f q ≡ true = and-r (has s q) e in
+        elim (either (eqb q t)) [
+          | inl same ↦ or-l (any k rested) (rw (eqb-eq q t same) at x)
+          | inr other ↦
+              let m : has s q ≡ true = and-l (f q) e in
+              let kept : has rest q ≡ true = w .others q ∙ and-make m (not-false other) in
+              or-r (f t) (any-make k rested q b (and-make kept x))
+        ]
+
+    up : (f t || any k rested) ≡ true → any k whole ≡ true
+    up h =
+        elim (or-true (f t) (any k rested) h) [
+          | inl x ↦ any-make k whole t (has-lt k s t l (w .member)) (and-make (w .member) x)
+          | inr x ↦
+              let (q, b, e) = any-find k rested x in
+              any-make k whole q b (and-make (lowest-part w q (and-l (f q) e)) (and-r (has rest q) e))
+        ]
+
+module _ (k s : ℕ) (f : ℕ → Bool) (l : s < 2 ^ k) where
+  -- the lowest member passes
+  pub member-hit : (s ≡ 0 → ⊥) → f (trailingZeros k s) ≡ true → some-member k s f ≡ true
+  member-hit n e = some-turn k f l (lowest k s l n) ∙ or-l (some-member k (bitAnd s (s - 1)) f) e
+
+  -- it does not, and the others are left
+  pub member-turn :
+      (s ≡ 0 → ⊥) → f (trailingZeros k s) ≡ false → some-member k (bitAnd s (s - 1)) f ≡ some-member k s f
+  member-turn n e = cc (some-turn k f l (lowest k s l n))
+
+  -- no member passes where there is none
+  pub member-none : s ≡ 0 → some-member k s f ≡ false
+  unfolding some-member
+  member-none z = rw z (any-none k (λ q. has 0 q && f q) (λ q m. and-false-l (f q) (has-zero q)))
+
+  -- a test that all pass
+  pub member-all : ((q : ℕ) → f q ≡ true) → not (eqb s 0) ≡ some-member k s f
+  member-all all =
+      elim (either (eqb s 0)) [
+        | inl e ↦ let z = member-none (eqb-eq s 0 e) in cc
+        | inr e ↦ let z = member-hit (eqb-ne s 0 e) (all (trailingZeros k s)) in cc
+      ]
+
+-- THE UNION over a set is the row of its lowest state joined with the union over the rest
 pub union-zero : (k : ℕ) (row : ℕ → ℕ) → union k 0 row ≡ 0
 unfolding union
 union-zero zero row = refl
@@ -62,43 +118,13 @@ union-zero (suc k) row = let z = has-zero k in let ih = union-zero k row in cc
 pub union-turn :
     (k : ℕ) (row : ℕ → ℕ) {s t rest : ℕ} → s < 2 ^ k → Lowest s t rest →
     union k s row ≡ bitOr (row t) (union k rest row)
-union-turn k row {s} {t} {rest} l w = ext-all (union k s row) (bitOr (row t) (union k rest row)) same
-  where
-    whole : ℕ → ℕ → Bool
-    whole r q = has s q && has (row q) r
-
-    rested : ℕ → ℕ → Bool
-    rested r q = has rest q && has (row q) r
-
-    down : (r : ℕ) → any k (whole r) ≡ true → (has (row t) r || any k (rested r)) ≡ true
-    down r h =
-        let f = any-find k (whole r) h in
-        let q = f .0 in
-        let m : has s q ≡ true = and-l (has (row q) r) (f .2) in
-        let x : has (row q) r ≡ true = and-r (has s q) (f .2) in
-        elim (either (eqb q t)) [
-          | inl e ↦ or-l (any k (rested r)) (rw (eqb-eq q t e) at x)
-          | inr e ↦
-              let kept : has rest q ≡ true = w .others q ∙ and-make m (not-false e) in
-              or-r (has (row t) r) (any-make k (rested r) q (f .1) (and-make kept x))
-        ]
-
-    up : (r : ℕ) → (has (row t) r || any k (rested r)) ≡ true → any k (whole r) ≡ true
-    up r h =
-        elim (or-true (has (row t) r) (any k (rested r)) h) [
-          | inl x ↦ any-make k (whole r) t (has-lt k s t l (w .member)) (and-make (w .member) x)
-          | inr x ↦
-              let f = any-find k (rested r) x in
-              let q = f .0 in
-              let m = lowest-part w q (and-l (has (row q) r) (f .2)) in
-              any-make k (whole r) q (f .1) (and-make m (and-r (has rest q) (f .2)))
-        ]
-
-    same : (r : ℕ) → has (union k s row) r ≡ has (bitOr (row t) (union k rest row)) r
-    same r =
-        has-union k s row r ∙ same-truth (any k (whole r)) (has (row t) r || any k (rested r)) (down r) (up r)
-        ∙ ap (λ (b : Bool). has (row t) r || b) (sym (has-union k rest row r))
-        ∙ sym (has-or (row t) (union k rest row) r)
+unfolding some-member
+union-turn k row {s} {t} {rest} l w =
+    ext-all (union k s row) (bitOr (row t) (union k rest row))
+    (λ r.
+    has-union k s row r ∙ some-turn k (λ q. has (row q) r) l w
+    ∙ ap (λ (b : Bool). has (row t) r || b) (sym (has-union k rest row r))
+    ∙ sym (has-or (row t) (union k rest row) r))
 
 pub union-none : (k s : ℕ) (row : ℕ → ℕ) → ((q : ℕ) → row q ≡ 0) → union k s row ≡ 0
 unfolding union

@@ -8,6 +8,14 @@ use lib.Bits.{bitAnd, bitOr}
 use lib.ListN.{length, getD}
 use Rattle.basics.specs.Bounded.{count}
 
+-- THE SIZE of sets and of tables of them: a set is a number of 32 bits, so it holds states 0 to 31
+abbrev pub set-states : ℕ
+set-states = 32
+
+-- and a table by state and by letter of target sets has 16 letters in each row
+abbrev pub row-letters : ℕ
+row-letters = 16
+
 -- state q is in the set
 unfoldable pub has : (set q : ℕ) → Bool
 has s q = eqb (s / 2 ^ q % 2) 1
@@ -35,6 +43,6 @@ unfoldable pub subsets : (limit set : ℕ) → List ℕ
 subsets zero s = 0 ∷ []
 subsets (suc q) s = let r = subsets q s in cond (has s q) (r ++ map (λ x. 2 ^ q + x) r) r
 
--- no row of a table by state and by letter is longer than the 16 letters
+-- no row of a table by state and by letter is longer than its letters
 pub record Narrow (table : List (List ℕ)) : Type 0 where
-  pub width : (q : ℕ) → length (getD table q []) ≤ 16
+  pub width : (q : ℕ) → length (getD table q []) ≤ row-letters

@@ -4,7 +4,16 @@ ghost use mathlib.Core.Path.{_≡_};
 ghost use mathlib.Core.List.{[]};
 ghost use Prim.Native.Nat.{_%_, _^_};
 ghost use lib.ListN.{length, getD};
-ghost use Rattle.sets.specs.Sets.{size, subsets, union, without, Narrow};
+ghost use Rattle.sets.specs.Sets.{set-states, size, subsets, union, without, Narrow};
+
+// A set holds states 0 to 31.
+pub const SET_STATES: usize = 32;
+
+// A row of target sets has 16 letters.
+pub const ROW_LETTERS: usize = 16;
+
+// A table by state and by letter of target sets: an array of 32 arrays of 16 masks.
+pub type TargetSets = [[u32; ROW_LETTERS]; SET_STATES];
 
 // What is in a and not in b.
 pub fn without(a: u32, b: u32) -> u32
@@ -14,13 +23,13 @@ pub fn without(a: u32, b: u32) -> u32
 }
 
 // The targets of the members of a set on a letter, by a table of target sets for each state and letter.
-// The members are walked from the lowest one up. There are 16 letters: a larger one has no target.
+// The members are walked from the lowest one up. A letter beyond those of the table has no target.
 // The table is lent: a function that indexes an array given by value first copies all of it.
-pub fn targets(moves: &[[u32; 16]; 32], letter: usize, set: u32) -> u32
+pub fn targets(moves: &TargetSets, letter: usize, set: u32) -> u32
     requires { ⌜ Narrow (now moves) ⌝ }
-    ensures { λ r. ⌜ r ≡ union 32 set (λ q. getD (getD (now (moves .entry)) q []) letter 0) ⌝ }
+    ensures { λ r. ⌜ r ≡ union set-states set (λ q. getD (getD (now (moves .entry)) q []) letter 0) ⌝ }
 {
-    if letter >= 16 {
+    if letter >= ROW_LETTERS {
         return 0;
     }
     let mut left = set;
@@ -36,8 +45,8 @@ pub fn targets(moves: &[[u32; 16]; 32], letter: usize, set: u32) -> u32
 // How many parts a set has: 2 to the count of its states. Where the set is the free targets of a step
 // that nothing blocks, this is the number of successors.
 pub fn choices(set: u32) -> u64
-    ensures number { λ r. ⌜ r ≡ 2 ^ size 32 set ⌝ }
-    ensures listed { λ r. ⌜ r ≡ length (subsets 32 set) ⌝ }
+    ensures number { λ r. ⌜ r ≡ 2 ^ size set-states set ⌝ }
+    ensures listed { λ r. ⌜ r ≡ length (subsets set-states set) ⌝ }
 {
     1 << u32::count_ones(set)
 }
@@ -45,7 +54,7 @@ pub fn choices(set: u32) -> u64
 // The part of a set that a choice names, by rising number; choices go round after the last part.
 // The lowest digit of the choice says whether the lowest member is taken, the next digit says it of the next member.
 pub fn nth_subset(set: u32, choice: u32) -> u32
-    ensures { λ r. ⌜ r ≡ getD (subsets 32 set) (choice % 2 ^ size 32 set) 0 ⌝ }
+    ensures { λ r. ⌜ r ≡ getD (subsets set-states set) (choice % 2 ^ size set-states set) 0 ⌝ }
 {
     let mut members = set;
     let mut digits = choice;

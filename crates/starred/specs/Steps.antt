@@ -3,7 +3,7 @@
 use mathlib.Core.Bool.{true, false}
 use mathlib.Core.List.{List, [], _∷_}
 use Prim.Native.Nat.{ℕ, _^_}
-use Rattle.sets.specs.Sets.{size}
+use Rattle.sets.specs.Sets.{set-states, size}
 use Rattle.automata.specs.Decision.{tabulate}
 use Rattle.tables.specs.Rows.{pattern-A, pattern-B}
 use Rattle.tables.specs.Table.{meaning}
@@ -21,13 +21,13 @@ read-off t =
 
 -- the initial quadruples, choice by choice
 unfoldable pub begun : List ℕ → List Quadruple
-begun t = tabulate (2 ^ size 32 (initial-free (read-off t))) (nth-initial (read-off t))
+begun t = tabulate (2 ^ size set-states (initial-free (read-off t))) (nth-initial (read-off t))
 
 -- the successors of a quadruple on a letter, choice by choice; none where it is blocked
 unfoldable pub stepped : List ℕ → Quadruple → (letter : ℕ) → List Quadruple
 stepped t x c =
     let a = asks (read-off t) x c in
-    elim (blocked-by (read-off t) x c a) [ true ↦ [] | false ↦ tabulate (2 ^ size 32 (a .free)) (nth-successor x a) ]
+    elim (blocked-by (read-off t) x c a) [ true ↦ [] | false ↦ tabulate (2 ^ size set-states (a .free)) (nth-successor x a) ]
 
 -- a pattern's quadruple, a letter, and what follows
 pub record Followed : Type 0 where

@@ -4,7 +4,7 @@ use mathlib.Core.Path.{_≡_, refl, sym, _∙_}
 use mathlib.Core.Bool.{Bool, true, false, _&&_, _||_, not}
 use mathlib.Core.List.{List}
 use mathlib.Core.Logic.{_⊎_, inl, inr}
-use Prim.Native.Nat.{ℕ, zero, suc, _+_, _*_, _-_, _/_, _%_, _^_, _≤_, _<_}
+use Prim.Native.Nat.{ℕ, zero, suc, _-_, _^_, _≤_, _<_}
 use native.Mathlib.Omega.{arith}
 use lib.Dec.{ltb, leb, eqb}
 use lib.ListN.{length, getD, List·getD-eq-default}
@@ -12,13 +12,14 @@ use lib.Pow.{pow-pos}
 use Rattle.basics.specs.Bounded.{each}
 use Rattle.basics.specs.Buffers.{or-else}
 use Rattle.basics.specs.Words.{word-bits}
-use Rattle.basics.proofs.Booleans.{either, clash, and-l, and-r, and-make, or-l, or-r, or-true, true-not, false-not, eqb-eq, eq-eqb, eqb-ne, ne-eqb, ltb-lt, ltb-ge, lt-ltb, ge-ltb, leb-le, le-leb}
+use Rattle.basics.proofs.Booleans.{clash, and-l, and-r, and-make, or-l, or-r, or-true, true-not, false-not, eqb-eq, eq-eqb, eqb-ne, ne-eqb, ltb-lt, ltb-ge, lt-ltb, ge-ltb, leb-le, le-leb}
 use Rattle.basics.proofs.Bounded.{each-all, each-make}
 use Rattle.basics.proofs.Refusing.{passed, or-else-none}
 use Rattle.basics.proofs.Upward.{from-one}
 use Rattle.automata.specs.Automaton.{Closed}
 use Rattle.tables.specs.Access.{State-asks, Record-asks}
-use Rattle.tables.specs.Table.{most-letters, Limits, Range-fits, pattern-range, wide-range, n-of, k-of, m-of, flags-of, head-of, record-at, letter-of, target-of, next-of, is-initial, chain-has, edge, meaning, sizes-refusal, flag-good, flags-good, records-good, named, head-good, heads-good, leads-on, nexts-good, chains-good, table-refusal}
+use Rattle.tables.proofs.Places.{Word-place, states-place, letters-place, records-place, flags-place, head-place, letter-place, target-place, next-place, beyond-place, place-of, letter-at, target-at, next-at}
+use Rattle.tables.specs.Table.{most-letters, Limits, Wider, Range-fits, pattern-range, wide-range, table-words, n-of, k-of, m-of, flags-of, head-of, letter-of, target-of, next-of, is-initial, chain-has, edge, meaning, sizes-refusal, flag-good, flags-good, records-good, named, head-good, heads-good, leads-on, nexts-good, chains-good, table-refusal}
 
 -- VALID TABLES: the plain facts behind refusals 2 to 9
 pub record Valid (r : Limits) (t : List ℕ) : Type 0 where
@@ -27,7 +28,7 @@ pub record Valid (r : Limits) (t : List ℕ) : Type 0 where
   pub letters-from : 1 ≤ k-of t
   pub letters-to : k-of t ≤ most-letters
   pub records-to : m-of t ≤ r .records
-  pub whole : length t ≡ 3 + 2 * n-of t + 3 * m-of t
+  pub whole : length t ≡ table-words (n-of t) (m-of t)
   pub flags : (q : ℕ) → q < n-of t → flags-of t q ≤ 3
   pub letter : (x : ℕ) → 1 ≤ x → x ≤ m-of t → letter-of t x < k-of t
   pub target : (x : ℕ) → 1 ≤ x → x ≤ m-of t → target-of t x < n-of t
@@ -52,36 +53,49 @@ test-rises : (x y : ℕ) → (y ≡ 0) ⊎ (x < y) → (eqb y 0 || ltb x y) ≡ 
 test-rises x y (inl e) = or-l (ltb x y) (eq-eqb e)
 test-rises x y (inr l) = or-r (eqb y 0) (lt-ltb l)
 
--- the eight tests of refusals 2 to 9, each passed
-record Passed (r : Limits) (t : List ℕ) : Type 0 where
+-- the tests of refusals 2 to 6, each passed, and those of 7 to 9
+record Sizes-passed (r : Limits) (t : List ℕ) : Type 0 where
   two : ltb (length t) 3 ≡ false
   three : (leb 1 (n-of t) && leb (n-of t) (r .states)) ≡ true
   four : (leb 1 (k-of t) && leb (k-of t) most-letters) ≡ true
   five : ltb (r .records) (m-of t) ≡ false
-  six : eqb (length t) (3 + 2 * n-of t + 3 * m-of t) ≡ true
+  six : eqb (length t) (table-words (n-of t) (m-of t)) ≡ true
+
+record Passed (r : Limits) (t : List ℕ) : Type 0 where
+  sizes : Sizes-passed r t
   seven : flags-good t ≡ true
   eight : records-good t ≡ true
   nine : chains-good t ≡ true
 
 module _ (r : Limits) (t : List ℕ) where
-  split : table-refusal r t ≡ 0 → Passed r t
-  unfolding table-refusal
-  split h =
-      let (sizes, words) = or-else-none (sizes-refusal r t) _ h in
-      let a = passed _ 1 _ sizes in
+  sizes-passed : sizes-refusal r t ≡ 0 → Sizes-passed r t
+  sizes-passed h =
+      let a = passed _ 1 _ h in
       let b = passed _ 2 _ (a .1) in
       let c = passed _ 3 _ (b .1) in
       let d = passed _ 4 _ (c .1) in
       let e = passed _ 5 _ (d .1) in
-      let f = passed _ 6 _ words in
-      let g = passed _ 7 _ (f .1) in
-      let i = passed _ 8 _ (g .1) in
       record {
         two = a .0;
         three = false-not _ (b .0);
         four = false-not _ (c .0);
         five = d .0;
         six = false-not _ (e .0);
+      }
+
+  -- where none of 2 to 6 is met, the table's words are all there
+  pub sizes-whole : sizes-refusal r t ≡ 0 → length t ≡ table-words (n-of t) (m-of t)
+  sizes-whole h = eqb-eq (length t) (table-words (n-of t) (m-of t)) (sizes-passed h .six)
+
+  split : table-refusal r t ≡ 0 → Passed r t
+  unfolding table-refusal
+  split h =
+      let (sizes, words) = or-else-none (sizes-refusal r t) _ h in
+      let f = passed _ 6 _ words in
+      let g = passed _ 7 _ (f .1) in
+      let i = passed _ 8 _ (g .1) in
+      record {
+        sizes = sizes-passed sizes;
         seven = false-not _ (f .0);
         eight = false-not _ (g .0);
         nine = false-not _ (i .0);
@@ -103,12 +117,12 @@ module _ (r : Limits) (t : List ℕ) where
       each-record (m-of t) (λ x. leads-on (m-of t) x (next-of t x)) nexts in
       let names = each-record (m-of t) (λ x. eqb (named t x) 1) (and-r (nexts-good t) after) in
       record {
-        states-from = leb-le 1 (n-of t) (and-l (leb (n-of t) (r .states)) (p .three));
-        states-to = leb-le (n-of t) (r .states) (and-r (leb 1 (n-of t)) (p .three));
-        letters-from = leb-le 1 (k-of t) (and-l (leb (k-of t) most-letters) (p .four));
-        letters-to = leb-le (k-of t) most-letters (and-r (leb 1 (k-of t)) (p .four));
-        records-to = ltb-ge (r .records) (m-of t) (p .five);
-        whole = eqb-eq (length t) (3 + 2 * n-of t + 3 * m-of t) (p .six);
+        states-from = leb-le 1 (n-of t) (and-l (leb (n-of t) (r .states)) (p .sizes .three));
+        states-to = leb-le (n-of t) (r .states) (and-r (leb 1 (n-of t)) (p .sizes .three));
+        letters-from = leb-le 1 (k-of t) (and-l (leb (k-of t) most-letters) (p .sizes .four));
+        letters-to = leb-le (k-of t) most-letters (and-r (leb 1 (k-of t)) (p .sizes .four));
+        records-to = ltb-ge (r .records) (m-of t) (p .sizes .five);
+        whole = eqb-eq (length t) (table-words (n-of t) (m-of t)) (p .sizes .six);
         flags = λ q l. leb-le (flags-of t q) 3 (each-all (n-of t) (flag-good t) (p .seven) q l);
         letter = λ x o l. ltb-lt (letter-of t x) (k-of t) (and-l (ltb (target-of t x) (n-of t)) (edges x o l));
         target = λ x o l. ltb-lt (target-of t x) (n-of t) (and-r (ltb (letter-of t x) (k-of t)) (edges x o l));
@@ -123,11 +137,14 @@ module _ (r : Limits) (t : List ℕ) where
   valid-passes v =
       join
       (record {
-        two = ge-ltb {m = length t} {n = 3} (omega arith);
-        three = and-make (le-leb (v .states-from)) (le-leb (v .states-to));
-        four = and-make (le-leb (v .letters-from)) (le-leb (v .letters-to));
-        five = ge-ltb (v .records-to);
-        six = eq-eqb (v .whole);
+        sizes =
+            record {
+              two = ge-ltb {m = length t} {n = 3} (omega arith);
+              three = and-make (le-leb (v .states-from)) (le-leb (v .states-to));
+              four = and-make (le-leb (v .letters-from)) (le-leb (v .letters-to));
+              five = ge-ltb (v .records-to);
+              six = eq-eqb (v .whole);
+            };
         seven = each-make (n-of t) (flag-good t) (λ q l. le-leb (v .flags q l));
         eight =
             record-each (m-of t) (λ x. ltb (letter-of t x) (k-of t) && ltb (target-of t x) (n-of t))
@@ -142,8 +159,10 @@ module _ (r : Limits) (t : List ℕ) where
       })
 
 -- a table in one range is one in every wider range
-pub valid-wider : (r s : Limits) (t : List ℕ) → r .states ≤ s .states → r .records ≤ s .records → Valid r t → Valid s t
-valid-wider r s t ls lr v =
+valid-wider : (r s : Limits) (t : List ℕ) → Wider r s → Valid r t → Valid s t
+valid-wider r s t w v =
+    let states = w .states in
+    let records = w .records in
     record {
       states-from = v .states-from;
       states-to = omega arith;
@@ -160,9 +179,8 @@ valid-wider r s t ls lr v =
       once = v .once;
     }
 
-pub passes-wider :
-    (r s : Limits) (t : List ℕ) → r .states ≤ s .states → r .records ≤ s .records → table-refusal r t ≡ 0 → table-refusal s t ≡ 0
-passes-wider r s t ls lr h = valid-passes s t (valid-wider r s t ls lr (valid r t h))
+pub passes-wider : (r s : Limits) (t : List ℕ) → Wider r s → table-refusal r t ≡ 0 → table-refusal s t ≡ 0
+passes-wider r s t w h = valid-passes s t (valid-wider r s t w (valid r t h))
 
 -- a pattern's states are few
 pub pattern-few : (t : List ℕ) → table-refusal pattern-range t ≡ 0 → n-of t ≤ 32
@@ -170,9 +188,12 @@ unfolding pattern-range
 pattern-few t h = valid pattern-range t h .states-to
 
 -- every valid pattern is a valid wide table
-pub pattern-is-wide : (t : List ℕ) → table-refusal pattern-range t ≡ 0 → table-refusal wide-range t ≡ 0
+pub wide-patterns : Wider pattern-range wide-range
 unfolding pattern-range wide-range
-pattern-is-wide t = passes-wider pattern-range wide-range t (omega arith) (omega arith)
+wide-patterns = record { states = omega arith; records = omega arith }
+
+pub pattern-is-wide : (t : List ℕ) → table-refusal pattern-range t ≡ 0 → table-refusal wide-range t ≡ 0
+pattern-is-wide t = passes-wider pattern-range wide-range t wide-patterns
 
 -- the numbers of a wide table fit its words
 pub wide-fits : Range-fits word-bits wide-range
@@ -195,57 +216,42 @@ unfolding chain-has
 chain-ends zero t c q = refl
 chain-ends (suc f) t c q = refl
 
+-- what a chain has is this record's edge, or the chain from its next has it
+pub chain-cases :
+    (f : ℕ) (t : List ℕ) (x c q : ℕ) → chain-has (suc f) t x c q ≡ true →
+    (1 ≤ x) × (((letter-of t x ≡ c) × (target-of t x ≡ q)) ⊎ (chain-has f t (next-of t x) c q ≡ true))
+unfolding chain-has
+chain-cases f t x c q h =
+    let this = (eqb (letter-of t x) c && eqb (target-of t x) q) in
+    let later = chain-has f t (next-of t x) c q in
+    let ne = eqb-ne x 0 (true-not (eqb x 0) (and-l (this || later) h)) in (
+      omega arith,
+      elim (or-true this later (and-r (not (eqb x 0)) h)) [
+        | inl e ↦
+            inl (
+              eqb-eq (letter-of t x) c (and-l (eqb (target-of t x) q) e),
+              eqb-eq (target-of t x) q (and-r (eqb (letter-of t x) c) e),
+            )
+        | inr e ↦ inr e
+      ],
+    )
+
 module _ {r : Limits} {t : List ℕ} (v : Valid r t) where
   -- no word is above a limit that the numbers of the range and of the letters keep to
   words-to : {limit : ℕ} → r .states ≤ limit → r .records ≤ limit → most-letters ≤ limit → (i : ℕ) → getD t i 0 ≤ limit
-  unfolding n-of k-of m-of flags-of head-of record-at letter-of target-of next-of
-  words-to {limit} ls lr lk zero = omega arith
-  words-to {limit} ls lr lk (suc zero) = omega arith
-  words-to {limit} ls lr lk (suc (suc zero)) = omega arith
-  words-to {limit} ls lr lk (suc (suc (suc j))) =
-      elim (either (ltb j (2 * n-of t))) [
-        | inl a ↦ state-fits j (ltb-lt j (2 * n-of t) a) (either (eqb (j % 2) 0))
-        | inr a ↦
-            elim (either (ltb j (2 * n-of t + 3 * m-of t))) [
-              | inl b ↦
-                  let y = (j - 2 * n-of t) / 3 in
-                  let from = ltb-ge j (2 * n-of t) a in
-                  let to = ltb-lt j (2 * n-of t + 3 * m-of t) b in
-                  record-fits (suc y) (omega arith) (omega arith) (suc (suc (suc j))) (omega arith) (omega arith)
-              | inr b ↦
-                  let past = ltb-ge j (2 * n-of t + 3 * m-of t) b in
-                  let far : length t ≤ suc (suc (suc j)) = omega arith in rw (List·getD-eq-default t 0 far) (omega arith)
-            ]
-      ]
+  unfolding n-of k-of m-of flags-of head-of
+  words-to {limit} ls lr lk i = go (place-of (n-of t) (m-of t) i)
     where
-      record-fits :
-          (x : ℕ) → 1 ≤ x → x ≤ m-of t → (i : ℕ) → record-at t x ≤ i → i ≤ record-at t x + 2 → getD t i 0 ≤ limit
-      record-fits x o l i low high =
-          let a = v .letter x o l in
-          let b = v .target x o l in
-          let c = v .next x o l in
-          elim (either (eqb i (record-at t x))) [
-            | inl e ↦ let at = eqb-eq i (record-at t x) e in rw at (omega arith)
-            | inr e ↦
-                let ne = eqb-ne i (record-at t x) e in
-                elim (either (eqb i (record-at t x + 1))) [
-                  | inl f ↦ let at = eqb-eq i (record-at t x + 1) f in rw at (omega arith)
-                  | inr f ↦
-                      let nf = eqb-ne i (record-at t x + 1) f in
-                      let at : i ≡ record-at t x + 2 = omega arith in rw at (omega arith)
-                ]
-          ]
-
-      state-fits :
-          (j : ℕ) → j < 2 * n-of t → (eqb (j % 2) 0 ≡ true) ⊎ (eqb (j % 2) 0 ≡ false) → getD t (suc (suc (suc j))) 0 ≤ limit
-      state-fits j l (inl e) =
-          let even = eqb-eq (j % 2) 0 e in
-          let h = v .flags (j / 2) (omega arith) in
-          let at : suc (suc (suc j)) ≡ 3 + 2 * (j / 2) = omega arith in rw at (omega arith)
-      state-fits j l (inr e) =
-          let odd = eqb-ne (j % 2) 0 e in
-          let h = v .head (j / 2) (omega arith) in
-          let at : suc (suc (suc j)) ≡ 4 + 2 * (j / 2) = omega arith in rw at (omega arith)
+      go : Word-place (n-of t) (m-of t) i → getD t i 0 ≤ limit
+      go (states-place e) = rw e (omega arith)
+      go (letters-place e) = rw e (omega arith)
+      go (records-place e) = rw e (omega arith)
+      go (flags-place q l e) = let h = v .flags q l in rw e (omega arith)
+      go (head-place q l e) = let h = v .head q l in rw e (omega arith)
+      go (letter-place x l e) = let h = v .letter (suc x) (omega arith) l in rw (e, ← letter-at t x) (omega arith)
+      go (target-place x l e) = let h = v .target (suc x) (omega arith) l in rw (e, ← target-at t x) (omega arith)
+      go (next-place x l e) = let h = v .next (suc x) (omega arith) l in rw (e, ← next-at t x) (omega arith)
+      go (beyond-place past) = let far : length t ≤ i = omega arith in rw (List·getD-eq-default t 0 far) (omega arith)
 
   -- every word fits so many bits, where the numbers of the range do
   pub words-fit : {bits : ℕ} → Range-fits bits r → (i : ℕ) → getD t i 0 < 2 ^ bits
@@ -301,20 +307,8 @@ module _ {r : Limits} {t : List ℕ} (v : Valid r t) where
   unfolding chain-has
   chain-record zero x c q l h = absurd (clash h refl)
   chain-record (suc f) x c q l h =
-      let this = (eqb (letter-of t x) c && eqb (target-of t x) q) in
-      let later = chain-has f t (next-of t x) c q in
-      let ne = eqb-ne x 0 (true-not (eqb x 0) (and-l (this || later) h)) in
-      let o : 1 ≤ x = omega arith in
-      elim (or-true this later (and-r (not (eqb x 0)) h)) [
-        | inl e ↦ (
-          x,
-          o,
-          l,
-          eqb-eq (letter-of t x) c (and-l (eqb (target-of t x) q) e),
-          eqb-eq (target-of t x) q (and-r (eqb (letter-of t x) c) e),
-        )
-        | inr e ↦ chain-record f (next-of t x) c q (v .next x o l) e
-      ]
+      let (o, parts) = chain-cases f t x c q h in
+      elim parts [ inl e ↦ (x, o, l, e .0, e .1) | inr e ↦ chain-record f (next-of t x) c q (v .next x o l) e ]
 
   pub edge-letter : (p c q : ℕ) → p < n-of t → edge t p c q ≡ true → c < k-of t
   unfolding edge
@@ -322,13 +316,6 @@ module _ {r : Limits} {t : List ℕ} (v : Valid r t) where
       let w = chain-record (m-of t) (head-of t p) c q (v .head p l) h in
       let e = w .3 in
       let b = v .letter (w .0) (w .1) (w .2) in omega arith
-
-  pub edge-target : (p c q : ℕ) → p < n-of t → edge t p c q ≡ true → q < n-of t
-  unfolding edge
-  edge-target p c q l h =
-      let w = chain-record (m-of t) (head-of t p) c q (v .head p l) h in
-      let e = w .4 in
-      let b = v .target (w .0) (w .1) (w .2) in omega arith
 
   pub meaning-closed : Closed (meaning t)
   unfolding meaning

@@ -2,5 +2,6 @@ pub mod Chains
 pub mod Checks
 pub mod Laws
 pub mod Marking
+pub mod Places
 pub mod Refusals
 pub mod Rows

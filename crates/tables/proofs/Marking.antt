@@ -11,13 +11,15 @@ use lib.Dec.{eqb}
 use lib.ListN.{length, getD, set, replicate}
 use Rattle.basics.specs.Bounded.{each, count}
 use Rattle.basics.specs.Packed.{digit, packed, raised}
+use Rattle.basics.specs.Words.{word-bits}
 use Rattle.basics.proofs.Booleans.{either, and-false-l, and-false-r, eqb-eq, eq-eqb, eqb-ne, ne-eqb}
 use Rattle.basics.proofs.Bounded.{each-same, count-le}
 use Rattle.basics.proofs.Clears.{zeros-at}
 use Rattle.basics.proofs.Counting.{count-hit, count-none, count-one, count-full}
 use Rattle.basics.proofs.Packed.{digit-fits, packed-zero, packed-raised, packed-others, raised-length, shift-one}
 use Rattle.basics.proofs.Scans.{Scan, scan-done, scan-fails}
-use Rattle.tables.specs.Marks.{mark-bits, mark-place, mark-of, marks, Mark-asks, Mark, nothing, first, again, Marked, Names, all, wrong, twice, Heads-named, Nexts-named}
+use Rattle.tables.specs.Access.{Word}
+use Rattle.tables.specs.Marks.{mark-words, mark-bits, mark-place, mark-of, marks, Mark-asks, Mark, nothing, first, again, Marked, Names, all, wrong, twice, Heads-named, Nexts-named}
 use Rattle.tables.specs.Table.{n-of, m-of, head-of, next-of, heads-good, nexts-good, named, chains-good}
 
 -- ONE BIT, as the code reads and writes it, in words of marks that are enough for its record
@@ -126,6 +128,12 @@ mark-again :
 mark-again (nothing z e) n = absurd (omega arith)
 mark-again (first p z e) n = absurd (omega arith)
 mark-again (again p g e) n = (p, g)
+
+-- a link that was read has its bit among the words of marks
+pub markable :
+    {link word room : ℕ} {seen : List ℕ} → Word word-bits link word → mark-words ≤ room → length seen ≡ room →
+    Mark-asks mark-words link seen
+markable read long kept = record { some = omega arith; long = omega arith; inside = omega arith }
 
 -- ALL LINKS, one after the other: none yet
 pub marked-start : (k : ℕ) (link : ℕ → ℕ) (m : ℕ) (seen : List ℕ) → Marked k link 0 m 0 seen seen

@@ -1,14 +1,13 @@
 -- Every trial table meets the refusal that its row says: one computation over all rows, and what it says of each. Assumes nothing.
 use mathlib.Core.Path.{_≡_, refl, sym, _∙_}
-use mathlib.Core.Bool.{Bool, true, false, _&&_, not, cond}
-use mathlib.Core.List.{List, [], _∷_}
-use Prim.Native.Nat.{ℕ, zero, suc, _<_}
-use native.Mathlib.Omega.{arith}
+use mathlib.Core.Bool.{Bool, true, false, not, cond}
+use mathlib.Core.List.{List, map}
+use Prim.Native.Nat.{ℕ, _<_}
 use lib.Dec.{eqb}
 use lib.ListN.{length, getD}
 use Rattle.basics.specs.Bounded.{each, count}
 use Rattle.basics.specs.Buffers.{or-else}
-use Rattle.basics.proofs.Booleans.{and-l, and-r, eqb-eq}
+use Rattle.basics.proofs.Lists.{map-same}
 use Rattle.tables.specs.Rows.{Row, pattern, wide, pattern-A, pattern-B, no-initial, forked, doubled, table-rows}
 use Rattle.tables.specs.Table.{Limits, pattern-range, wide-range, n-of, k-of, m-of, flags-of, head-of, record-at, letter-of, target-of, next-of, sizes-refusal, flags-good, records-good, named, heads-good, nexts-good, chains-good, table-refusal}
 
@@ -28,30 +27,16 @@ in-order-right : (r : Limits) (t : List ℕ) → in-order r t ≡ table-refusal 
 unfolding in-order table-refusal or-else
 in-order-right r t = lazily (eqb (sizes-refusal r t) 0) _ _
 
-holds : Row → Bool
-holds row = eqb (in-order (row .range) (row .words)) (row .answer)
-
-all-hold : List Row → Bool
-all-hold [] = true
-all-hold (row ∷ others) = holds row && all-hold others
-
-all-hold-each : (rows : List Row) (none : Row) → all-hold rows ≡ true → (i : ℕ) → i < length rows → holds (getD rows i none) ≡ true
-unfolding all-hold
-all-hold-each [] none h i l = absurd (omega arith)
-all-hold-each (row ∷ others) none h zero l = and-l (all-hold others) h
-all-hold-each (row ∷ others) none h (suc i) l = all-hold-each others none (and-r (holds row) h) i (omega arith)
-
 -- the one computation
-table-rows-hold : all-hold table-rows ≡ true
-unfolding all-hold holds in-order table-rows pattern wide pattern-A pattern-B no-initial forked doubled pattern-range wide-range n-of k-of m-of flags-of head-of record-at letter-of target-of next-of flags-good records-good named heads-good nexts-good chains-good each count
-table-rows-hold = refl
+all-right : map (λ (r : Row). in-order (r .range) (r .words)) table-rows ≡ map (λ (r : Row). r .answer) table-rows
+unfolding in-order table-rows pattern wide pattern-A pattern-B no-initial forked doubled pattern-range wide-range n-of k-of m-of flags-of head-of record-at letter-of target-of next-of flags-good records-good named heads-good nexts-good chains-good each count
+all-right = refl
 
 -- every row is right
 pub table-row-right :
     (none : Row) (i : ℕ) → i < length table-rows →
     table-refusal (getD table-rows i none .range) (getD table-rows i none .words) ≡ getD table-rows i none .answer
-unfolding holds
 table-row-right none i l =
     let row = getD table-rows i none in
-    sym (in-order-right (row .range) (row .words)) ∙
-    eqb-eq (in-order (row .range) (row .words)) (row .answer) (all-hold-each table-rows none table-rows-hold i l)
+    sym (in-order-right (row .range) (row .words))
+    ∙ map-same (λ (r : Row). in-order (r .range) (r .words)) (λ (r : Row). r .answer) table-rows all-right none i l

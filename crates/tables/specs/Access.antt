@@ -1,10 +1,10 @@
 -- What the reading functions ask and answer. Assumes nothing: these are definitions.
 use mathlib.Core.Path.{_≡_}
 use mathlib.Core.List.{List}
-use Prim.Native.Nat.{ℕ, _+_, _*_, _≤_, _<_}
+use Prim.Native.Nat.{ℕ, _≤_, _<_}
 use lib.ListN.{length}
 use Rattle.basics.specs.Words.{largest-word}
-use Rattle.tables.specs.Table.{Limits, n-of, m-of}
+use Rattle.tables.specs.Table.{Limits, table-words, n-of, m-of}
 
 -- the answer is this word of the table, of so many bits
 pub record Word (bits answer word : ℕ) : Type 0 where
@@ -13,7 +13,7 @@ pub record Word (bits answer word : ℕ) : Type 0 where
 
 -- all the words that n and m call for are there
 abbrev pub Sized : (table : List ℕ) → Type 0
-Sized t = 3 + 2 * n-of t + 3 * m-of t ≤ length t
+Sized t = table-words (n-of t) (m-of t) ≤ length t
 
 -- one of the table's states
 pub record State-asks (table : List ℕ) (state : ℕ) : Type 0 where

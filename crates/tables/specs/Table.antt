@@ -18,6 +18,11 @@ pub record Limits : Type 0 where
   pub states : ℕ
   pub records : ℕ
 
+-- the second range allows all that the first does
+pub record Wider (r s : Limits) : Type 0 where
+  pub states : r .states ≤ s .states
+  pub records : r .records ≤ s .records
+
 -- every number of a table in the range fits a word of so many bits
 pub record Range-fits (bits : ℕ) (r : Limits) : Type 0 where
   pub states-fit : r .states ≤ largest-word bits
@@ -32,7 +37,10 @@ pattern-range = record { states = 32; records = 4096 }
 unfoldable pub wide-range : Limits
 wide-range = record { states = largest-word word-bits; records = largest-word word-bits }
 
--- WORDS: n, k, m; flags and head of each state; letter, target and next of each record
+-- WORDS: n, k, m; flags and head of each state; letter, target and next of each record. So many words in all
+abbrev pub table-words : (states records : ℕ) → ℕ
+table-words n m = 3 + 2 * n + 3 * m
+
 unfoldable pub n-of : List ℕ → ℕ
 n-of t = getD t 0 0
 
@@ -96,7 +104,7 @@ sizes-refusal r t =
     (cond (not (leb 1 (n-of t) && leb (n-of t) (r .states))) 3
     (cond (not (leb 1 (k-of t) && leb (k-of t) most-letters)) 4
     (cond (ltb (r .records) (m-of t)) 5
-    (cond (not (eqb (length t) (3 + 2 * n-of t + 3 * m-of t))) 6 0))))
+    (cond (not (eqb (length t) (table-words (n-of t) (m-of t)))) 6 0))))
 
 -- 7: flags 0 to 3
 abbrev pub flag-good : List ℕ → (state : ℕ) → Bool

@@ -1,11 +1,11 @@
 // The chained table of docs/RULES.md, "The chained table": a lent slice of 16-bit words.
 ghost use mathlib.Core.Path.{_≡_};
-ghost use Prim.Native.Nat.{_≤_};
+ghost use Prim.Native.Nat.{_^_, _≤_, _<_};
 ghost use lib.ListN.{getD, length};
 ghost use Rattle.basics.specs.Words.{word-bits};
 ghost use Rattle.tables.specs.Access.{Word, Sized, State-asks, Record-asks, limits};
 ghost use Rattle.tables.specs.Marks.{mark-words, Mark-asks, Mark, Heads-named, Nexts-named};
-ghost use Rattle.tables.specs.Table.{n-of, k-of, m-of, flags-of, head-of, letter-of, target-of, next-of, sizes-refusal, flags-good, records-good, leads-on, chains-good, table-refusal};
+ghost use Rattle.tables.specs.Table.{table-words, n-of, k-of, m-of, flags-of, head-of, letter-of, target-of, next-of, sizes-refusal, flags-good, records-good, leads-on, chains-good, table-refusal};
 
 // THE LIMITS of tables (docs/RULES.md, "The chained table").
 
@@ -27,6 +27,14 @@ pub const WIDE_RECORDS: usize = WORD_MOST;
 
 // The words that hold a bit for each record.
 const MARK_WORDS: usize = (WORD_MOST + 1) / 32;
+
+// How many words a table of so many states and records has.
+pub fn table_words(states: usize, records: usize) -> usize
+    requires { ⌜ (states < 2 ^ 32) × (records < 2 ^ 32) ⌝ }
+    ensures { λ r. ⌜ r ≡ table-words states records ⌝ }
+{
+    3 + 2 * states + 3 * records
+}
 
 // READING WORDS. Every reading answers a number wide enough to index with.
 
@@ -263,7 +271,7 @@ fn sizes_refusal(table: &[u16], states: usize, records: usize) -> u32
     if m > records {
         return 5;
     }
-    if table.len() != 3 + 2 * n + 3 * m {
+    if table.len() != table_words(n, m) {
         return 6;
     }
     0

@@ -1,7 +1,7 @@
 -- What the answer of a lasso decision says: it is taken exactly where the table has an accepting run over the lasso, and refused exactly
 -- by the first refusal that is met, which for a valid table and a lasso over its letters is 14 or 16. Assumes nothing.
 use mathlib.Core.Path.{_≡_, refl, sym, _∙_}
-use mathlib.Core.Bool.{Bool, true, false, _&&_, _||_, not}
+use mathlib.Core.Bool.{Bool, false, _&&_, _||_, not}
 use mathlib.Core.List.{List}
 use mathlib.Core.Logic.{_⊎_, inl, inr}
 use Prim.Native.Nat.{ℕ, zero, suc, _+_, _*_, _≤_}
@@ -9,43 +9,27 @@ use native.Mathlib.Omega.{arith}
 use lib.Dec.{ltb, eqb}
 use lib.ListN.{length}
 use Rattle.basics.specs.Buffers.{or-else}
-use Rattle.basics.proofs.Booleans.{either, ne-eqb, and-l, and-r, and-make, false-not, not-true, not-both}
-use Rattle.basics.proofs.Refusing.{passed, or-else-none}
+use Rattle.basics.proofs.Booleans.{either, ne-eqb, and-make, not-true, not-both}
 use Rattle.automata.specs.Automaton.{Closed, Takes}
 use Rattle.automata.specs.Decision.{takes?}
 use Rattle.automata.specs.Lasso.{letter-at, all-below, Lasso}
 use Rattle.automata.proofs.Decision.{takes-right}
-use Rattle.tables.specs.Table.{n-of, k-of, meaning, wide-range, table-refusal}
+use Rattle.tables.specs.Table.{Limits, n-of, k-of, meaning, table-refusal}
 use Rattle.tables.proofs.Laws.{valid, meaning-closed}
 use Rattle.lassos.specs.Decision.{as-decision, decision, Lasso-says}
-use Rattle.lassos.specs.Refusals.{parts-refusal, lasso-refusal}
+use Rattle.lassos.specs.Refusals.{longest-part, parts-refusal, lasso-refusal}
 use Rattle.lassos.specs.declared.Decision.{Decision}
 use Rattle.lassos.specs.declared.Decision.the-variants.{Taken, NotTaken, Refused}
 use Rattle.lassos.proofs.Answers as answers
+use Rattle.lassos.proofs.Decides.{as-refused}
 use Rattle.lassos.proofs.Parts.{accepted}
-use Rattle.tubochre.specs.Demand.{Decided-exactly, Lasso-demand, Not-refused}
+use Rattle.tubochre.specs.Demand.{Lasso-demand, Not-refused}
 
 -- an answer that refuses nothing has number zero
 number-zero : (number : ℕ) (taken : Bool) → Not-refused (as-decision number taken) → number ≡ 0
 unfolding Not-refused as-decision
 number-zero zero taken h = refl
 number-zero (suc r) taken h = absurd (h (suc r) refl)
-
--- any other number is what it refuses by
-refused-by : (number : ℕ) (taken : Bool) → 1 ≤ number → as-decision number taken ≡ Refused number
-unfolding as-decision
-refused-by zero taken l = absurd (omega arith)
-refused-by (suc r) taken l = refl
-
--- what meets none of 13 to 16 is a lasso over the letters
-parts-lasso : (n k : ℕ) (u v : List ℕ) (w : ℕ) → parts-refusal n k u v w ≡ 0 → 1 ≤ length v → Lasso k u v
-unfolding parts-refusal
-parts-lasso n k u v w h endless =
-    let a = passed (eqb (length v) 0) 12 _ h in
-    let b = passed (ltb 4096 (length u) || ltb 4096 (length v)) 13 _ (a .1) in
-    let c = passed (not (all-below k u && all-below k v)) 14 _ (b .1) in
-    let both = false-not (all-below k u && all-below k v) (c .0) in
-    record { prefix = and-l (all-below k v) both; loop = and-r (all-below k u) both; endless = endless }
 
 -- a lasso over the letters meets neither 13 nor 15
 lasso-number :
@@ -55,7 +39,7 @@ unfolding parts-refusal
 lasso-number n k u v w lasso met =
     let some : eqb (length v) 0 ≡ false = ne-eqb (length v) 0 (λ z. let o = lasso .endless in omega arith) in
     let below : not (all-below k u && all-below k v) ≡ false = not-true (and-make (lasso .prefix) (lasso .loop)) in
-    elim (either (ltb 4096 (length u) || ltb 4096 (length v))) [
+    elim (either (ltb longest-part (length u) || ltb longest-part (length v))) [
       | inl long ↦ inl (rw (some, long))
       | inr short ↦
           elim (either (ltb w (4 * n * (length u + length v)))) [
@@ -64,39 +48,36 @@ lasso-number n k u v w lasso met =
           ]
     ]
 
--- WHAT IS NOT REFUSED: a valid wide table, and a lasso over its letters
-module _ (t u v : List ℕ) (work : ℕ) (none : lasso-refusal wide-range t u v work ≡ 0) where
-  accepted-table : table-refusal wide-range t ≡ 0
-  accepted-table = accepted wide-range t u v work none .valid
+-- WHAT IS NOT REFUSED: a valid table of the range, and a lasso over its letters
+module _ (range : Limits) (t u v : List ℕ) (work : ℕ) (none : lasso-refusal range t u v work ≡ 0) where
+  accepted-table : table-refusal range t ≡ 0
+  accepted-table = accepted range t u v work none .valid
 
   accepted-lasso : Lasso (k-of t) u v
-  unfolding lasso-refusal
-  accepted-lasso =
-      let parts = or-else-none (table-refusal wide-range t) (parts-refusal (n-of t) (k-of t) u v work) none .1 in
-      parts-lasso (n-of t) (k-of t) u v work parts (accepted wide-range t u v work none .endless)
+  accepted-lasso = accepted range t u v work none .lasso
 
   accepted-closed : Closed (meaning t)
-  accepted-closed = meaning-closed (valid wide-range t accepted-table)
+  accepted-closed = meaning-closed (valid range t accepted-table)
 
-module _ {t u v : List ℕ} {d : Decision} {w w-now : List ℕ} (says : Lasso-says wide-range t u v d w w-now) where
-  not-refused : Not-refused d → lasso-refusal wide-range t u v (length w) ≡ 0
+module _ {range : Limits} {t u v : List ℕ} {d : Decision} {w w-now : List ℕ} (says : Lasso-says range t u v d w w-now) where
+  not-refused : Not-refused d → lasso-refusal range t u v (length w) ≡ 0
   unfolding decision
-  not-refused h = number-zero (lasso-refusal wide-range t u v (length w)) (takes? (meaning t) u v) (rw (says .answer) at h)
+  not-refused h = number-zero (lasso-refusal range t u v (length w)) (takes? (meaning t) u v) (rw (says .answer) at h)
 
   -- where nothing is refused: taken where the table has an accepting run, and not taken where it has none
-  module _ (none : lasso-refusal wide-range t u v (length w) ≡ 0) where
+  module _ (none : lasso-refusal range t u v (length w) ≡ 0) where
     accepted-taken : Takes (meaning t) (letter-at u v) → d ≡ Taken
     unfolding decision as-decision
     accepted-taken takes =
-        let endless = accepted-lasso t u v (length w) none .endless in
-        let yes = takes-right (meaning t) u v (accepted-closed t u v (length w) none) endless .1 takes in
+        let endless = accepted-lasso range t u v (length w) none .endless in
+        let yes = takes-right (meaning t) u v (accepted-closed range t u v (length w) none) endless .1 takes in
         rw (none, yes) at (says .answer)
 
     accepted-not : (Takes (meaning t) (letter-at u v) → ⊥) → d ≡ NotTaken
     unfolding decision as-decision
     accepted-not no-run =
-        let endless = accepted-lasso t u v (length w) none .endless in
-        let right = takes-right (meaning t) u v (accepted-closed t u v (length w) none) endless in
+        let endless = accepted-lasso range t u v (length w) none .endless in
+        let right = takes-right (meaning t) u v (accepted-closed range t u v (length w) none) endless in
         let no = not-both (takes? (meaning t) u v) (λ e. no-run (right .0 e)) in
         rw (none, no) at (says .answer)
 
@@ -107,31 +88,31 @@ module _ {t u v : List ℕ} {d : Decision} {w w-now : List ℕ} (says : Lasso-sa
   says-not h = accepted-not (not-refused h)
 
   -- a refusal is the number that is met
-  refused-number : (number : ℕ) → d ≡ Refused number → (lasso-refusal wide-range t u v (length w) ≡ number) × (1 ≤ number)
+  refused-number : (number : ℕ) → d ≡ Refused number → (lasso-refusal range t u v (length w) ≡ number) × (1 ≤ number)
   refused-number number h = answers.says-refused (rw h at says)
 
-  number-refused : (number : ℕ) → lasso-refusal wide-range t u v (length w) ≡ number → 1 ≤ number → d ≡ Refused number
+  number-refused : (number : ℕ) → lasso-refusal range t u v (length w) ≡ number → 1 ≤ number → d ≡ Refused number
   unfolding decision
   number-refused number same some =
-      says .answer ∙ (let r = refused-by number (takes? (meaning t) u v) some in cc)
+      says .answer ∙ (let r = as-refused number (takes? (meaning t) u v) (λ z. omega arith) in cc)
 
   -- of a valid table and a lasso over its letters, it is 14 or 16
   pub says-refused :
-      table-refusal wide-range t ≡ 0 → Lasso (k-of t) u v → (number : ℕ) → d ≡ Refused number →
+      table-refusal range t ≡ 0 → Lasso (k-of t) u v → (number : ℕ) → d ≡ Refused number →
       (number ≡ 14) ⊎ (number ≡ 16)
   unfolding lasso-refusal or-else
   says-refused table lasso number h =
       let (same, some) = refused-number number h in
-      let e : lasso-refusal wide-range t u v (length w) ≡ parts-refusal (n-of t) (k-of t) u v (length w) = rw table in
+      let e : lasso-refusal range t u v (length w) ≡ parts-refusal (n-of t) (k-of t) u v (length w) = rw table in
       rw (sym same ∙ e) (lasso-number (n-of t) (k-of t) u v (length w) lasso (λ z. let none = e ∙ z in omega arith))
 
 -- THE SECOND DEMAND, of lassos
-pub lasso-demand : Lasso-demand
+pub lasso-demand : (range : Limits) → Lasso-demand range
 unfolding Lasso-demand
-lasso-demand t u v d w w-now says =
+lasso-demand range t u v d w w-now says =
     record {
       refused = λ number. (refused-number says number, λ h. number-refused says number (h .0) (h .1));
-      over = λ none. (accepted-table t u v (length w) none, accepted-lasso t u v (length w) none);
+      over = λ none. (accepted-table range t u v (length w) none, accepted-lasso range t u v (length w) none);
       taken = ((λ h. answers.says-taken (rw h at says)), (λ h. accepted-taken says (h .0) (h .1)));
       not-taken = ((λ h. answers.says-not-taken (rw h at says)), (λ h. accepted-not says (h .0) (h .1)));
     }

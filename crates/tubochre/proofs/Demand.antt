@@ -1,33 +1,34 @@
--- The second and the third demand are met, and refused builds are as they are stated, whatever the calls answer. Assumes nothing.
+-- The second and the third demand are met, and refused builds are as they are stated, whatever the calls answer: for tables of every range
+-- whose numbers fit their words and that allows what a pattern may have. Assumes nothing.
 use mathlib.Core.Path.{_≡_}
 use mathlib.Core.List.{List}
 use mathlib.Core.Logic.{_⊎_, inl, inr}
 use Prim.Native.Nat.{ℕ}
-use native.Mathlib.Omega.{arith}
 use lib.ListN.{length}
+use Rattle.basics.specs.Words.{word-bits}
 use Rattle.basics.proofs.Booleans.{eqb-eq, eq-eqb}
 use Rattle.automata.specs.Automaton.{Run, Takes, Single-run}
 use Rattle.automata.specs.Lasso.{letter-at, Lasso}
 use Rattle.automata.specs.System.{numbered}
-use Rattle.tables.specs.Table.{k-of, meaning, wide-range}
-use Rattle.tables.proofs.Laws.{valid, words-fit, wide-fits}
+use Rattle.tables.specs.Table.{Limits, Wider, Range-fits, pattern-range, wide-range, k-of, meaning}
+use Rattle.tables.proofs.Laws.{valid, words-fit, wide-fits, wide-patterns}
 use Rattle.ncsb.specs.Successors.{ncsb, accepting}
 use Rattle.ncsb.proofs.Initials.{initials-right}
 use Rattle.ncsb.proofs.Reached.{reached-fine}
 use Rattle.ncsb.proofs.Successors.{successors-right}
 use Rattle.patterns.specs.Check.{check-refusal}
 use Rattle.patterns.specs.Pattern.{moves}
-use Rattle.patterns.proofs.Passed.{checked-split, checked-wide}
+use Rattle.patterns.proofs.Passed.{checked-split, checked-wider}
 use Rattle.complement.specs.Build.{room-of}
 use Rattle.complement.specs.Complement.{system-of, complement, complement-automaton, complement-words}
-use Rattle.complement.proofs.Second.{Fits, pattern-exactly, few-states, words-mean, words-valid, build-passed, build-fits, build-states, build-edges, build-used, build-sets}
+use Rattle.complement.proofs.Second.{Fits, pattern-exactly, few-states, words-mean, words-valid, build-number, build-passed, build-fits, build-states, build-edges, build-used, build-sets}
 use Rattle.complement.proofs.Third.{Parted, parted-words}
 use Rattle.lassos.specs.Decision.{Lasso-says}
 use Rattle.lassos.specs.declared.Decision.{Decision}
 use Rattle.lassos.specs.declared.Decision.the-variants.{Taken, NotTaken, Refused}
-use Rattle.tubochre.specs.Demand.{Reached-exactly, Second-demand, Refused-builds, Not-refused, Compared, Third-demand}
-use Rattle.tubochre.proofs.Answers.{says-taken, says-not, says-refused}
-use Rattle.tubochre.proofs.Refusals.{Met, build-number, which-refusal, refused-checked, checked-refused, refused-states, states-refused, refused-words, words-refused, refused-none, none-refused, refused-most}
+use Rattle.tubochre.specs.Demand.{Reached-exactly, Second-demand, Refused-builds, Not-refused, Compared, Third-demand, Demands}
+use Rattle.tubochre.proofs.Answers.{says-taken, says-not, says-refused, lasso-demand}
+use Rattle.tubochre.proofs.Refusals.{Met, which-refusal, refused-checked, checked-refused, refused-states, states-refused, refused-words, words-refused, refused-none, none-refused, refused-most}
 
 -- THE COMPLEMENT of a pattern that passes is exactly what is reached
 reached-exactly : (t : List ℕ) → check-refusal t ≡ 0 → Reached-exactly t
@@ -42,12 +43,12 @@ reached-exactly t passed =
     }
 
 -- THE SECOND DEMAND: an accepted build leaves exactly the reachable NCSB complement, every state, edge and mark and no other
-pub second-demand : Second-demand
+pub second-demand : {bits : ℕ} {range : Limits} → Range-fits bits range → Second-demand bits range
 unfolding Second-demand
-second-demand t r before after says accepted =
+second-demand {bits} {range} fits t r before after says accepted =
     let passed = build-passed says accepted in
     let used = build-used says accepted in
-    let table = words-valid t passed (build-fits says accepted) in
+    let table = words-valid t passed range (build-fits says accepted) in
     record {
       reached = reached-exactly t passed;
       states = build-states says accepted;
@@ -55,15 +56,15 @@ second-demand t r before after says accepted =
       table = used;
       valid = rw used table;
       means = rw used (words-mean t passed);
-      fit = rw used (λ i l. words-fit (valid wide-range (complement-words t) table) wide-fits i);
+      fit = rw used (λ i l. words-fit (valid range (complement-words t) table) fits i);
       records = build-sets says accepted;
     }
 
 -- REFUSED BUILDS: 2 to 10 as the check, 11 and 12 by the whole complement and the room, each in its case and in no other
-pub refused-builds : Refused-builds
+pub refused-builds : (range : Limits) → Refused-builds range
 unfolding Refused-builds
-refused-builds t r before after says =
-    let met : Met t (room-of before) (r .number) = rw (build-number says) (which-refusal t (room-of before)) in
+refused-builds range t r before after says =
+    let met : Met range t (room-of before) (r .number) = rw (build-number says) (which-refusal range t (room-of before)) in
     record {
       check = λ k from to. (refused-checked met k from to, checked-refused met k from);
       states = (refused-states met, states-refused met);
@@ -74,7 +75,9 @@ refused-builds t r before after says =
     }
 
 -- the pattern and the words of its complement
-module _ (t : List ℕ) (passed : check-refusal t ≡ 0) (fits : Fits t) (u v : List ℕ) (lasso : Lasso (k-of t) u v) where
+module _
+    {range : Limits} (wider : Wider pattern-range range) (t : List ℕ) (passed : check-refusal t ≡ 0) (fits : Fits range t)
+    (u v : List ℕ) (lasso : Lasso (k-of t) u v) where
   abbrev word : ℕ → ℕ
   word = letter-at u v
 
@@ -87,8 +90,8 @@ module _ (t : List ℕ) (passed : check-refusal t ≡ 0) (fits : Fits t) (u v : 
   over-complement = rw (words-mean t passed .letters) lasso
 
   decisions :
-      Parted (meaning t) (meaning c) word → (d e : Decision) (w w-now z z-now : List ℕ) → Lasso-says wide-range t u v d w w-now →
-      Lasso-says wide-range c u v e z z-now → Not-refused d → Not-refused e →
+      Parted (meaning t) (meaning c) word → (d e : Decision) (w w-now z z-now : List ℕ) → Lasso-says range t u v d w w-now →
+      Lasso-says range c u v e z z-now → Not-refused d → Not-refused e →
       (Takes (meaning t) word × (d ≡ Taken) × (e ≡ NotTaken)) ⊎ (Takes (meaning c) word × (d ≡ NotTaken) × (e ≡ Taken))
   decisions (inl (taken, none)) d e w w-now z z-now says other h k =
       inl
@@ -99,10 +102,10 @@ module _ (t : List ℕ) (passed : check-refusal t ≡ 0) (fits : Fits t) (u v : 
       (taken, says-not says h none, says-taken other k taken)
 
   refusals :
-      (d : Decision) (w w-now : List ℕ) (number : ℕ) → Lasso-says wide-range t u v d w w-now ⊎ Lasso-says wide-range c u v d w w-now →
+      (d : Decision) (w w-now : List ℕ) (number : ℕ) → Lasso-says range t u v d w w-now ⊎ Lasso-says range c u v d w w-now →
       d ≡ Refused number → (number ≡ 14) ⊎ (number ≡ 16)
-  refusals d w w-now number (inl says) h = says-refused says (checked-wide t passed) lasso number h
-  refusals d w w-now number (inr says) h = says-refused says (words-valid t passed fits) over-complement number h
+  refusals d w w-now number (inl says) h = says-refused says (checked-wider t passed wider) lasso number h
+  refusals d w w-now number (inr says) h = says-refused says (words-valid t passed range fits) over-complement number h
 
   no-run : Parted (meaning t) (meaning c) word →
       (Takes (meaning t) word × ((run : ℕ → ℕ) → Run (meaning c) word run → ⊥))
@@ -110,25 +113,39 @@ module _ (t : List ℕ) (passed : check-refusal t ≡ 0) (fits : Fits t) (u v : 
   no-run (inl (taken, none)) = inl (taken, λ run r. none (record { run = run; accepting-run = r }))
   no-run (inr other) = inr other
 
-  compared : Compared t c u v (length (complement t .states))
+  compared : Compared range t c u v (length (complement t .states))
   compared =
       let both = parted-words t passed u v lasso in
       record {
         parted = no-run both;
-        tables = (checked-wide t passed, words-valid t passed fits);
+        tables = (checked-wider t passed wider, words-valid t passed range fits);
         refusals = refusals;
         decisions = decisions both;
         few = few-states t passed;
       }
 
   -- and so for words and a state count that are the complement's
-  compared-as : {words : List ℕ} {states : ℕ} → words ≡ c → states ≡ length (complement t .states) → Compared t words u v states
+  compared-as : {words : List ℕ} {states : ℕ} → words ≡ c → states ≡ length (complement t .states) → Compared range t words u v states
   compared-as same count = rw (same, count) compared
 
 -- THE THIRD DEMAND: every lasso over the pattern's letters is taken by exactly one of pattern and complement, by the complement in a
 -- single accepting run; the decision says which; and the states are at most 2^p·3^a·4^r
-pub third-demand : Third-demand
+pub third-demand : (range : Limits) → Wider pattern-range range → Third-demand range
 unfolding Third-demand
-third-demand t checked r before after u v answer passes says accepted lasso =
-    compared-as t (build-passed says accepted) (build-fits says accepted) u v lasso (build-used says accepted)
+third-demand range wider t checked r before after u v answer passes says accepted lasso =
+    compared-as wider t (build-passed says accepted) (build-fits says accepted) u v lasso (build-used says accepted)
     (build-states says accepted)
+
+-- ALL OF THEM, as one fact over the width
+pub demands : {bits : ℕ} {range : Limits} → Range-fits bits range → Wider pattern-range range → Demands bits range
+demands {range} fits wider =
+    record {
+      second = second-demand fits;
+      refused = refused-builds range;
+      lassos = lasso-demand range;
+      third = third-demand range wider;
+    }
+
+-- and for wide tables of 16-bit words
+pub wide-demands : Demands word-bits wide-range
+wide-demands = demands wide-fits wide-patterns

@@ -1,20 +1,19 @@
 -- Which refusal a build answers, case by case: the check's, 11, 12 or none, and each case from its number. Assumes nothing.
-use mathlib.Core.Path.{_≡_, refl, _∙_, ap}
+use mathlib.Core.Path.{_≡_, refl, _∙_}
 use mathlib.Core.Bool.{Bool, true, false, _&&_, _||_, not, cond}
 use mathlib.Core.List.{List}
 use mathlib.Core.Logic.{_⊎_, inl, inr}
-use Prim.Native.Nat.{ℕ, zero, suc, _+_, _*_, _≤_, _<_}
+use Prim.Native.Nat.{ℕ, zero, suc, _≤_, _<_}
 use native.Mathlib.Omega.{arith}
 use lib.Dec.{ltb, leb, eqb}
 use lib.ListN.{length}
 use Rattle.basics.specs.Buffers.{or-else}
-use Rattle.basics.proofs.Booleans.{either, or-true, or-false-l, or-false-r, ltb-lt, ltb-ge, eqb-eq, eqb-ne, ne-eqb}
-use Rattle.tables.specs.Table.{Limits, pattern-range, wide-range, most-letters, n-of, k-of, m-of, sizes-refusal, flags-good, records-good, chains-good, table-refusal, meaning}
+use Rattle.basics.proofs.Booleans.{either, or-true, ltb-lt, both-within, eqb-eq, eqb-ne, ne-eqb}
+use Rattle.tables.specs.Table.{Limits, pattern-range, most-letters, table-words, n-of, k-of, m-of, sizes-refusal, flags-good, records-good, chains-good, table-refusal, meaning}
 use Rattle.patterns.specs.Check.{check-refusal}
 use Rattle.patterns.specs.Pattern.{semi-deterministic}
-use Rattle.complement.specs.Build.{Lent, Room, room-of, words-needed, room-refusal, build-refusal, as-counts, Build-says}
+use Rattle.complement.specs.Build.{Room, room-refusal, build-refusal}
 use Rattle.complement.specs.Complement.{complement}
-use Rattle.complement.specs.declared.Counts.{Counts}
 use Rattle.tubochre.specs.Demand.{Too-many-states, Too-many-words}
 
 -- THE CHECK answers at most 10
@@ -28,7 +27,7 @@ sizes-most l t =
     (most (not (leb 1 (n-of t) && leb (n-of t) (l .states))) 9 (omega arith)
     (most (not (leb 1 (k-of t) && leb (k-of t) most-letters)) 9 (omega arith)
     (most (ltb (l .records) (m-of t)) 9 (omega arith)
-    (most (not (eqb (length t) (3 + 2 * n-of t + 3 * m-of t))) 9 (omega arith) (omega arith)))))
+    (most (not (eqb (length t) (table-words (n-of t) (m-of t)))) 9 (omega arith) (omega arith)))))
 
 table-most : (l : Limits) (t : List ℕ) → table-refusal l t ≤ 9
 unfolding table-refusal or-else
@@ -44,36 +43,23 @@ check-most t =
     let few = table-most pattern-range t in
     most (eqb (table-refusal pattern-range t) 0) 10 (most (semi-deterministic (meaning t)) 10 (omega arith) (omega arith)) (omega arith)
 
--- THE NUMBER that a build answers
-counts-number : (number n m : ℕ) → as-counts number n m .number ≡ number
-unfolding as-counts
-counts-number zero n m = refl
-counts-number (suc r) n m = refl
-
-pub build-number :
-    {t : List ℕ} {r : Counts} {before after : Lent} → Build-says t r before after →
-    r .number ≡ build-refusal t (room-of before)
-build-number {t} {r} {before} says =
-    ap (λ (c : Counts). c .number) (says .answer)
-    ∙ counts-number (build-refusal t (room-of before)) (length (complement t .states)) (length (complement t .edges))
-
 -- one number is above another, or a third above a fourth
 one-above : (a b c d : ℕ) → (ltb a b || ltb c d) ≡ true → (a < b) ⊎ (c < d)
 one-above a b c d h =
     elim (or-true (ltb a b) (ltb c d) h) [ inl e ↦ inl (ltb-lt a b e) | inr e ↦ inr (ltb-lt c d e) ]
 
 none-above : (a b c d : ℕ) → (ltb a b || ltb c d) ≡ false → (a < b) ⊎ (c < d) → ⊥
-none-above a b c d h (inl l) = let g = ltb-ge a b (or-false-l (ltb a b) (ltb c d) h) in omega arith
-none-above a b c d h (inr l) = let g = ltb-ge c d (or-false-r (ltb a b) (ltb c d) h) in omega arith
+none-above a b c d h (inl l) = let g = both-within a b c d h .0 in omega arith
+none-above a b c d h (inr l) = let g = both-within a b c d h .1 in omega arith
 
 -- WHICH REFUSAL IS MET
-pub data Met (t : List ℕ) (room : Room) (number : ℕ) : Type 0 where
-  by-check : check-refusal t ≡ number → 1 ≤ number → number ≤ 10 → Met t room number
-  by-states : check-refusal t ≡ 0 → Too-many-states t room → number ≡ 11 → Met t room number
-  by-words : check-refusal t ≡ 0 → (Too-many-states t room → ⊥) → Too-many-words t room → number ≡ 12 → Met t room number
-  by-none : check-refusal t ≡ 0 → (Too-many-states t room → ⊥) → (Too-many-words t room → ⊥) → number ≡ 0 → Met t room number
+pub data Met (range : Limits) (t : List ℕ) (room : Room) (number : ℕ) : Type 0 where
+  by-check : check-refusal t ≡ number → 1 ≤ number → number ≤ 10 → Met range t room number
+  by-states : check-refusal t ≡ 0 → Too-many-states range t room → number ≡ 11 → Met range t room number
+  by-words : check-refusal t ≡ 0 → (Too-many-states range t room → ⊥) → Too-many-words range t room → number ≡ 12 → Met range t room number
+  by-none : check-refusal t ≡ 0 → (Too-many-states range t room → ⊥) → (Too-many-words range t room → ⊥) → number ≡ 0 → Met range t room number
 
-module _ (t : List ℕ) (room : Room) where
+module _ (range : Limits) (t : List ℕ) (room : Room) where
   abbrev n : ℕ
   n = length (complement t .states)
 
@@ -81,18 +67,18 @@ module _ (t : List ℕ) (room : Room) where
   m = length (complement t .edges)
 
   -- what fits is not too much
-  states-few : (ltb (room .records) n || ltb (wide-range .states) n) ≡ false → Too-many-states t room → ⊥
+  states-few : (ltb (room .records) n || ltb (range .states) n) ≡ false → Too-many-states range t room → ⊥
   unfolding Too-many-states
-  states-few = none-above (room .records) n (wide-range .states) n
+  states-few = none-above (room .records) n (range .states) n
 
-  words-few : (ltb (wide-range .records) m || ltb (room .words) (words-needed n m)) ≡ false → Too-many-words t room → ⊥
+  words-few : (ltb (range .records) m || ltb (room .words) (table-words n m)) ≡ false → Too-many-words range t room → ⊥
   unfolding Too-many-words
-  words-few = none-above (wide-range .records) m (room .words) (words-needed n m)
+  words-few = none-above (range .records) m (room .words) (table-words n m)
 
-  check-met : (check-refusal t ≡ 0 → ⊥) → Met t room (build-refusal t room)
+  check-met : (check-refusal t ≡ 0 → ⊥) → Met range t room (build-refusal range t room)
   unfolding build-refusal or-else
   check-met ne =
-      let same : build-refusal t room ≡ check-refusal t = rw (ne-eqb (check-refusal t) 0 ne) refl in
+      let same : build-refusal range t room ≡ check-refusal t = rw (ne-eqb (check-refusal t) 0 ne) refl in
       let few = check-most t in
       let some : 1 ≤ check-refusal t = positive (check-refusal t) ne in rw same (by-check refl some few)
     where
@@ -100,85 +86,85 @@ module _ (t : List ℕ) (room : Room) where
       positive zero ne = absurd (ne refl)
       positive (suc k) ne = omega arith
 
-  room-met : check-refusal t ≡ 0 → Met t room (room-refusal wide-range room n m)
+  room-met : check-refusal t ≡ 0 → Met range t room (room-refusal range room n m)
   unfolding room-refusal Too-many-states Too-many-words
   room-met passed =
-      elim (either (ltb (room .records) n || ltb (wide-range .states) n)) [
-        | inl many ↦ by-states passed (one-above (room .records) n (wide-range .states) n many) (rw many refl)
+      elim (either (ltb (room .records) n || ltb (range .states) n)) [
+        | inl many ↦ by-states passed (one-above (room .records) n (range .states) n many) (rw many refl)
         | inr few ↦
-            elim (either (ltb (wide-range .records) m || ltb (room .words) (words-needed n m))) [
+            elim (either (ltb (range .records) m || ltb (room .words) (table-words n m))) [
               | inl many ↦
-                  by-words passed (states-few few) (one-above (wide-range .records) m (room .words) (words-needed n m) many) (rw (few, many) refl)
+                  by-words passed (states-few few) (one-above (range .records) m (room .words) (table-words n m) many) (rw (few, many) refl)
               | inr fewer ↦
                   by-none passed (states-few few) (words-few fewer) (rw (few, fewer) refl)
             ]
       ]
 
-  pub which-refusal : Met t room (build-refusal t room)
+  pub which-refusal : Met range t room (build-refusal range t room)
   unfolding build-refusal or-else
   which-refusal =
       elim (either (eqb (check-refusal t) 0)) [
         | inl e ↦
             let passed = eqb-eq (check-refusal t) 0 e in
-            let same : build-refusal t room ≡ room-refusal wide-range room n m = rw passed refl in rw same (room-met passed)
+            let same : build-refusal range t room ≡ room-refusal range room n m = rw passed refl in rw same (room-met passed)
         | inr e ↦ check-met (eqb-ne (check-refusal t) 0 e)
       ]
 
 -- EACH NUMBER IN ITS CASE, and in no other
-module _ {t : List ℕ} {room : Room} {number : ℕ} where
-  pub refused-most : Met t room number → number ≤ 12
+module _ {range : Limits} {t : List ℕ} {room : Room} {number : ℕ} where
+  pub refused-most : Met range t room number → number ≤ 12
   refused-most (by-check e some few) = omega arith
   refused-most (by-states passed many e) = omega arith
   refused-most (by-words passed fit many e) = omega arith
   refused-most (by-none passed fit fits e) = omega arith
 
-  pub refused-checked : Met t room number → (k : ℕ) → 1 ≤ k → k ≤ 10 → number ≡ k → check-refusal t ≡ k
+  pub refused-checked : Met range t room number → (k : ℕ) → 1 ≤ k → k ≤ 10 → number ≡ k → check-refusal t ≡ k
   refused-checked (by-check e some few) k from to same = e ∙ same
   refused-checked (by-states passed many e) k from to same = absurd (omega arith)
   refused-checked (by-words passed fit many e) k from to same = absurd (omega arith)
   refused-checked (by-none passed fit fits e) k from to same = absurd (omega arith)
 
-  pub checked-refused : Met t room number → (k : ℕ) → 1 ≤ k → check-refusal t ≡ k → number ≡ k
+  pub checked-refused : Met range t room number → (k : ℕ) → 1 ≤ k → check-refusal t ≡ k → number ≡ k
   checked-refused (by-check e some few) k from same = omega arith
   checked-refused (by-states passed many e) k from same = absurd (omega arith)
   checked-refused (by-words passed fit many e) k from same = absurd (omega arith)
   checked-refused (by-none passed fit fits e) k from same = absurd (omega arith)
 
-  pub refused-states : Met t room number → number ≡ 11 → (check-refusal t ≡ 0) × Too-many-states t room
+  pub refused-states : Met range t room number → number ≡ 11 → (check-refusal t ≡ 0) × Too-many-states range t room
   refused-states (by-check e some few) same = absurd (omega arith)
   refused-states (by-states passed many e) same = (passed, many)
   refused-states (by-words passed fit many e) same = absurd (omega arith)
   refused-states (by-none passed fit fits e) same = absurd (omega arith)
 
-  pub states-refused : Met t room number → (check-refusal t ≡ 0) × Too-many-states t room → number ≡ 11
+  pub states-refused : Met range t room number → (check-refusal t ≡ 0) × Too-many-states range t room → number ≡ 11
   states-refused (by-check e some few) (passed, many) = absurd (omega arith)
   states-refused (by-states passed many e) case = e
   states-refused (by-words passed fit over e) (passes, many) = absurd (fit many)
   states-refused (by-none passed fit fits e) (passes, many) = absurd (fit many)
 
   pub refused-words :
-      Met t room number → number ≡ 12 → (check-refusal t ≡ 0) × (Too-many-states t room → ⊥) × Too-many-words t room
+      Met range t room number → number ≡ 12 → (check-refusal t ≡ 0) × (Too-many-states range t room → ⊥) × Too-many-words range t room
   refused-words (by-check e some few) same = absurd (omega arith)
   refused-words (by-states passed many e) same = absurd (omega arith)
   refused-words (by-words passed fit many e) same = (passed, fit, many)
   refused-words (by-none passed fit fits e) same = absurd (omega arith)
 
   pub words-refused :
-      Met t room number → (check-refusal t ≡ 0) × (Too-many-states t room → ⊥) × Too-many-words t room → number ≡ 12
+      Met range t room number → (check-refusal t ≡ 0) × (Too-many-states range t room → ⊥) × Too-many-words range t room → number ≡ 12
   words-refused (by-check e some few) (passed, fit, many) = absurd (omega arith)
   words-refused (by-states passed over e) (passes, fit, many) = absurd (fit over)
   words-refused (by-words passed fit many e) case = e
   words-refused (by-none passed fit fits e) (passes, fit-too, many) = absurd (fits many)
 
   pub refused-none :
-      Met t room number → number ≡ 0 → (check-refusal t ≡ 0) × (Too-many-states t room → ⊥) × (Too-many-words t room → ⊥)
+      Met range t room number → number ≡ 0 → (check-refusal t ≡ 0) × (Too-many-states range t room → ⊥) × (Too-many-words range t room → ⊥)
   refused-none (by-check e some few) same = absurd (omega arith)
   refused-none (by-states passed many e) same = absurd (omega arith)
   refused-none (by-words passed fit many e) same = absurd (omega arith)
   refused-none (by-none passed fit fits e) same = (passed, fit, fits)
 
   pub none-refused :
-      Met t room number → (check-refusal t ≡ 0) × (Too-many-states t room → ⊥) × (Too-many-words t room → ⊥) → number ≡ 0
+      Met range t room number → (check-refusal t ≡ 0) × (Too-many-states range t room → ⊥) × (Too-many-words range t room → ⊥) → number ≡ 0
   none-refused (by-check e some few) (passed, fit, fits) = absurd (omega arith)
   none-refused (by-states passed over e) (passes, fit, fits) = absurd (fit over)
   none-refused (by-words passed fit over e) (passes, fit-too, fits) = absurd (fits over)

@@ -17,14 +17,14 @@ use Rattle.lassos.specs.Decision.{Lasso-says}
 use Rattle.tubochre.specs.Calls.{Decided-built, Trial-says}
 use Rattle.tubochre.specs.Demand.{Third-demand}
 use Rattle.tubochre.specs.declared.Trial.{Trial}
-use Rattle.tubochre.proofs.Demand.{third-demand}
+use Rattle.tubochre.proofs.Demand.{wide-demands}
 
 module _
     {t u v w between w-now : List ℕ}
     {before after : Lent}
     {r : Trial}
     (check : r .checked ≡ as-checked (check-refusal t))
-    (build : Build-says t (r .counts) before after)
+    (build : Build-says wide-range t (r .counts) before after)
     (pattern : Lasso-says wide-range t u v (r .pattern) w between)
     (built : Decided-built (r .counts) (after .words) u v (r .complement) between w-now)
   where
@@ -52,5 +52,5 @@ module _
           complement = λ z. rw same-work at (built .built z);
           unbuilt = built .unbuilt;
           work = cleared;
-          compared = λ z lasso. third-demand t Passed (r .counts) before after u v (passes z) refl build z lasso;
+          compared = λ z lasso. wide-demands .third t Passed (r .counts) before after u v (passes z) refl build z lasso;
         }

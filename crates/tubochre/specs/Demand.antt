@@ -1,5 +1,6 @@
 -- The second and the third demand, as statements over what the check, the build and the lasso decision answer and leave
--- (docs/RULES.md, "Numbering and result" and "Runs, and what the third demand compares"). Assumes nothing: these are definitions.
+-- (docs/RULES.md, "Numbering and result" and "Runs, and what the third demand compares"), for tables of any range in words of any bits.
+-- Assumes nothing: these are definitions.
 use mathlib.Core.Path.{_≡_}
 use mathlib.Core.Bool.{true}
 use mathlib.Core.List.{List}
@@ -9,7 +10,7 @@ use lib.ListN.{length, getD}
 use Rattle.automata.specs.Automaton.{Run, Takes, Single-run, Same}
 use Rattle.automata.specs.Lasso.{letter-at, Lasso}
 use Rattle.automata.specs.System.{Member, Reached, Exactly}
-use Rattle.tables.specs.Table.{k-of, meaning, wide-range, table-refusal}
+use Rattle.tables.specs.Table.{Limits, table-words, k-of, meaning, table-refusal}
 use Rattle.ncsb.specs.Bound.{bound}
 use Rattle.ncsb.specs.Step.{Start, Step}
 use Rattle.ncsb.specs.declared.Quadruple.{Quadruple}
@@ -17,7 +18,7 @@ use Rattle.patterns.specs.Check.{check-refusal, as-checked}
 use Rattle.patterns.specs.Pattern.{moves}
 use Rattle.patterns.specs.declared.Checked.{Checked}
 use Rattle.patterns.specs.declared.Checked.the-variants.{Passed}
-use Rattle.complement.specs.Build.{Lent, Room, room-of, words-needed, Build-says, used, used-sets}
+use Rattle.complement.specs.Build.{Lent, Room, room-of, Build-says, used, used-sets}
 use Rattle.complement.specs.Complement.{system-of, complement, complement-automaton, complement-words, sets-words}
 use Rattle.complement.specs.declared.Counts.{Counts}
 use Rattle.lassos.specs.Decision.{Lasso-says}
@@ -37,90 +38,91 @@ pub record Reached-exactly (t : List ℕ) : Type 0 where
   pub exactly : Exactly (system-of t) (complement t)
 
 -- THE SECOND DEMAND, of an accepted build and the buffers that it left
-pub record Built-exactly (t : List ℕ) (r : Counts) (left : Lent) : Type 0 where
+pub record Built-exactly (bits : ℕ) (range : Limits) (t : List ℕ) (r : Counts) (left : Lent) : Type 0 where
   -- what is built is the complement
   pub reached : Reached-exactly t
   -- the counts answered are its sizes
   pub states : r .states ≡ length (complement t .states)
   pub edges : r .edges ≡ length (complement t .edges)
-  -- the used words are its table: a valid wide one, which means it
+  -- the used words are its table: a valid one of the range, which means it
   pub table : used r (left .words) ≡ complement-words t
-  pub valid : table-refusal wide-range (used r (left .words)) ≡ 0
+  pub valid : table-refusal range (used r (left .words)) ≡ 0
   pub means : Same (meaning (used r (left .words))) (complement-automaton t)
-  -- each of them is a number of 16 bits
-  pub fit : (i : ℕ) → i < length (used r (left .words)) → getD (used r (left .words)) i 0 < 2 ^ 16
+  -- each of them is a number of so many bits
+  pub fit : (i : ℕ) → i < length (used r (left .words)) → getD (used r (left .words)) i 0 < 2 ^ bits
   -- the used records are its states
   pub records : used-sets r (left .sets) ≡ sets-words t
 
-unfoldable pub Second-demand : Type 0
-Second-demand =
-    (t : List ℕ) (r : Counts) (before after : Lent) → Build-says t r before after → r .number ≡ 0 → Built-exactly t r after
+unfoldable pub Second-demand : (bits : ℕ) → Limits → Type 0
+Second-demand bits range =
+    (t : List ℕ) (r : Counts) (before after : Lent) → Build-says range t r before after → r .number ≡ 0 →
+    Built-exactly bits range t r after
 
--- REFUSED BUILDS, by the whole complement of a pattern and the room that is lent. 11: more states than the lent records, or than a wide
--- table can have
-unfoldable pub Too-many-states : List ℕ → Room → Type 0
-Too-many-states t room =
-    (room .records < length (complement t .states)) ⊎ (wide-range .states < length (complement t .states))
+-- REFUSED BUILDS, by the whole complement of a pattern and the room that is lent. 11: more states than the lent records, or than a
+-- table of the range can have
+unfoldable pub Too-many-states : Limits → List ℕ → Room → Type 0
+Too-many-states range t room =
+    (room .records < length (complement t .states)) ⊎ (range .states < length (complement t .states))
 
--- 12: more edges than a wide table can have, or more words needed than are lent
-unfoldable pub Too-many-words : List ℕ → Room → Type 0
-Too-many-words t room =
-    (wide-range .records < length (complement t .edges))
-    ⊎ (room .words < words-needed (length (complement t .states)) (length (complement t .edges)))
+-- 12: more edges than a table of the range can have, or more words needed than are lent
+unfoldable pub Too-many-words : Limits → List ℕ → Room → Type 0
+Too-many-words range t room =
+    (range .records < length (complement t .edges))
+    ⊎ (room .words < table-words (length (complement t .states)) (length (complement t .edges)))
 
 -- a build's number: each refusal comes in its case and in no other
-pub record Refused-exactly (t : List ℕ) (room : Room) (number : ℕ) : Type 0 where
+pub record Refused-exactly (range : Limits) (t : List ℕ) (room : Room) (number : ℕ) : Type 0 where
   -- 2 to 10 are those of the check
   pub check : (k : ℕ) → 1 ≤ k → k ≤ 10 → (number ≡ k) ↔ (check-refusal t ≡ k)
   -- 11: the pattern passes, and its complement has too many states; 12: the states fit, and edges or words are too many
-  pub states : (number ≡ 11) ↔ ((check-refusal t ≡ 0) × Too-many-states t room)
-  pub words : (number ≡ 12) ↔ ((check-refusal t ≡ 0) × (Too-many-states t room → ⊥) × Too-many-words t room)
+  pub states : (number ≡ 11) ↔ ((check-refusal t ≡ 0) × Too-many-states range t room)
+  pub words : (number ≡ 12) ↔ ((check-refusal t ≡ 0) × (Too-many-states range t room → ⊥) × Too-many-words range t room)
   -- nothing is refused where all fits, and no other number is answered
-  pub none : (number ≡ 0) ↔ ((check-refusal t ≡ 0) × (Too-many-states t room → ⊥) × (Too-many-words t room → ⊥))
+  pub none : (number ≡ 0) ↔ ((check-refusal t ≡ 0) × (Too-many-states range t room → ⊥) × (Too-many-words range t room → ⊥))
   pub no-other : number ≤ 12
   -- what is counted is the whole reachable complement
   pub reached : check-refusal t ≡ 0 → Reached-exactly t
 
-unfoldable pub Refused-builds : Type 0
-Refused-builds =
-    (t : List ℕ) (r : Counts) (before after : Lent) → Build-says t r before after →
-    Refused-exactly t (room-of before) (r .number)
+unfoldable pub Refused-builds : Limits → Type 0
+Refused-builds range =
+    (t : List ℕ) (r : Counts) (before after : Lent) → Build-says range t r before after →
+    Refused-exactly range t (room-of before) (r .number)
 
 -- THE SECOND DEMAND, of a lasso decision d on a table t, a prefix u and a loop v, with so many work words: a lasso is taken exactly if
 -- an infinite run over it passes accepting states without end
-pub record Decided-exactly (t u v : List ℕ) (d : Decision) (work : ℕ) : Type 0 where
+pub record Decided-exactly (range : Limits) (t u v : List ℕ) (d : Decision) (work : ℕ) : Type 0 where
   -- a refusal is the first of 2 to 9 and 13 to 16 that is met, and nothing else is refused
-  pub refused : (number : ℕ) → (d ≡ Refused number) ↔ ((lasso-refusal wide-range t u v work ≡ number) × (1 ≤ number))
-  -- where none is met, the table is a valid wide one and the lasso is over its letters
-  pub over : lasso-refusal wide-range t u v work ≡ 0 → (table-refusal wide-range t ≡ 0) × Lasso (k-of t) u v
+  pub refused : (number : ℕ) → (d ≡ Refused number) ↔ ((lasso-refusal range t u v work ≡ number) × (1 ≤ number))
+  -- where none is met, the table is a valid one of the range and the lasso is over its letters
+  pub over : lasso-refusal range t u v work ≡ 0 → (table-refusal range t ≡ 0) × Lasso (k-of t) u v
   -- taken exactly if there is an accepting run, and not taken exactly if there is none
-  pub taken : (d ≡ Taken) ↔ ((lasso-refusal wide-range t u v work ≡ 0) × Takes (meaning t) (letter-at u v))
-  pub not-taken : (d ≡ NotTaken) ↔ ((lasso-refusal wide-range t u v work ≡ 0) × (Takes (meaning t) (letter-at u v) → ⊥))
+  pub taken : (d ≡ Taken) ↔ ((lasso-refusal range t u v work ≡ 0) × Takes (meaning t) (letter-at u v))
+  pub not-taken : (d ≡ NotTaken) ↔ ((lasso-refusal range t u v work ≡ 0) × (Takes (meaning t) (letter-at u v) → ⊥))
 
-unfoldable pub Lasso-demand : Type 0
-Lasso-demand =
-    (t u v : List ℕ) (d : Decision) (w w-now : List ℕ) → Lasso-says wide-range t u v d w w-now → Decided-exactly t u v d (length w)
+unfoldable pub Lasso-demand : Limits → Type 0
+Lasso-demand range =
+    (t u v : List ℕ) (d : Decision) (w w-now : List ℕ) → Lasso-says range t u v d w w-now → Decided-exactly range t u v d (length w)
 
 -- THE THIRD DEMAND. A decision that does not refuse
 unfoldable pub Not-refused : Decision → Type 0
 Not-refused d = (number : ℕ) → d ≡ Refused number → ⊥
 
 -- of a pattern t, the words c left of its complement, a lasso, and the state count
-pub record Compared (t c u v : List ℕ) (states : ℕ) : Type 0 where
+pub record Compared (range : Limits) (t c u v : List ℕ) (states : ℕ) : Type 0 where
   -- either the pattern takes the lasso and the complement has no accepting run over it, or the pattern does not and the complement
   -- has exactly one
   pub parted :
       (Takes (meaning t) (letter-at u v) × ((run : ℕ → ℕ) → Run (meaning c) (letter-at u v) run → ⊥))
       ⊎ ((Takes (meaning t) (letter-at u v) → ⊥) × Single-run (meaning c) (letter-at u v))
-  -- both are valid wide tables, so a decision refuses neither for its table
-  pub tables : (table-refusal wide-range t ≡ 0) × (table-refusal wide-range c ≡ 0)
+  -- both are valid tables of the range, so a decision refuses neither for its table
+  pub tables : (table-refusal range t ≡ 0) × (table-refusal range c ≡ 0)
   -- only for a part of the lasso that is too long, or for too few work words
   pub refusals :
-      (d : Decision) (w w-now : List ℕ) (number : ℕ) → Lasso-says wide-range t u v d w w-now ⊎ Lasso-says wide-range c u v d w w-now →
+      (d : Decision) (w w-now : List ℕ) (number : ℕ) → Lasso-says range t u v d w w-now ⊎ Lasso-says range c u v d w w-now →
       d ≡ Refused number → (number ≡ 14) ⊎ (number ≡ 16)
   -- two decisions that do not refuse answer taken for exactly the one that takes it
   pub decisions :
-      (d e : Decision) (w w-now z z-now : List ℕ) → Lasso-says wide-range t u v d w w-now → Lasso-says wide-range c u v e z z-now →
+      (d e : Decision) (w w-now z z-now : List ℕ) → Lasso-says range t u v d w w-now → Lasso-says range c u v e z z-now →
       Not-refused d → Not-refused e →
       (Takes (meaning t) (letter-at u v) × (d ≡ Taken) × (e ≡ NotTaken))
       ⊎ (Takes (meaning c) (letter-at u v) × (d ≡ NotTaken) × (e ≡ Taken))
@@ -128,8 +130,15 @@ pub record Compared (t c u v : List ℕ) (states : ℕ) : Type 0 where
   pub few : states ≤ bound (moves (meaning t))
 
 -- whatever pattern passes the check, whatever room its complement is built in without refusal, and whatever lasso over its letters
-unfoldable pub Third-demand : Type 0
-Third-demand =
+unfoldable pub Third-demand : Limits → Type 0
+Third-demand range =
     (t : List ℕ) (checked : Checked) (r : Counts) (before after : Lent) (u v : List ℕ) →
-    checked ≡ as-checked (check-refusal t) → checked ≡ Passed → Build-says t r before after → r .number ≡ 0 →
-    Lasso (k-of t) u v → Compared t (used r (after .words)) u v (r .states)
+    checked ≡ as-checked (check-refusal t) → checked ≡ Passed → Build-says range t r before after → r .number ≡ 0 →
+    Lasso (k-of t) u v → Compared range t (used r (after .words)) u v (r .states)
+
+-- ALL OF THEM, for tables of a range in words of so many bits
+pub record Demands (bits : ℕ) (range : Limits) : Type 0 where
+  pub second : Second-demand bits range
+  pub refused : Refused-builds range
+  pub lassos : Lasso-demand range
+  pub third : Third-demand range

@@ -2,8 +2,10 @@
 use complement::Counts;
 use lassos::Decision;
 use patterns::Checked;
+use tables::table_words;
 ghost use mathlib.Core.Path.{_≡_};
 ghost use Rattle.patterns.specs.Check.{check-refusal};
+ghost use Rattle.tables.specs.Table.{wide-range};
 ghost use Rattle.complement.specs.Build.{lent, Build-says};
 ghost use Rattle.tubochre.specs.Calls.{as-answer, Lasso-answers, Used-inside, Decided-built, Trial-says};
 
@@ -35,7 +37,7 @@ pub extern "C" fn tubochre_check(table: &[u16]) -> u32
 // The complement of a pattern, in the lent words and sets.
 #[no_mangle]
 pub extern "C" fn tubochre_build(table: &[u16], words: &mut [u16], sets: &mut [u32]) -> Counts
-    ensures { λ r. ⌜ Build-says (now (table .entry)) r (lent (now (words .entry)) (now (sets .entry))) (lent (now (words .exit)) (now (sets .exit))) ⌝ }
+    ensures { λ r. ⌜ Build-says wide-range (now (table .entry)) r (lent (now (words .entry)) (now (sets .entry))) (lent (now (words .exit)) (now (sets .exit))) ⌝ }
 {
     complement::build_complement(table, words, sets)
 }
@@ -109,6 +111,6 @@ fn decide_built(
     if number != 0 {
         return Decision::Refused(number);
     }
-    let end = 3 + 2 * (counts.states as usize) + 3 * (counts.edges as usize);
+    let end = table_words(counts.states as usize, counts.edges as usize);
     lassos::decide_lasso(&words[..end], prefix, cycle, work)
 }

@@ -2,7 +2,7 @@
 use Prim.Native.Nat.{_-_}
 use native.Mathlib.Omega.{arith}
 use lib.ListN.{length}
-use Rattle.basics.proofs.Clears.{Clearing, clearing-start, clearing-length, clearing-turn, clearing-end}
+use Rattle.basics.proofs.Clears.{Clearing, clearing-start, clearing-turn, clearing-end}
 use Rattle.basics.proofs.clear32.Statement.{statement}
 use Rattle.basics.proofs.clear32.Tie as tie
 
@@ -16,25 +16,25 @@ loop-holds : tie.Need-loop-holds Inv-loop μ-loop
 loop-holds c = clearing-start (c .args .words .now)
 
 mul-words : tie.Need-mul-words Inv-loop μ-loop
-mul-words c = omega (arith, clearing-length (c .before .loop .inv))
+mul-words c = omega arith
 
 slice-write-words : tie.Need-slice-write-words Inv-loop μ-loop
-slice-write-words c = let l = c .loop-test .taken in omega arith
+slice-write-words c = omega arith
 
 add-i : tie.Need-add-i Inv-loop μ-loop
-add-i c = omega (arith, clearing-length (c .before .loop .inv))
+add-i c = omega arith
 
 loop-less : tie.Need-loop-less Inv-loop μ-loop
-loop-less c = omega (arith, clearing-length (c .before .loop .inv))
+loop-less c = omega arith
 
 loop-again : tie.Need-loop-again Inv-loop μ-loop
-loop-again c = let l = c .loop-test .taken in clearing-turn (c .before .loop .inv) (omega arith)
+loop-again c = let turn : tie.At-loop Inv-loop μ-loop = search in clearing-turn (turn .loop .inv) (omega arith)
 
 same-length : tie.Need-same-length Inv-loop μ-loop
-same-length c = clearing-length (c .before .loop .inv)
+same-length c = let turn : tie.At-loop Inv-loop μ-loop = search in turn .loop .inv .same
 
 returns : tie.Need-returns Inv-loop μ-loop
-returns c = clearing-end (c .before .loop .inv) (c .loop-test .left)
+returns c = let turn : tie.At-loop Inv-loop μ-loop = search in clearing-end (turn .loop .inv) (c .loop-test .left)
 
 pub clear32-spec : {M : Type 1} → statement M
 clear32-spec =

@@ -4,6 +4,7 @@ use mathlib.Core.Path.{sym, _∙_}
 use mathlib.Core.List.{List}
 use Prim.Native.Nat.{ℕ}
 use borrow.Author.Needs.{needs}
+use Rattle.tables.specs.Table.{wide-range}
 use Rattle.patterns.proofs.Answers.{reading-refused, reading-met, reading-passed, reading-shape, reading-masks}
 use Rattle.complement.specs.Build.{Lent, lent}
 use Rattle.complement.specs.Found.{Read-off}
@@ -11,11 +12,10 @@ use Rattle.complement.proofs.Answers.{refused-check}
 use Rattle.complement.proofs.build_complement.Statement.{statement}
 use Rattle.complement.proofs.build_complement.Tie as tie
 
--- THE PLACES
 -- the table is read
 module _ (c : tie.After-read-pattern) where
   abbrev start : tie.Start
-  start = c .before .before .before .before .before
+  start = search
 
   abbrev table : List ℕ
   table = start .args .table .now
@@ -26,7 +26,7 @@ module _ (c : tie.After-read-pattern) where
 -- it is a pattern
 module _ (c : tie.After-shape) where
   abbrev was-read : tie.After-read-pattern
-  was-read = c .before .before
+  was-read = search
 
   read-off : Read-off (table was-read) (was-read .read-pattern .last .1 .0) (c .shape .given .0 .0)
   read-off =
@@ -51,7 +51,9 @@ enum-known-shape : tie.Need-enum-known-shape
 enum-known-shape c = search needs
 
 build-pattern-requires : tie.Need-build-pattern-requires
-build-pattern-requires c κs = let at = c .before .before .before in record { table = table (was-read at); read-off = read-off at }
+build-pattern-requires c κs =
+    let at : tie.After-shape = search in
+    let was-read : tie.After-read-pattern = search in record { table = table was-read; read-off = read-off at }
 
 same-length : tie.Need-same-length
 same-length c = search needs
@@ -61,11 +63,11 @@ same-length-2 c = search needs
 
 returns : tie.Need-returns
 returns c =
-    let refused = c .before .before .before .before in
-    let met = refused .before .before .before .before in
-    let at = met .before .before in
+    let refused : tie.After-refuse = search in
+    let met : tie.After-number = search in
+    let at : tie.After-read-pattern = search in
     let told = sym (met .number .given .1) ∙ at .read-pattern .ensures .0 in
-    refused-check (table at) (lends at) (reading-refused _ _ told) (reading-met _ _ told) (refused .refuse .ensures)
+    refused-check wide-range (table at) (lends at) (reading-refused _ _ told) (reading-met _ _ told) (refused .refuse .ensures)
 
 same-length-3 : tie.Need-same-length-3
 same-length-3 c = search needs
@@ -75,8 +77,9 @@ same-length-4 c = search needs
 
 returns-2 : tie.Need-returns-2
 returns-2 c =
-    let built = c .before .before .before .before in
-    let at = built .before .before .before .before in built .build-pattern .ensures .says (table (was-read at)) (read-off at)
+    let built : tie.After-build-pattern = search in
+    let at : tie.After-shape = search in
+    let was-read : tie.After-read-pattern = search in built .build-pattern .ensures .says (table was-read) (read-off at)
 
 pub build-complement-spec : {M : Type 1} → statement M
 build-complement-spec =

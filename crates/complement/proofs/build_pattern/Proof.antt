@@ -6,6 +6,7 @@ use Prim.Native.Nat.{ℕ, _≤_}
 use native.Mathlib.Omega.{arith}
 use borrow.Author.Needs.{needs}
 use Rattle.tables.specs.Table.{wide-range}
+use Rattle.tables.proofs.Laws.{wide-fits}
 use Rattle.complement.specs.Build.{Lent, lent}
 use Rattle.complement.specs.Complement.{complement}
 use Rattle.complement.specs.Found.{wide-quadruples, Shows, Read-off}
@@ -16,14 +17,10 @@ use Rattle.complement.proofs.Stored.{begins-zeros}
 use Rattle.complement.proofs.build_pattern.Statement.{statement}
 use Rattle.complement.proofs.build_pattern.Tie as tie
 
--- THE PLACES
 -- both buffers are clear
 module _ (c : tie.After-clear32) where
-  abbrev words-cleared : tie.After-clear16
-  words-cleared = c .before .before .before .before
-
   abbrev start : tie.Start
-  start = words-cleared .before .before .before .before
+  start = search
 
   -- the buffers as they were lent
   abbrev lends : Lent
@@ -32,22 +29,23 @@ module _ (c : tie.After-clear32) where
 -- exploring has ended
 module _ (c : tie.After-explore) where
   abbrev cleared : tie.After-clear32
-  cleared = c .before .before .before .before .before
+  cleared = search
 
   abbrev left : Lent
   left = lent (c .explore .last .1 .1 .0) (c .explore .last .1 .1 .1 .0)
 
   sizes : Same-sizes left (lends cleared)
   sizes =
+      let words-cleared : tie.After-clear16 = search in
       record {
-        words = c .explore .kept .1 .1 .0 ∙ words-cleared cleared .clear16 .kept .0;
+        words = c .explore .kept .1 .1 .0 ∙ words-cleared .clear16 .kept .0;
         sets = c .explore .kept .1 .1 .1 .0 ∙ cleared .clear32 .kept .0;
       }
 
 -- the states fit
 module _ (c : tie.Else1) where
   abbrev explored : tie.After-explore
-  explored = c .before .before .before .before .before
+  explored = search
 
   abbrev begun : tie.Start
   begun = start (cleared explored)
@@ -60,24 +58,15 @@ module _ (c : tie.Else1) where
 -- the table is not too long
 module _ (c : tie.Else2) where
   abbrev fitting : tie.Else1
-  fitting = c .before .before
+  fitting = search
 
   few :
       (explored fitting .explore .result .states ≤ wide-range .states)
       × (explored fitting .explore .result .edges ≤ wide-range .records)
   few =
+      let after-too-long : tie.After-too-long = search in
       let of = begun fitting .pre in
-      built-counts (of .read-off) (shows fitting (of .table) (of .read-off)) (c .before .too-long .ensures) (c .if2 .left)
-
--- edges stand in chains
-module _ (c : tie.After-lay-out) where
-  abbrev short : tie.Else2
-  short = c .before .before
-
--- the initial states are counted
-module _ (c : tie.After-initial-count) where
-  abbrev laid-out : tie.After-lay-out
-  laid-out = c .before .before .before .before .before
+      built-counts (of .read-off) (shows fitting (of .table) (of .read-off)) (after-too-long .too-long .ensures) (c .if2 .left)
 
 -- THE NEEDS
 clear16-requires : tie.Need-clear16-requires
@@ -88,11 +77,13 @@ clear32-requires c κs = search needs
 
 explore-requires : tie.Need-explore-requires
 explore-requires c κs =
-    let at = c .before .before .before .before in
+    let at : tie.After-clear32 = search in
+    let words-cleared : tie.After-clear16 = search in
+    let start : tie.Start = search in
     record {
-      of-pattern = start at .pre;
-      words-clear = rw (words-cleared at .clear16 .ensures) (begins-zeros (start at .args .words .now));
-      sets-clear = rw (at .clear32 .ensures) (begins-zeros (start at .args .sets .now));
+      of-pattern = start .pre;
+      words-clear = rw (words-cleared .clear16 .ensures) (begins-zeros (start .args .words .now));
+      sets-clear = rw (at .clear32 .ensures) (begins-zeros (start .args .sets .now));
     }
 
 refuse-requires : tie.Need-refuse-requires
@@ -106,12 +97,13 @@ same-length-2 c = search needs
 
 returns : tie.Need-returns
 returns c =
-    let refused = c .before .before .before .before in
-    let full = refused .before .before .before in
-    let at = full .before .before .before .before .before in
+    let refused : tie.After-refuse = search in
+    let full : tie.Then1 = search in
+    let at : tie.After-explore = search in
+    let cleared : tie.After-clear32 = search in
     record {
       says = λ t read.
-          refused-states t (lends (cleared at)) (read .passed) (sizes at) (at .explore .ensures .ends t read) (full .if1 .taken)
+          refused-states wide-range t (lends cleared) (read .passed) (sizes at) (at .explore .ensures .ends t read) (full .if1 .taken)
           (refused .refuse .ensures);
     }
 
@@ -129,44 +121,53 @@ same-length-4 c = search needs
 
 returns-2 : tie.Need-returns-2
 returns-2 c =
-    let refused = c .before .before .before .before in
-    let long = refused .before .before .before in
-    let at = long .before .before in
+    let refused : tie.After-refuse2 = search in
+    let long : tie.Then2 = search in
+    let after-too-long : tie.After-too-long = search in
+    let at : tie.Else1 = search in
+    let explored : tie.After-explore = search in
+    let cleared : tie.After-clear32 = search in
     record {
       says = λ t read.
-          refused-edges t (lends (cleared (explored at))) (read .passed) (sizes (explored at))
-          (explored at .explore .ensures .ends t read) (at .if1 .left) (long .before .too-long .ensures) (long .if2 .taken)
+          refused-edges wide-range t (lends cleared) (read .passed) (sizes explored)
+          (explored .explore .ensures .ends t read) (at .if1 .left) (after-too-long .too-long .ensures) (long .if2 .taken)
           (refused .refuse2 .ensures);
     }
 
 lay-out-requires : tie.Need-lay-out-requires
 lay-out-requires c κs =
-    let at = c .before in
-    let of = begun (fitting at) .pre in
-    built-asks (of .read-off) (shows (fitting at) (of .table) (of .read-off)) (at .before .too-long .ensures) (at .if2 .left)
+    let at : tie.Else2 = search in
+    let after-too-long : tie.After-too-long = search in
+    let fitting : tie.Else1 = search in
+    let of = begun fitting .pre in
+    built-asks (of .read-off) (shows fitting (of .table) (of .read-off)) (after-too-long .too-long .ensures) (at .if2 .left) wide-fits
 
 initial-count-requires : tie.Need-initial-count-requires
 initial-count-requires c κs = search needs
 
 set-flags-requires : tie.Need-set-flags-requires
 set-flags-requires c κs =
-    let laid = laid-out c in
-    let at = short laid in
-    let of = begun (fitting at) .pre in
-    built-flags (of .read-off) (shows (fitting at) (of .table) (of .read-off)) (at .before .too-long .ensures) (at .if2 .left)
-    (laid .lay-out .ensures) (laid .lay-out .kept .0)
+    let laid-out : tie.After-lay-out = search in
+    let short : tie.Else2 = search in
+    let after-too-long : tie.After-too-long = search in
+    let fitting : tie.Else1 = search in
+    let of = begun fitting .pre in
+    built-flags (of .read-off) (shows fitting (of .table) (of .read-off)) (after-too-long .too-long .ensures) (short .if2 .left)
+    (laid-out .lay-out .ensures) (laid-out .lay-out .kept .0)
 
 cast-t34 : tie.Need-cast-t34
 unfolding wide-range
 cast-t34 c =
-    let both = few (short (laid-out (c .before .before .before))) in
+    let short : tie.Else2 = search in
+    let both = few short in
     let states = both .0 in
     let edges = both .1 in omega arith
 
 cast-t35 : tie.Need-cast-t35
 unfolding wide-range
 cast-t35 c =
-    let both = few (short (laid-out (c .before .before .before))) in
+    let short : tie.Else2 = search in
+    let both = few short in
     let states = both .0 in
     let edges = both .1 in omega arith
 
@@ -178,15 +179,18 @@ same-length-6 c = search needs
 
 returns-3 : tie.Need-returns-3
 returns-3 c =
-    let flagged = c .before .before in
-    let counted = flagged .before in
-    let laid = laid-out counted in
-    let at = short laid in
-    let from = explored (fitting at) in
+    let flagged : tie.After-set-flags = search in
+    let counted : tie.After-initial-count = search in
+    let laid-out : tie.After-lay-out = search in
+    let short : tie.Else2 = search in
+    let after-too-long : tie.After-too-long = search in
+    let fitting : tie.Else1 = search in
+    let explored : tie.After-explore = search in
+    let cleared : tie.After-clear32 = search in
     record {
       says = λ t read.
-          built-says read (shows (fitting at) t read) (at .before .too-long .ensures) (at .if2 .left) (laid .lay-out .ensures)
-          (laid .lay-out .kept .0) (lends (cleared from)) (sizes from) (counted .initial-count .ensures) (flagged .set-flags .ensures);
+          built-says read (shows fitting t read) (after-too-long .too-long .ensures) (short .if2 .left) (laid-out .lay-out .ensures)
+          (laid-out .lay-out .kept .0) (lends cleared) (sizes explored) (counted .initial-count .ensures) (flagged .set-flags .ensures);
     }
 
 pub build-pattern-spec : {M : Type 1} → statement M

@@ -1,9 +1,8 @@
 -- `too_long` is the test of refusal 12. Assumes nothing.
 use mathlib.Core.Path.{refl}
+use native.Mathlib.Omega.{arith}
 use Rattle.basics.proofs.Booleans.{lt-ltb, ge-ltb}
 use Rattle.tables.specs.Table.{wide-range}
-use Rattle.complement.specs.Build.{words-needed}
-use borrow.Author.Needs.{needs}
 use Rattle.complement.proofs.too_long.Statement.{statement}
 use Rattle.complement.proofs.too_long.Tie as tie
 
@@ -11,26 +10,14 @@ returns : tie.Need-returns
 unfolding wide-range
 returns c = rw (lt-ltb (c .if1 .taken)) refl
 
-mul-result : tie.Need-mul-result
+table-words-requires : tie.Need-table-words-requires
 unfolding wide-range
-mul-result c = search needs
-
-add-result : tie.Need-add-result
-unfolding wide-range
-add-result c = search needs
-
-mul-result-2 : tie.Need-mul-result-2
-unfolding wide-range
-mul-result-2 c = search needs
-
-add-result-2 : tie.Need-add-result-2
-unfolding wide-range
-add-result-2 c = search needs
+table-words-requires c κs = (omega arith, omega arith)
 
 returns-2 : tie.Need-returns-2
-unfolding wide-range words-needed
-returns-2 c = rw (ge-ltb (c .if1 .left)) refl
+unfolding wide-range
+returns-2 c =
+    let short : tie.Else1 = search in rw (ge-ltb (short .if1 .left), c .table-words .ensures) refl
 
 pub too-long-spec : {M : Type 1} → statement M
-too-long-spec =
-    tie.close (tie.spec returns mul-result add-result mul-result-2 add-result-2 returns-2)
+too-long-spec = tie.close (tie.spec returns table-words-requires returns-2)

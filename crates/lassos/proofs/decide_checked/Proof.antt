@@ -5,21 +5,8 @@ use Rattle.lassos.proofs.Decides.{checked-none, checked-refused, checke
 use Rattle.lassos.proofs.decide_checked.Statement.{statement}
 use Rattle.lassos.proofs.decide_checked.Tie as tie
 
--- PLACES: where the function begins, where the lasso's refusal is answered, where there is none, and where the search is over
-abbrev start : tie.After-states-of → tie.Start
-start c = c .before .before .before .before .before
-
-abbrev letters : tie.After-parts-refusal → tie.After-letters-of
-letters c = c .before
-
-abbrev states : tie.After-parts-refusal → tie.After-states-of
-states c = letters c .before
-
 abbrev accepted : tie.After-takes → tie.Else1
-accepted c = c .before .before
-
-abbrev searched : tie.After-slice-known2 → tie.After-takes
-searched c = c .before .before
+accepted c = search
 
 states-of-requires : tie.Need-states-of-requires
 states-of-requires c κs = search needs
@@ -32,18 +19,24 @@ parts-refusal-requires c κs = search needs
 
 returns : tie.Need-returns
 returns c =
-    let x = c .before in
-    checked-refused wide-range _ _ _ _ (start (states x) .pre) (states x .states-of .ensures .is) (letters x .letters-of .ensures .is)
+    let x : tie.After-parts-refusal = search in
+    let letters : tie.After-letters-of = search in
+    let states : tie.After-states-of = search in
+    let start : tie.Start = search in
+    checked-refused wide-range _ _ _ _ (start .pre) (states .states-of .ensures .is) (letters .letters-of .ensures .is)
     (x .parts-refusal .ensures)
     (c .if1 .taken)
 
 takes-requires : tie.Need-takes-requires
 takes-requires c κs =
-    let none = c .before in
-    let x = none .before in
+    let none : tie.Else1 = search in
+    let x : tie.After-parts-refusal = search in
+    let letters : tie.After-letters-of = search in
+    let states : tie.After-states-of = search in
+    let start : tie.Start = search in
     record {
       accepted =
-          checked-none wide-range _ _ _ _ (start (states x) .pre) (states x .states-of .ensures .is) (letters x .letters-of .ensures .is)
+          checked-none wide-range _ _ _ _ (start .pre) (states .states-of .ensures .is) (letters .letters-of .ensures .is)
           (x .parts-refusal .ensures)
           (none .if1 .left);
     }
@@ -53,13 +46,16 @@ same-length c = search needs
 
 returns-2 : tie.Need-returns-2
 returns-2 c =
-    let found = searched (c .before) in
-    let none = accepted found in
-    let x = none .before in
-    checked-taken wide-range _ _ _ _ (start (states x) .pre) (states x .states-of .ensures .is) (letters x .letters-of .ensures .is)
+    let searched : tie.After-takes = search in
+    let accepted : tie.Else1 = search in
+    let x : tie.After-parts-refusal = search in
+    let letters : tie.After-letters-of = search in
+    let states : tie.After-states-of = search in
+    let start : tie.Start = search in
+    checked-taken wide-range _ _ _ _ (start .pre) (states .states-of .ensures .is) (letters .letters-of .ensures .is)
     (x .parts-refusal .ensures)
-    (none .if1 .left)
-    (found .takes .ensures)
+    (accepted .if1 .left)
+    (searched .takes .ensures)
     (c .if2 .taken)
 
 same-length-2 : tie.Need-same-length-2
@@ -67,13 +63,16 @@ same-length-2 c = search needs
 
 returns-3 : tie.Need-returns-3
 returns-3 c =
-    let found = searched (c .before) in
-    let none = accepted found in
-    let x = none .before in
-    checked-not-taken wide-range _ _ _ _ (start (states x) .pre) (states x .states-of .ensures .is) (letters x .letters-of .ensures .is)
+    let searched : tie.After-takes = search in
+    let accepted : tie.Else1 = search in
+    let x : tie.After-parts-refusal = search in
+    let letters : tie.After-letters-of = search in
+    let states : tie.After-states-of = search in
+    let start : tie.Start = search in
+    checked-not-taken wide-range _ _ _ _ (start .pre) (states .states-of .ensures .is) (letters .letters-of .ensures .is)
     (x .parts-refusal .ensures)
-    (none .if1 .left)
-    (found .takes .ensures)
+    (accepted .if1 .left)
+    (searched .takes .ensures)
     (c .if2 .left)
 
 pub decide-checked-spec : {M : Type 1} → statement M

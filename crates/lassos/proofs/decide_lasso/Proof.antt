@@ -8,13 +8,6 @@ use Rattle.lassos.proofs.Decides.{table-refused}
 use Rattle.lassos.proofs.decide_lasso.Statement.{statement}
 use Rattle.lassos.proofs.decide_lasso.Tie as tie
 
--- PLACES: where the table is refused, and where the work words are cleared afterwards; where the decision is answered, and where they are cleared
-abbrev refused : tie.After-clear32 → tie.Then1
-refused c = c .before .before
-
-abbrev decided : tie.After-clear322 → tie.After-decide-checked
-decided c = c .before .before .before .before
-
 table-refusal-requires : tie.Need-table-refusal-requires
 table-refusal-requires c κs = search needs
 
@@ -27,16 +20,19 @@ same-length c = search needs
 returns : tie.Need-returns
 unfolding wide-range
 returns c =
-    let clean = c .before .before in
-    let table = refused clean in
+    let clean : tie.After-clear32 = search in
+    let refused : tie.Then1 = search in
+    let after-table-refusal : tie.After-table-refusal = search in
     record {
-      answer = table-refused wide-range _ _ _ _ (table .before .table-refusal .ensures) (table .if1 .taken);
+      answer = table-refused wide-range _ _ _ _ (after-table-refusal .table-refusal .ensures) (refused .if1 .taken);
       work = clean .clear32 .ensures;
     }
 
 decide-checked-requires : tie.Need-decide-checked-requires
 unfolding wide-range
-decide-checked-requires c κs = let passed = c .before in sym (passed .before .table-refusal .ensures) ∙ passed .if1 .left
+decide-checked-requires c κs =
+    let passed : tie.Else1 = search in
+    let after-table-refusal : tie.After-table-refusal = search in sym (after-table-refusal .table-refusal .ensures) ∙ passed .if1 .left
 
 clear32-requires-2 : tie.Need-clear32-requires-2
 clear32-requires-2 c κs = search needs
@@ -46,8 +42,9 @@ same-length-2 c = search needs
 
 returns-2 : tie.Need-returns-2
 returns-2 c =
-    let clean = c .before .before in
-    let decision = decided clean .decide-checked in
+    let clean : tie.After-clear322 = search in
+    let decided : tie.After-decide-checked = search in
+    let decision = decided .decide-checked in
     record { answer = decision .ensures; work = clean .clear322 .ensures ∙ zeros-same _ _ (decision .kept .1 .1 .1 .0) }
 
 pub decide-lasso-spec : {M : Type 1} → statement M

@@ -23,10 +23,12 @@ shared-slice-read-letter : tie.Need-shared-slice-read-letter Inv-loop μ-loop
 shared-slice-read-letter c = omega arith
 
 cast-letter : tie.Need-cast-letter Inv-loop μ-loop
-cast-letter c = omega (arith, c .shared-slice-known .given (c .before .before .loop .i))
+cast-letter c = let turn : tie.At-loop Inv-loop μ-loop = search in omega (arith, c .shared-slice-known .given (turn .loop .i))
 
 returns : tie.Need-returns Inv-loop μ-loop
-returns c = not-below _ _ _ (c .before .before .loop-test .taken) (c .if1 .taken)
+returns c =
+    let inside-loop : tie.In-loop Inv-loop μ-loop = search in
+    not-below _ _ _ (inside-loop .loop-test .taken) (c .if1 .taken)
 
 add-i : tie.Need-add-i Inv-loop μ-loop
 add-i c = omega arith
@@ -35,11 +37,14 @@ loop-less : tie.Need-loop-less Inv-loop μ-loop
 loop-less c = omega arith
 
 loop-again : tie.Need-loop-again Inv-loop μ-loop
-loop-again c = scan-more (c .before .before .before .loop .inv) (c .before .before .loop-test .taken) (lt-ltb (c .if1 .left))
+loop-again c =
+    let inside-loop : tie.In-loop Inv-loop μ-loop = search in
+    let turn : tie.At-loop Inv-loop μ-loop = search in
+    scan-more (turn .loop .inv) (inside-loop .loop-test .taken) (lt-ltb (c .if1 .left))
 
 returns-2 : tie.Need-returns-2 Inv-loop μ-loop
 unfolding all-below
-returns-2 c = scan-done (c .before .loop .inv) (c .loop-test .left)
+returns-2 c = let turn : tie.At-loop Inv-loop μ-loop = search in scan-done (turn .loop .inv) (c .loop-test .left)
 
 pub letters-below-spec : {M : Type 1} → statement M
 letters-below-spec =

@@ -9,19 +9,25 @@ returns : tie.Need-returns
 returns c = parts-13 _ _ _ _ _ (c .if1 .taken)
 
 returns-2 : tie.Need-returns-2
-returns-2 c = parts-14-prefix _ _ _ _ _ (c .before .if1 .left) (c .if2 .taken)
+returns-2 c = let left-1 : tie.Else1 = search in parts-14-prefix _ _ _ _ _ (left-1 .if1 .left) (c .if2 .taken)
 
 returns-3 : tie.Need-returns-3
-returns-3 c = parts-14-loop _ _ _ _ _ (c .before .before .if1 .left) (c .before .if2 .left) (c .if3 .taken)
+returns-3 c =
+    let left-2 : tie.Else2 = search in
+    let left-1 : tie.Else1 = search in
+    parts-14-loop _ _ _ _ _ (left-1 .if1 .left) (left-2 .if2 .left) (c .if3 .taken)
 
 letters-below-requires : tie.Need-letters-below-requires
 letters-below-requires c κs = search needs
 
 returns-4 : tie.Need-returns-4
 returns-4 c =
-    let three = c .before .before in
-    parts-15-prefix _ _ _ _ _ (three .before .before .if1 .left) (three .before .if2 .left) (three .if3 .left)
-    (c .before .letters-below .ensures)
+    let after-letters-below : tie.After-letters-below = search in
+    let three : tie.Else3 = search in
+    let left-2 : tie.Else2 = search in
+    let left-1 : tie.Else1 = search in
+    parts-15-prefix _ _ _ _ _ (left-1 .if1 .left) (left-2 .if2 .left) (three .if3 .left)
+    (after-letters-below .letters-below .ensures)
     (not-true _ (c .if4 .taken))
 
 letters-below-requires-2 : tie.Need-letters-below-requires-2
@@ -29,12 +35,16 @@ letters-below-requires-2 c κs = search needs
 
 returns-5 : tie.Need-returns-5
 returns-5 c =
-    let four = c .before .before in
-    let three = four .before .before in
-    parts-15-loop _ _ _ _ _ (three .before .before .if1 .left) (three .before .if2 .left) (three .if3 .left)
-    (four .before .letters-below .ensures)
+    let after-letters-below2 : tie.After-letters-below2 = search in
+    let four : tie.Else4 = search in
+    let after-letters-below : tie.After-letters-below = search in
+    let three : tie.Else3 = search in
+    let left-2 : tie.Else2 = search in
+    let left-1 : tie.Else1 = search in
+    parts-15-loop _ _ _ _ _ (left-1 .if1 .left) (left-2 .if2 .left) (three .if3 .left)
+    (after-letters-below .letters-below .ensures)
     (not-false _ (four .if4 .left))
-    (c .before .letters-below2 .ensures)
+    (after-letters-below2 .letters-below2 .ensures)
     (not-true _ (c .if5 .taken))
 
 mul-if6 : tie.Need-mul-if6
@@ -45,33 +55,43 @@ add-if6 c = search needs
 
 mul-if6-2 : tie.Need-mul-if6-2
 mul-if6-2 c =
-    let three = c .before .before .before .before in
+    let three : tie.Else3 = search in
+    let left-2 : tie.Else2 = search in
+    let start : tie.Start = search in
     record {
       fits =
-          needed-fits _ _ _ (three .before .before .before .before .before .pre) (three .before .if2 .left) (three .if3 .left);
+          needed-fits _ _ _ (start .pre) (left-2 .if2 .left) (three .if3 .left);
     }
 
 returns-6 : tie.Need-returns-6
 returns-6 c =
-    let five = c .before in
-    let four = five .before .before in
-    let three = four .before .before in
-    parts-16 _ _ _ _ _ (three .before .before .if1 .left) (three .before .if2 .left) (three .if3 .left)
-    (four .before .letters-below .ensures)
+    let five : tie.Else5 = search in
+    let after-letters-below2 : tie.After-letters-below2 = search in
+    let four : tie.Else4 = search in
+    let after-letters-below : tie.After-letters-below = search in
+    let three : tie.Else3 = search in
+    let left-2 : tie.Else2 = search in
+    let left-1 : tie.Else1 = search in
+    parts-16 _ _ _ _ _ (left-1 .if1 .left) (left-2 .if2 .left) (three .if3 .left)
+    (after-letters-below .letters-below .ensures)
     (not-false _ (four .if4 .left))
-    (five .before .letters-below2 .ensures)
+    (after-letters-below2 .letters-below2 .ensures)
     (not-false _ (five .if5 .left))
     (c .if6 .taken)
 
 returns-7 : tie.Need-returns-7
 returns-7 c =
-    let five = c .before in
-    let four = five .before .before in
-    let three = four .before .before in
-    parts-pass _ _ _ _ _ (three .before .before .if1 .left) (three .before .if2 .left) (three .if3 .left)
-    (four .before .letters-below .ensures)
+    let five : tie.Else5 = search in
+    let after-letters-below2 : tie.After-letters-below2 = search in
+    let four : tie.Else4 = search in
+    let after-letters-below : tie.After-letters-below = search in
+    let three : tie.Else3 = search in
+    let left-2 : tie.Else2 = search in
+    let left-1 : tie.Else1 = search in
+    parts-pass _ _ _ _ _ (left-1 .if1 .left) (left-2 .if2 .left) (three .if3 .left)
+    (after-letters-below .letters-below .ensures)
     (not-false _ (four .if4 .left))
-    (five .before .letters-below2 .ensures)
+    (after-letters-below2 .letters-below2 .ensures)
     (not-false _ (five .if5 .left))
     (c .if6 .left)
 

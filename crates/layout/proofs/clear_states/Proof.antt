@@ -26,7 +26,9 @@ same-length : tie.Need-same-length
 same-length c = search needs
 
 returns : tie.Need-returns
-returns c = let clean = c .before .before in states-cleared (clean .before .before .before .pre) (clean .clear16 .ensures)
+returns c =
+    let clean : tie.After-clear16 = search in
+    let start : tie.Start = search in states-cleared (start .pre) (clean .clear16 .ensures)
 
 pub clear-states-spec : {M : Type 1} → statement M
 clear-states-spec =

@@ -14,9 +14,9 @@ clear-states-requires c κs = search needs
 
 link-requires : tie.Need-link-requires
 link-requires c κs =
-    let cleared = c .before .before .before in
-    let moved = cleared .before .before .before .before in
-    let start = moved .before .before .before in
+    let cleared : tie.After-clear-states = search in
+    let moved : tie.After-move-up = search in
+    let start : tie.Start = search in
     laid-links (start .args .states) (start .args .letters) (start .args .edges) (now (start .args .words))
     (moved .move-up .last .0)
     (cleared .clear-states .last .0)
@@ -34,11 +34,11 @@ same-length c = search needs
 
 returns : tie.Need-returns
 returns c =
-    let counted = c .before .before in
-    let linked = counted .before .before .before .before in
-    let cleared = linked .before .before .before .before in
-    let moved = cleared .before .before .before .before in
-    let start = moved .before .before .before in
+    let counted : tie.After-write-counts = search in
+    let linked : tie.After-link = search in
+    let cleared : tie.After-clear-states = search in
+    let moved : tie.After-move-up = search in
+    let start : tie.Start = search in
     counted .write-counts .ensures
     ∙ laid-out (start .args .states) (start .args .letters) (start .args .edges) (now (start .args .words))
     (moved .move-up .last .0)

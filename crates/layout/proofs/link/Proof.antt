@@ -13,10 +13,14 @@ abbrev μ-loop : tie.MeasureT-loop
 μ-loop words₀ states edges r₀ words r = edges - r
 
 loop-holds : tie.Need-loop-holds Inv-loop μ-loop
-loop-holds c = linking-start (c .before .pre)
+loop-holds c = let start : tie.Start Inv-loop μ-loop = search in linking-start (start .pre)
 
 link-one-requires : tie.Need-link-one-requires Inv-loop μ-loop
-link-one-requires c κs = linking-asks (c .before .before .before .before .pre) (c .before .before .loop .inv) (c .before .loop-test .taken)
+link-one-requires c κs =
+    let inside-loop : tie.In-loop Inv-loop μ-loop = search in
+    let at-loop : tie.At-loop Inv-loop μ-loop = search in
+    let start : tie.Start Inv-loop μ-loop = search in
+    linking-asks (start .pre) (at-loop .loop .inv) (inside-loop .loop-test .taken)
 
 add-r : tie.Need-add-r Inv-loop μ-loop
 add-r c = search needs
@@ -26,13 +30,16 @@ loop-less c = search needs
 
 loop-again : tie.Need-loop-again Inv-loop μ-loop
 loop-again c =
-    let at = c .before .before .before .before .before in linking-turn (at .before .before .pre) (at .loop .inv) (c .before .before .before .before .loop-test .taken) (c .before .before .link-one .ensures)
+    let after-link-one : tie.After-link-one Inv-loop μ-loop = search in
+    let inside-loop : tie.In-loop Inv-loop μ-loop = search in
+    let at : tie.At-loop Inv-loop μ-loop = search in
+    let start : tie.Start Inv-loop μ-loop = search in linking-turn (start .pre) (at .loop .inv) (inside-loop .loop-test .taken) (after-link-one .link-one .ensures)
 
 same-length : tie.Need-same-length Inv-loop μ-loop
-same-length c = c .before .loop .inv .size
+same-length c = let at-loop : tie.At-loop Inv-loop μ-loop = search in at-loop .loop .inv .size
 
 returns : tie.Need-returns Inv-loop μ-loop
-returns c = linking-end (c .before .loop .inv) (c .loop-test .left)
+returns c = let at-loop : tie.At-loop Inv-loop μ-loop = search in linking-end (at-loop .loop .inv) (c .loop-test .left)
 
 pub link-spec : {M : Type 1} → statement M
 link-spec =

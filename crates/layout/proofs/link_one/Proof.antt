@@ -8,13 +8,6 @@ use Rattle.layout.proofs.Linking.{behind-small, link-one-is}
 use Rattle.layout.proofs.link_one.Statement.{statement}
 use Rattle.layout.proofs.link_one.Tie as tie
 
--- PLACES: where the function begins, where the next is known, and where it is stored and the head set
-abbrev start : tie.After-next-number → tie.Start
-start c = c .before .before .before .before
-
-abbrev next-known : tie.After-set-head → tie.After-next-number
-next-known c = c .before .before
-
 mul-place : tie.Need-mul-place
 mul-place c = search needs
 
@@ -41,8 +34,8 @@ next-number-requires c κs = search needs
 
 cast-words : tie.Need-cast-words
 cast-words c =
-    let at = start c in
-    let small = behind-small (at .args .states) (at .args .edges) (at .args .r) (now (at .args .words)) in
+    let start : tie.Start = search in
+    let small = behind-small (start .args .states) (start .args .edges) (start .args .r) (now (start .args .words)) in
     let is = c .next-number .ensures in record { fits = omega arith }
 
 mul-words : tie.Need-mul-words
@@ -64,15 +57,15 @@ set-head-requires : tie.Need-set-head-requires
 set-head-requires c κs = simp length-set (omega arith)
 
 same-length : tie.Need-same-length
-same-length c = c .before .before .set-head .kept .0 ∙ simp length-set
+same-length c = let after-set-head : tie.After-set-head = search in after-set-head .set-head .kept .0 ∙ simp length-set
 
 returns : tie.Need-returns
 returns c =
-    let head = c .before .before in
-    let next = next-known head in
-    let at = start next in
-    link-one-is (at .args .states) (at .args .edges) (at .args .r) (now (at .args .words)) (next .next-number .result) (head .set-head .last .0)
-    (next .next-number .ensures)
+    let head : tie.After-set-head = search in
+    let next-known : tie.After-next-number = search in
+    let start : tie.Start = search in
+    link-one-is (start .args .states) (start .args .edges) (start .args .r) (now (start .args .words)) (next-known .next-number .result) (head .set-head .last .0)
+    (next-known .next-number .ensures)
     (head .set-head .ensures)
 
 pub link-one-spec : {M : Type 1} → statement M

@@ -47,13 +47,17 @@ loop-less : tie.Need-loop-less Inv-loop μ-loop
 loop-less c = search needs
 
 loop-again : tie.Need-loop-again Inv-loop μ-loop
-loop-again c = move-turn (c .before .before .before .pre) (c .before .before .loop .inv) (c .before .loop-test .taken)
+loop-again c =
+    let inside-loop : tie.In-loop Inv-loop μ-loop = search in
+    let at-loop : tie.At-loop Inv-loop μ-loop = search in
+    let start : tie.Start Inv-loop μ-loop = search in
+    move-turn (start .pre) (at-loop .loop .inv) (inside-loop .loop-test .taken)
 
 same-length : tie.Need-same-length Inv-loop μ-loop
-same-length c = c .before .loop .inv .size
+same-length c = let at-loop : tie.At-loop Inv-loop μ-loop = search in at-loop .loop .inv .size
 
 returns : tie.Need-returns Inv-loop μ-loop
-returns c = move-end (c .before .loop .inv) (c .loop-test .left)
+returns c = let at-loop : tie.At-loop Inv-loop μ-loop = search in move-end (at-loop .loop .inv) (c .loop-test .left)
 
 pub move-up-spec : {M : Type 1} → statement M
 move-up-spec =

@@ -40,16 +40,19 @@ add-result c = search needs
 
 returns : tie.Need-returns
 returns c =
-    let start = c .before .before .before .before in
-    behind-same (start .args .states) (start .args .edges) (start .args .r) (now (start .args .words)) (c .before .before .before .if1 .taken) (c .if2 .taken)
+    let taken-1 : tie.Then1 = search in
+    let start : tie.Start = search in
+    behind-same (start .args .states) (start .args .edges) (start .args .r) (now (start .args .words)) (taken-1 .if1 .taken) (c .if2 .taken)
 
 returns-2 : tie.Need-returns-2
 returns-2 c =
-    let start = c .before .before .before .before in
+    let start : tie.Start = search in
     behind-differs (start .args .states) (start .args .edges) (start .args .r) (now (start .args .words)) (c .if2 .left)
 
 returns-3 : tie.Need-returns-3
-returns-3 c = behind-last (c .before .args .states) (c .before .args .edges) (c .before .args .r) (now (c .before .args .words)) (c .if1 .left)
+returns-3 c =
+    let begun : tie.Start = search in
+    behind-last (begun .args .states) (begun .args .edges) (begun .args .r) (now (begun .args .words)) (c .if1 .left)
 
 pub next-number-spec : {M : Type 1} → statement M
 next-number-spec =

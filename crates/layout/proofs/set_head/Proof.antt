@@ -25,12 +25,12 @@ same-length c = search needs
 
 returns : tie.Need-returns
 returns c =
-    let start = c .before .before in
+    let start : tie.Start = search in
     with-head-new (start .args .head) (start .args .number) (now (start .args .words)) (c .if1 .taken)
 
 returns-2 : tie.Need-returns-2
 returns-2 c =
-    let start = c .before .before in
+    let start : tie.Start = search in
     with-head-old (start .args .head) (start .args .number) (now (start .args .words)) (c .if1 .left)
 
 pub set-head-spec : {M : Type 1} → statement M

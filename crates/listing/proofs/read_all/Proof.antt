@@ -13,14 +13,6 @@ Inv-loop table₀ so-far₀ turns₀ table so-far turns = (length table ≡ leng
 abbrev μ-loop : tie.MeasureT-loop
 μ-loop table₀ so-far₀ turns₀ table so-far turns = turns
 
--- the places of one turn: the read, where its answer is tested, and the loop's test
-module _ (c : tie.After-struct-told Inv-loop μ-loop) where
-  abbrev read : tie.After-read-some Inv-loop μ-loop
-  read = c .before .before .before .before
-
-  abbrev turn : tie.In-loop Inv-loop μ-loop
-  turn = read .before .before
-
 start-requires : tie.Need-start-requires Inv-loop μ-loop
 start-requires c κs = tt
 
@@ -28,30 +20,36 @@ loop-holds : tie.Need-loop-holds Inv-loop μ-loop
 loop-holds c = (refl, ready-start _ (c .start .ensures))
 
 read-some-requires : tie.Need-read-some-requires Inv-loop μ-loop
-read-some-requires c κs = c .before .before .loop .inv .1
+read-some-requires c κs = let at-loop : tie.At-loop Inv-loop μ-loop = search in at-loop .loop .inv .1
 
 same-length : tie.Need-same-length Inv-loop μ-loop
-same-length c = read (c .before) .read-some .kept .1 .0 ∙ turn (c .before) .before .loop .inv .0
+same-length c =
+    let read : tie.After-read-some Inv-loop μ-loop = search in
+    let at-loop : tie.At-loop Inv-loop μ-loop = search in
+    read .read-some .kept .1 .0 ∙ at-loop .loop .inv .0
 
 returns : tie.Need-returns Inv-loop μ-loop
-returns c = read (c .before) .read-some .ensures
+returns c = let read : tie.After-read-some Inv-loop μ-loop = search in read .read-some .ensures
 
 sub-turns : tie.Need-sub-turns Inv-loop μ-loop
-sub-turns c = turn (c .before .before) .loop-test .taken
+sub-turns c = let turn : tie.In-loop Inv-loop μ-loop = search in turn .loop-test .taken
 
 loop-less : tie.Need-loop-less Inv-loop μ-loop
-loop-less c = omega (arith, turn (c .before .before) .loop-test .taken)
+loop-less c =
+    let turn : tie.In-loop Inv-loop μ-loop = search in
+    omega (arith, turn .loop-test .taken)
 
 loop-again : tie.Need-loop-again Inv-loop μ-loop
 loop-again c =
-    let told : tie.After-struct-told Inv-loop μ-loop = c .before .before in
-    (read told .read-some .kept .1 .0 ∙ turn told .before .loop .inv .0, read told .read-some .ensures)
+    let read : tie.After-read-some Inv-loop μ-loop = search in
+    let at-loop : tie.At-loop Inv-loop μ-loop = search in
+    (read .read-some .kept .1 .0 ∙ at-loop .loop .inv .0, read .read-some .ensures)
 
 same-length-2 : tie.Need-same-length-2 Inv-loop μ-loop
-same-length-2 c = c .before .loop .inv .0
+same-length-2 c = let at-loop : tie.At-loop Inv-loop μ-loop = search in at-loop .loop .inv .0
 
 returns-2 : tie.Need-returns-2 Inv-loop μ-loop
-returns-2 c = c .before .loop .inv .1
+returns-2 c = let at-loop : tie.At-loop Inv-loop μ-loop = search in at-loop .loop .inv .1
 
 pub read-all-spec : {M : Type 1} → statement M
 read-all-spec =

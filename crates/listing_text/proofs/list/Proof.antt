@@ -2,7 +2,6 @@
 use borrow.Author.Needs.{needs}
 use Rattle.listing_text.proofs.Whole.{listing-right}
 use Rattle.tables.specs.Table.{pattern-range}
-use Rattle.complement.specs.Build.{words-needed}
 use Rattle.listing_text.specs.Listing.{listing-bounds}
 use Rattle.listing_text.proofs.list.Statement.{statement}
 use Rattle.listing_text.proofs.list.Tie as tie
@@ -11,7 +10,7 @@ list-read-requires : tie.Need-list-read-requires
 list-read-requires c κs = search needs
 
 returns : tie.Need-returns
-unfolding listing-bounds words-needed pattern-range
+unfolding listing-bounds pattern-range
 returns c = record { listed = c .list-read .ensures; of-input = listing-right (search needs) }
 
 pub list-spec : {M : Type 1} → statement M

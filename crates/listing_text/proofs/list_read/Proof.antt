@@ -20,15 +20,16 @@ same-length-2 c = search needs
 
 returns : tie.Need-returns
 returns c =
-    let refused : tie.After-put-refused = c .before .before in
-    let test : tie.Then1 = refused .before .before in
-    listed-failed (test .before .before .before .ended .ensures) (test .if1 .taken) (refused .put-refused .ensures)
+    let refused : tie.After-put-refused = search in
+    let test : tie.Then1 = search in
+    let after-ended : tie.After-ended = search in
+    listed-failed (after-ended .ended .ensures) (test .if1 .taken) (refused .put-refused .ensures)
 
 slice-reshare-prefix-list-table : tie.Need-slice-reshare-prefix-list-table
 slice-reshare-prefix-list-table c = search needs
 
 slice-aggregate-list-table : tie.Need-slice-aggregate-list-table
-slice-aggregate-list-table c = sym (counts (c .before .before .before .before .ended .ensures .ready))
+slice-aggregate-list-table c = let after-ended : tie.After-ended = search in sym (counts (after-ended .ended .ensures .ready))
 
 list-table-requires : tie.Need-list-table-requires
 list-table-requires c κs = search needs
@@ -41,9 +42,10 @@ same-length-4 c = search needs
 
 returns-2 : tie.Need-returns-2
 returns-2 c =
-    let written : tie.After-list-table = c .before .before in
-    let test : tie.Else1 = written .before .before .before in
-    listed-read (test .before .before .before .ended .ensures) (test .if1 .left) (written .list-table .ensures)
+    let written : tie.After-list-table = search in
+    let test : tie.Else1 = search in
+    let after-ended : tie.After-ended = search in
+    listed-read (after-ended .ended .ensures) (test .if1 .left) (written .list-table .ensures)
 
 pub list-read-spec : {M : Type 1} → statement M
 list-read-spec =

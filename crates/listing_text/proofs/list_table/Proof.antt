@@ -34,8 +34,8 @@ slice-aggregate-put-answer-2 c = search needs
 put-answer-requires : tie.Need-put-answer-requires
 unfolding record-words
 put-answer-requires c κs =
-    let built : tie.After-build-complement = c .before .before .before .before .before in
-    let entry : tie.Start = built .before .before .before .before .before in
+    let built : tie.After-build-complement = search in
+    let entry : tie.Start = search in
     let kept = built .build-complement .kept .1 in
     (printable (built .build-complement .ensures) lent-room (kept .0) (kept .1 .0), entry .pre)
 
@@ -45,9 +45,8 @@ same-length c = search needs
 returns : tie.Need-returns
 unfolding record-words
 returns c =
-    let written : tie.After-put-answer = c .before .before in
-    let arg : tie.After-put-answer-arg = written .before in
-    let built : tie.After-build-complement = arg .before .before .before .before .before in
+    let written : tie.After-put-answer = search in
+    let built : tie.After-build-complement = search in
     answer-put (built .build-complement .ensures) lent-room (written .put-answer .ensures)
 
 pub list-table-spec : {M : Type 1} → statement M

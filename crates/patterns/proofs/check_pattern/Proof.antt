@@ -7,10 +7,14 @@ check-refusal-requires : tie.Need-check-refusal-requires
 check-refusal-requires c κs = tt
 
 returns : tie.Need-returns
-returns c = answer-passed _ _ (c .before .check-refusal .ensures) (c .if1 .taken)
+returns c =
+    let after-check-refusal : tie.After-check-refusal = search in
+    answer-passed _ _ (after-check-refusal .check-refusal .ensures) (c .if1 .taken)
 
 returns-2 : tie.Need-returns-2
-returns-2 c = answer-refused _ _ (c .before .check-refusal .ensures) (c .if1 .left)
+returns-2 c =
+    let after-check-refusal : tie.After-check-refusal = search in
+    answer-refused _ _ (after-check-refusal .check-refusal .ensures) (c .if1 .left)
 
 pub check-pattern-spec : {M : Type 1} → statement M
 check-pattern-spec = tie.close (tie.spec check-refusal-requires returns returns-2)

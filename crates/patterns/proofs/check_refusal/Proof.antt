@@ -13,14 +13,17 @@ enum-known-number c = search needs
 
 returns : tie.Need-returns
 returns c =
-    let refused = c .before in
-    reading-refused _ _ (sym (refused .number .given .1) ∙ refused .before .before .read-pattern .ensures .0)
+    let refused : tie.After-number = search in
+    let after-read-pattern : tie.After-read-pattern = search in
+    reading-refused _ _ (sym (refused .number .given .1) ∙ after-read-pattern .read-pattern .ensures .0)
 
 enum-told : tie.Need-enum-told
 enum-told c = search needs
 
 returns-2 : tie.Need-returns-2
-returns-2 c = reading-passed _ _ (sym (c .enum-told .given .1) ∙ c .before .before .read-pattern .ensures .0)
+returns-2 c =
+    let after-read-pattern : tie.After-read-pattern = search in
+    reading-passed _ _ (sym (c .enum-told .given .1) ∙ after-read-pattern .read-pattern .ensures .0)
 
 pub check-refusal-spec : {M : Type 1} → statement M
 check-refusal-spec =

@@ -19,12 +19,14 @@ loop-holds c = (omega arith, rounds-start _ _ _)
 
 grown-requires : tie.Need-grown-requires Inv-loop μ-loop
 grown-requires c κs =
-    let start = c .before .before .before in narrow (start .args .t1) _ (start .good .0)
+    let start : tie.Start Inv-loop μ-loop = search in narrow (start .args .t1) _ (start .good .0)
 
 returns : tie.Need-returns Inv-loop μ-loop
 returns c =
-    rounds-stop _ _ _ _ _ _ _ (c .before .before .before .before .loop .inv .0) (c .before .before .before .before .loop .inv .1)
-    (c .before .grown .ensures) (c .if1 .taken)
+    let after-grown : tie.After-grown Inv-loop μ-loop = search in
+    let turn : tie.At-loop Inv-loop μ-loop = search in
+    rounds-stop _ _ _ _ _ _ _ (turn .loop .inv .0) (turn .loop .inv .1)
+    (after-grown .grown .ensures) (c .if1 .taken)
 
 add-round : tie.Need-add-round Inv-loop μ-loop
 add-round c = omega arith
@@ -33,10 +35,15 @@ loop-less : tie.Need-loop-less Inv-loop μ-loop
 loop-less c = omega arith
 
 loop-again : tie.Need-loop-again Inv-loop μ-loop
-loop-again c = (omega arith, round-turn _ _ _ _ _ _ (c .before .before .before .before .loop .inv .1) (c .before .grown .ensures))
+loop-again c =
+    let after-grown : tie.After-grown Inv-loop μ-loop = search in
+    let turn : tie.At-loop Inv-loop μ-loop = search in
+    (omega arith, round-turn _ _ _ _ _ _ (turn .loop .inv .1) (after-grown .grown .ensures))
 
 returns-2 : tie.Need-returns-2 Inv-loop μ-loop
-returns-2 c = rounds-end _ _ _ _ _ _ (c .before .loop .inv .0) (c .loop-test .left) (c .before .loop .inv .1)
+returns-2 c =
+    let turn : tie.At-loop Inv-loop μ-loop = search in
+    rounds-end _ _ _ _ _ _ (turn .loop .inv .0) (c .loop-test .left) (turn .loop .inv .1)
 
 pub closure-spec : {M : Type 1} → statement M
 closure-spec =

@@ -2,8 +2,8 @@
 -- `state`. Assumes nothing.
 use Prim.Native.Nat.{_-_, _<_}
 use native.Mathlib.Omega.{arith}
+use Rattle.sets.specs.Sets.{set-states}
 use Rattle.tables.specs.Table.{meaning, n-of}
-use Rattle.patterns.specs.Masks.{mask-rows}
 use Rattle.patterns.proofs.Flags.{Gathered, gathered-start, gathered-small, gathered-reads, initial-turn, accepting-turn, initial-end, accepting-end}
 use Rattle.patterns.proofs.flagged_states.Statement.{statement}
 use Rattle.patterns.proofs.flagged_states.Tie as tie
@@ -18,10 +18,15 @@ abbrev μ-loop : tie.MeasureT-loop
 -- what is known at each turn
 module _ (c : tie.In-loop Inv-loop μ-loop) where
   abbrev counted : tie.After-states-of Inv-loop μ-loop
-  counted = c .before .before
+  counted = search
 
-  small : c .before .loop .state < mask-rows
-  small = gathered-small _ (counted .before .before .pre) _ _ (counted .states-of .ensures .is) (c .loop-test .taken)
+  abbrev turn : tie.At-loop Inv-loop μ-loop
+  turn = search
+
+  small : turn .loop .state < set-states
+  small =
+      let begun : tie.Start Inv-loop μ-loop = search in
+      gathered-small _ (begun .pre) _ _ (counted .states-of .ensures .is) (c .loop-test .taken)
 
 states-of-requires : tie.Need-states-of-requires Inv-loop μ-loop
 states-of-requires c κs = tt
@@ -31,46 +36,52 @@ loop-holds c = (gathered-start _ _, gathered-start _ _)
 
 flags-of-requires : tie.Need-flags-of-requires Inv-loop μ-loop
 flags-of-requires c κs =
-    gathered-reads _ (counted c .before .before .pre) _ _ (counted c .states-of .ensures .is) (c .loop-test .taken)
+    let counted : tie.After-states-of Inv-loop μ-loop = search in
+    let begun : tie.Start Inv-loop μ-loop = search in
+    gathered-reads _ (begun .pre) _ _ (counted .states-of .ensures .is) (c .loop-test .taken)
 
 cast-flags : tie.Need-cast-flags Inv-loop μ-loop
 cast-flags c = omega (arith, c .flags-of .ensures .small)
 
 cast-initial : tie.Need-cast-initial Inv-loop μ-loop
-cast-initial c = omega (arith, small (c .before))
+cast-initial c = let inside-loop : tie.In-loop Inv-loop μ-loop = search in omega (arith, small inside-loop)
 
 shl-initial : tie.Need-shl-initial Inv-loop μ-loop
-shl-initial c = small (c .before)
+shl-initial c = let inside-loop : tie.In-loop Inv-loop μ-loop = search in small inside-loop
 
 cast-accepting : tie.Need-cast-accepting Inv-loop μ-loop
-cast-accepting c = omega (arith, small (c .before))
+cast-accepting c = let inside-loop : tie.In-loop Inv-loop μ-loop = search in omega (arith, small inside-loop)
 
 shl-accepting : tie.Need-shl-accepting Inv-loop μ-loop
-shl-accepting c = small (c .before)
+shl-accepting c = let inside-loop : tie.In-loop Inv-loop μ-loop = search in small inside-loop
 
 add-state : tie.Need-add-state Inv-loop μ-loop
-add-state c = omega (arith, small (c .before))
+add-state c = let inside-loop : tie.In-loop Inv-loop μ-loop = search in omega (arith, small inside-loop)
 
 loop-less : tie.Need-loop-less Inv-loop μ-loop
-loop-less c = omega (arith, c .before .loop-test .taken)
+loop-less c = let inside-loop : tie.In-loop Inv-loop μ-loop = search in omega (arith, inside-loop .loop-test .taken)
 
 loop-again : tie.Need-loop-again Inv-loop μ-loop
 loop-again c =
-    let turn = c .before in
-    let start = counted turn .before .before in
-    let is = counted turn .states-of .ensures .is in
-    let inv = turn .before .loop .inv in (
+    let turn : tie.In-loop Inv-loop μ-loop = search in
+    let at-loop : tie.At-loop Inv-loop μ-loop = search in
+    let counted : tie.After-states-of Inv-loop μ-loop = search in
+    let start : tie.Start Inv-loop μ-loop = search in
+    let is = counted .states-of .ensures .is in
+    let inv = at-loop .loop .inv in (
       initial-turn _ (start .pre) _ _ is _ (c .flags-of .ensures .is) (turn .loop-test .taken) _ (inv .0),
       accepting-turn _ (start .pre) _ _ is _ (c .flags-of .ensures .is) (turn .loop-test .taken) _ (inv .1),
     )
 
 returns : tie.Need-returns Inv-loop μ-loop
 returns c =
-    let counted = c .before .before in
+    let at-loop : tie.At-loop Inv-loop μ-loop = search in
+    let counted : tie.After-states-of Inv-loop μ-loop = search in
+    let begun : tie.Start Inv-loop μ-loop = search in
     let is = counted .states-of .ensures .is in
-    let inv = c .before .loop .inv in (
-      initial-end _ (counted .before .before .pre) _ _ is _ (c .loop-test .left) (inv .0),
-      accepting-end _ (counted .before .before .pre) _ _ is _ (c .loop-test .left) (inv .1),
+    let inv = at-loop .loop .inv in (
+      initial-end _ (begun .pre) _ _ is _ (c .loop-test .left) (inv .0),
+      accepting-end _ (begun .pre) _ _ is _ (c .loop-test .left) (inv .1),
     )
 
 pub flagged-states-spec : {M : Type 1} → statement M

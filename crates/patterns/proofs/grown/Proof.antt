@@ -17,7 +17,7 @@ loop-holds : tie.Need-loop-holds Inv-loop μ-loop
 loop-holds c = (omega arith, joined-start _ (c .args .letters) _)
 
 targets-requires : tie.Need-targets-requires Inv-loop μ-loop
-targets-requires c κs = c .before .before .pre
+targets-requires c κs = let start : tie.Start Inv-loop μ-loop = search in start .pre
 
 add-letter : tie.Need-add-letter Inv-loop μ-loop
 add-letter c = omega arith
@@ -27,10 +27,14 @@ loop-less c = omega arith
 
 loop-again : tie.Need-loop-again Inv-loop μ-loop
 loop-again c =
-    (omega arith, joined-turn _ (c .before .before .before .args .letters) _ _ _ (c .before .before .loop .inv .1) _ (c .targets .ensures))
+    let turn : tie.At-loop Inv-loop μ-loop = search in
+    let start : tie.Start Inv-loop μ-loop = search in
+    (omega arith, joined-turn _ (start .args .letters) _ _ _ (turn .loop .inv .1) _ (c .targets .ensures))
 
 returns : tie.Need-returns Inv-loop μ-loop
-returns c = joined-end _ _ _ _ _ (c .before .loop .inv .0) (c .loop-test .left) (c .before .loop .inv .1)
+returns c =
+    let turn : tie.At-loop Inv-loop μ-loop = search in
+    joined-end _ _ _ _ _ (turn .loop .inv .0) (c .loop-test .left) (turn .loop .inv .1)
 
 pub grown-spec : {M : Type 1} → statement M
 grown-spec =

@@ -11,44 +11,43 @@ table-refusal-requires c κs = tt
 returns : tie.Need-returns
 unfolding pattern-range
 returns c =
-    let told = c .before .table-refusal .ensures in
+    let after-table-refusal : tie.After-table-refusal = search in
+    let told = after-table-refusal .table-refusal .ensures in
     (table-refused _ _ told (c .if1 .taken), masks-kept _ _ told (c .if1 .taken) _)
 
 spread-out-requires : tie.Need-spread-out-requires
 unfolding pattern-range
-spread-out-requires c κs = table-passed _ _ (c .before .before .table-refusal .ensures) (c .before .if1 .left)
-
--- what is known once the masks are spread out
-module _ (c : tie.After-spread-out) where
-  abbrev passed : tie.Else1
-  passed = c .before .before
-
--- and once the shape is read
-module _ (c : tie.After-shape-of) where
-  abbrev spread : tie.After-spread-out
-  spread = c .before .before
+spread-out-requires c κs =
+    let left-1 : tie.Else1 = search in
+    let after-table-refusal : tie.After-table-refusal = search in
+    table-passed _ _ (after-table-refusal .table-refusal .ensures) (left-1 .if1 .left)
 
 shape-of-requires : tie.Need-shape-of-requires
 unfolding pattern-range
 shape-of-requires c κs =
-    let spread = c .before in
-    asks-shape _ _ (passed spread .before .table-refusal .ensures) (passed spread .if1 .left) _ (spread .spread-out .ensures)
+    let spread : tie.After-spread-out = search in
+    let passed : tie.Else1 = search in
+    let after-table-refusal : tie.After-table-refusal = search in
+    asks-shape _ _ (after-table-refusal .table-refusal .ensures) (passed .if1 .left) _ (spread .spread-out .ensures)
 
 some-fork-requires : tie.Need-some-fork-requires
 unfolding pattern-range
 some-fork-requires c κs =
-    let shaped = c .before in
-    let passed = passed (spread shaped) in
-    asks-small _ _ (passed .before .table-refusal .ensures) (passed .if1 .left) _ (shaped .shape-of .ensures)
+    let shaped : tie.After-shape-of = search in
+    let passed : tie.Else1 = search in
+    let after-table-refusal : tie.After-table-refusal = search in
+    asks-small _ _ (after-table-refusal .table-refusal .ensures) (passed .if1 .left) _ (shaped .shape-of .ensures)
 
 returns-2 : tie.Need-returns-2
 unfolding pattern-range
 returns-2 c =
-    let searched = c .before in
-    let shaped = searched .before .before in
-    let masked = spread shaped .spread-out .ensures in
-    let passed = passed (spread shaped) in
-    let told = passed .before .table-refusal .ensures in (
+    let searched : tie.After-some-fork = search in
+    let shaped : tie.After-shape-of = search in
+    let spread : tie.After-spread-out = search in
+    let passed : tie.Else1 = search in
+    let after-table-refusal : tie.After-table-refusal = search in
+    let masked = spread .spread-out .ensures in
+    let told = after-table-refusal .table-refusal .ensures in (
       fork-refused _ _ told (passed .if1 .left) _ masked _ (shaped .shape-of .ensures) _ (searched .some-fork .ensures) (c .if2 .taken),
       masks-spread _ _ told (passed .if1 .left) _ masked _,
     )
@@ -56,11 +55,13 @@ returns-2 c =
 returns-3 : tie.Need-returns-3
 unfolding pattern-range
 returns-3 c =
-    let searched = c .before in
-    let shaped = searched .before .before in
-    let masked = spread shaped .spread-out .ensures in
-    let passed = passed (spread shaped) in
-    let told = passed .before .table-refusal .ensures in (
+    let searched : tie.After-some-fork = search in
+    let shaped : tie.After-shape-of = search in
+    let spread : tie.After-spread-out = search in
+    let passed : tie.Else1 = search in
+    let after-table-refusal : tie.After-table-refusal = search in
+    let masked = spread .spread-out .ensures in
+    let told = after-table-refusal .table-refusal .ensures in (
       even-passed _ _ told (passed .if1 .left) _ masked _ (shaped .shape-of .ensures) _ (searched .some-fork .ensures) (c .if2 .left),
       masks-spread _ _ told (passed .if1 .left) _ masked _,
     )

@@ -29,8 +29,11 @@ array-read-if1 c = omega arith
 
 returns : tie.Need-returns Inv-loop μ-loop
 returns c =
-    let fits : Fits w32 (getD (c .before .before .before .args .t1) (c .before .before .loop .letter) 0) = search needs in
-    sym (row-hit _ _ _ (c .before .loop-test .taken) (fits .fits) (c .if1 .taken))
+    let inside-loop : tie.In-loop Inv-loop μ-loop = search in
+    let turn : tie.At-loop Inv-loop μ-loop = search in
+    let start : tie.Start Inv-loop μ-loop = search in
+    let fits : Fits w32 (getD (start .args .t1) (turn .loop .letter) 0) = search needs in
+    sym (row-hit _ _ _ (inside-loop .loop-test .taken) (fits .fits) (c .if1 .taken))
 
 add-letter : tie.Need-add-letter Inv-loop μ-loop
 add-letter c = omega arith
@@ -40,11 +43,14 @@ loop-less c = omega arith
 
 loop-again : tie.Need-loop-again Inv-loop μ-loop
 loop-again c =
-    let fits : Fits w32 (getD (c .before .before .before .args .t1) (c .before .before .loop .letter) 0) = search needs in
-    row-turn _ _ _ (c .before .loop-test .taken) (fits .fits) (c .if1 .left) (c .before .before .loop .inv)
+    let inside-loop : tie.In-loop Inv-loop μ-loop = search in
+    let turn : tie.At-loop Inv-loop μ-loop = search in
+    let start : tie.Start Inv-loop μ-loop = search in
+    let fits : Fits w32 (getD (start .args .t1) (turn .loop .letter) 0) = search needs in
+    row-turn _ _ _ (inside-loop .loop-test .taken) (fits .fits) (c .if1 .left) (turn .loop .inv)
 
 returns-2 : tie.Need-returns-2 Inv-loop μ-loop
-returns-2 c = sym (row-end _ _ _ (c .loop-test .left) (c .before .loop .inv))
+returns-2 c = let turn : tie.At-loop Inv-loop μ-loop = search in sym (row-end _ _ _ (c .loop-test .left) (turn .loop .inv))
 
 pub row-forks-spec : {M : Type 1} → statement M
 row-forks-spec =

@@ -14,51 +14,51 @@ abbrev μ-loop : tie.MeasureT-loop
 μ-loop table states state row₀ at₀ row at = left (m-of table) at
 
 head-of-requires : tie.Need-head-of-requires Inv-loop μ-loop
-head-of-requires c κs = walk-state _ _ _ (c .before .pre)
+head-of-requires c κs = let begun : tie.Start Inv-loop μ-loop = search in walk-state _ _ _ (begun .pre)
 
 loop-holds : tie.Need-loop-holds Inv-loop μ-loop
-loop-holds c = walk-start _ _ _ (c .before .before .pre) _ (c .head-of .ensures .is)
-
--- what is known at each turn, and once the record is read
-module _ (c : tie.In-loop Inv-loop μ-loop) where
-  abbrev start : tie.Start Inv-loop μ-loop
-  start = c .before .before .before .before
-
-module _ (c : tie.After-next-of Inv-loop μ-loop) where
-  abbrev aimed : tie.After-target-of Inv-loop μ-loop
-  aimed = c .before
-
-  abbrev spelled : tie.After-letter-of Inv-loop μ-loop
-  spelled = aimed .before
-
-  abbrev turn : tie.In-loop Inv-loop μ-loop
-  turn = spelled .before
+loop-holds c = let begun : tie.Start Inv-loop μ-loop = search in walk-start _ _ _ (begun .pre) _ (c .head-of .ensures .is)
 
 letter-of-requires : tie.Need-letter-of-requires Inv-loop μ-loop
-letter-of-requires c κs = walk-record _ _ _ (start c .pre) _ _ (c .loop-test .taken) (c .before .loop .inv)
+letter-of-requires c κs =
+    let at-loop : tie.At-loop Inv-loop μ-loop = search in
+    let start : tie.Start Inv-loop μ-loop = search in
+    walk-record _ _ _ (start .pre) _ _ (c .loop-test .taken) (at-loop .loop .inv)
 
 target-of-requires : tie.Need-target-of-requires Inv-loop μ-loop
 target-of-requires c κs =
-    let turn = c .before in
-    walk-record _ _ _ (start turn .pre) _ _ (turn .loop-test .taken) (turn .before .loop .inv)
+    let turn : tie.In-loop Inv-loop μ-loop = search in
+    let at-loop : tie.At-loop Inv-loop μ-loop = search in
+    let start : tie.Start Inv-loop μ-loop = search in
+    walk-record _ _ _ (start .pre) _ _ (turn .loop-test .taken) (at-loop .loop .inv)
 
 next-of-requires : tie.Need-next-of-requires Inv-loop μ-loop
 next-of-requires c κs =
-    let turn = c .before .before in
-    walk-record _ _ _ (start turn .pre) _ _ (turn .loop-test .taken) (turn .before .loop .inv)
+    let turn : tie.In-loop Inv-loop μ-loop = search in
+    let at-loop : tie.At-loop Inv-loop μ-loop = search in
+    let start : tie.Start Inv-loop μ-loop = search in
+    walk-record _ _ _ (start .pre) _ _ (turn .loop-test .taken) (at-loop .loop .inv)
 
 array-read-row : tie.Need-array-read-row Inv-loop μ-loop
 array-read-row c =
-    walk-letter _ _ _ (start (turn c) .pre) _ _ _ (turn c .loop-test .taken) (turn c .before .loop .inv)
-    (spelled c .letter-of .ensures .is)
+    let spelled : tie.After-letter-of Inv-loop μ-loop = search in
+    let turn : tie.In-loop Inv-loop μ-loop = search in
+    let at-loop : tie.At-loop Inv-loop μ-loop = search in
+    let start : tie.Start Inv-loop μ-loop = search in
+    walk-letter _ _ _ (start .pre) _ _ _ (turn .loop-test .taken) (at-loop .loop .inv)
+    (spelled .letter-of .ensures .is)
 
 mul-row : tie.Need-mul-row Inv-loop μ-loop
 mul-row c = omega (arith, array-read-row c)
 
 shl-row : tie.Need-shl-row Inv-loop μ-loop
 shl-row c =
-    walk-target _ _ _ (start (turn c) .pre) _ _ _ (turn c .loop-test .taken) (turn c .before .loop .inv)
-    (aimed c .target-of .ensures .is)
+    let aimed : tie.After-target-of Inv-loop μ-loop = search in
+    let turn : tie.In-loop Inv-loop μ-loop = search in
+    let at-loop : tie.At-loop Inv-loop μ-loop = search in
+    let start : tie.Start Inv-loop μ-loop = search in
+    walk-target _ _ _ (start .pre) _ _ _ (turn .loop-test .taken) (at-loop .loop .inv)
+    (aimed .target-of .ensures .is)
 
 cast-row : tie.Need-cast-row Inv-loop μ-loop
 cast-row c = omega (arith, shl-row c)
@@ -71,17 +71,27 @@ mul-row-2 c = omega (arith, array-write-row c)
 
 loop-less : tie.Need-loop-less Inv-loop μ-loop
 loop-less c =
-    walk-less _ _ _ (start (turn c) .pre) _ _ _ (turn c .loop-test .taken) (turn c .before .loop .inv)
+    let turn : tie.In-loop Inv-loop μ-loop = search in
+    let at-loop : tie.At-loop Inv-loop μ-loop = search in
+    let start : tie.Start Inv-loop μ-loop = search in
+    walk-less _ _ _ (start .pre) _ _ _ (turn .loop-test .taken) (at-loop .loop .inv)
     (c .next-of .ensures .is)
 
 loop-again : tie.Need-loop-again Inv-loop μ-loop
 loop-again c =
-    walk-turn _ _ _ (start (turn c) .pre) _ _ _ _ _ (turn c .loop-test .taken) (turn c .before .loop .inv)
-    (spelled c .letter-of .ensures .is) (aimed c .target-of .ensures .is) (c .next-of .ensures .is)
+    let aimed : tie.After-target-of Inv-loop μ-loop = search in
+    let spelled : tie.After-letter-of Inv-loop μ-loop = search in
+    let turn : tie.In-loop Inv-loop μ-loop = search in
+    let at-loop : tie.At-loop Inv-loop μ-loop = search in
+    let start : tie.Start Inv-loop μ-loop = search in
+    walk-turn _ _ _ (start .pre) _ _ _ _ _ (turn .loop-test .taken) (at-loop .loop .inv)
+    (spelled .letter-of .ensures .is) (aimed .target-of .ensures .is) (c .next-of .ensures .is)
 
 returns : tie.Need-returns Inv-loop μ-loop
 returns c =
-    walk-end _ _ _ (c .before .before .before .before .pre) _ _ (c .loop-test .left) (c .before .loop .inv)
+    let at-loop : tie.At-loop Inv-loop μ-loop = search in
+    let begun : tie.Start Inv-loop μ-loop = search in
+    walk-end _ _ _ (begun .pre) _ _ (c .loop-test .left) (at-loop .loop .inv)
 
 pub row-of-spec : {M : Type 1} → statement M
 row-of-spec =

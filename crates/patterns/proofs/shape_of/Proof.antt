@@ -10,19 +10,20 @@ letters-of-requires : tie.Need-letters-of-requires
 letters-of-requires c κs = tt
 
 flagged-states-requires : tie.Need-flagged-states-requires
-flagged-states-requires c κs = c .before .before .before .pre .pattern
+flagged-states-requires c κs = let begun : tie.Start = search in begun .pre .pattern
 
 closure-requires : tie.Need-closure-requires
 closure-requires c κs = tt
 
 returns : tie.Need-returns
 returns c =
-    let closed = c .before in
-    let gathered = closed .before .before in
-    let counted = gathered .before in
-    let start = counted .before .before .before in
+    let closed : tie.After-closure = search in
+    let gathered : tie.After-flagged-states = search in
+    let counted : tie.After-letters-of = search in
+    let after-states-of : tie.After-states-of = search in
+    let start : tie.Start = search in
     shape-right _ _ (start .pre) _ _ _ _ _
-    (counted .before .states-of .ensures .is)
+    (after-states-of .states-of .ensures .is)
     (counted .letters-of .ensures .is)
     (gathered .flagged-states .ensures .0)
     (gathered .flagged-states .ensures .1)

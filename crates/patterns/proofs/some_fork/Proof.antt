@@ -13,46 +13,47 @@ Inv-loop masks shape states state₀ state = None-below (state-forked masks shap
 abbrev μ-loop : tie.MeasureT-loop
 μ-loop masks shape states state₀ state = states - state
 
--- what is known once a state was tested
-module _ (c : tie.After-state-forks Inv-loop μ-loop) where
-  abbrev turn : tie.In-loop Inv-loop μ-loop
-  turn = c .before .before
-
-  abbrev start : tie.Start Inv-loop μ-loop
-  start = turn .before .before
-
 loop-holds : tie.Need-loop-holds Inv-loop μ-loop
 loop-holds c = none-start _ _
 
 mul-state-forks : tie.Need-mul-state-forks Inv-loop μ-loop
-mul-state-forks c = omega (arith, c .before .before .pre .states)
+mul-state-forks c = let begun : tie.Start Inv-loop μ-loop = search in omega (arith, begun .pre .states)
 
 element-copy-out-state-forks : tie.Need-element-copy-out-state-forks Inv-loop μ-loop
-element-copy-out-state-forks c = omega (arith, c .before .before .pre .states)
+element-copy-out-state-forks c = let begun : tie.Start Inv-loop μ-loop = search in omega (arith, begun .pre .states)
 
 state-forks-requires : tie.Need-state-forks-requires Inv-loop μ-loop
 state-forks-requires c κs =
-    let start = c .before .before .before in (start .pre, omega (arith, start .pre .states))
+    let start : tie.Start Inv-loop μ-loop = search in (start .pre, omega (arith, start .pre .states))
 
 returns : tie.Need-returns Inv-loop μ-loop
 returns c =
-    let tested = c .before in
-    sym (states-hit _ _ _ _ (turn tested .loop-test .taken) (tested .state-forks .ensures) (c .if1 .taken))
+    let tested : tie.After-state-forks Inv-loop μ-loop = search in
+    let turn : tie.In-loop Inv-loop μ-loop = search in
+    sym (states-hit _ _ _ _ (turn .loop-test .taken) (tested .state-forks .ensures) (c .if1 .taken))
 
 add-state : tie.Need-add-state Inv-loop μ-loop
-add-state c = omega (arith, start (c .before) .pre .states)
+add-state c =
+    let start : tie.Start Inv-loop μ-loop = search in
+    omega (arith, start .pre .states)
 
 loop-less : tie.Need-loop-less Inv-loop μ-loop
-loop-less c = omega (arith, turn (c .before) .loop-test .taken)
+loop-less c =
+    let turn : tie.In-loop Inv-loop μ-loop = search in
+    omega (arith, turn .loop-test .taken)
 
 loop-again : tie.Need-loop-again Inv-loop μ-loop
 loop-again c =
-    let tested = c .before in
-    states-turn _ _ _ _ (turn tested .loop-test .taken) (tested .state-forks .ensures) (c .if1 .left)
-    (turn tested .before .loop .inv)
+    let tested : tie.After-state-forks Inv-loop μ-loop = search in
+    let turn : tie.In-loop Inv-loop μ-loop = search in
+    let at-loop : tie.At-loop Inv-loop μ-loop = search in
+    states-turn _ _ _ _ (turn .loop-test .taken) (tested .state-forks .ensures) (c .if1 .left)
+    (at-loop .loop .inv)
 
 returns-2 : tie.Need-returns-2 Inv-loop μ-loop
-returns-2 c = sym (states-end _ _ _ (c .loop-test .left) (c .before .loop .inv))
+returns-2 c =
+    let at-loop : tie.At-loop Inv-loop μ-loop = search in
+    sym (states-end _ _ _ (c .loop-test .left) (at-loop .loop .inv))
 
 pub some-fork-spec : {M : Type 1} → statement M
 some-fork-spec =

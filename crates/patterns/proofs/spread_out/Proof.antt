@@ -1,7 +1,7 @@
 -- `patterns::spread_out` meets its contract. The invariant: the rows below `state` are filled, and the others are empty. Assumes nothing.
 use Prim.Native.Nat.{_-_, _<_}
 use native.Mathlib.Omega.{arith}
-use Rattle.patterns.specs.Masks.{mask-rows}
+use Rattle.sets.specs.Sets.{set-states}
 use Rattle.patterns.proofs.Masks.{Filled, filled-start, filled-asks, filled-inside, filled-turn, filled-end}
 use Rattle.patterns.proofs.spread_out.Statement.{statement}
 use Rattle.patterns.proofs.spread_out.Tie as tie
@@ -15,46 +15,57 @@ abbrev μ-loop : tie.MeasureT-loop
 -- what is known at each turn
 module _ (c : tie.In-loop Inv-loop μ-loop) where
   abbrev counted : tie.After-states-of Inv-loop μ-loop
-  counted = c .before .before .before
+  counted = search
 
   abbrev start : tie.Start Inv-loop μ-loop
-  start = counted .before .before
+  start = search
 
-  inside : c .before .loop .state < mask-rows
+  abbrev turn : tie.At-loop Inv-loop μ-loop
+  turn = search
+
+  inside : turn .loop .state < set-states
   inside = filled-inside _ (start .pre) _ _ (counted .states-of .ensures .is) (c .loop-test .taken)
 
 states-of-requires : tie.Need-states-of-requires Inv-loop μ-loop
 states-of-requires c κs = tt
 
 loop-holds : tie.Need-loop-holds Inv-loop μ-loop
-loop-holds c = filled-start _ (c .before .before .before .pre)
+loop-holds c = let begun : tie.Start Inv-loop μ-loop = search in filled-start _ (begun .pre)
 
 row-of-requires : tie.Need-row-of-requires Inv-loop μ-loop
-row-of-requires c κs = filled-asks _ (start c .pre) _ _ (counted c .states-of .ensures .is) (c .loop-test .taken)
+row-of-requires c κs =
+    let counted : tie.After-states-of Inv-loop μ-loop = search in
+    let start : tie.Start Inv-loop μ-loop = search in
+    filled-asks _ (start .pre) _ _ (counted .states-of .ensures .is) (c .loop-test .taken)
 
 mul-t8 : tie.Need-mul-t8 Inv-loop μ-loop
-mul-t8 c = omega (arith, inside (c .before))
+mul-t8 c = let inside-loop : tie.In-loop Inv-loop μ-loop = search in omega (arith, inside inside-loop)
 
 element-set-from-masks : tie.Need-element-set-from-masks Inv-loop μ-loop
-element-set-from-masks c = inside (c .before)
+element-set-from-masks c = let inside-loop : tie.In-loop Inv-loop μ-loop = search in inside inside-loop
 
 add-state : tie.Need-add-state Inv-loop μ-loop
-add-state c = omega (arith, inside (c .before))
+add-state c = let inside-loop : tie.In-loop Inv-loop μ-loop = search in omega (arith, inside inside-loop)
 
 loop-less : tie.Need-loop-less Inv-loop μ-loop
-loop-less c = omega (arith, c .before .loop-test .taken)
+loop-less c = let inside-loop : tie.In-loop Inv-loop μ-loop = search in omega (arith, inside-loop .loop-test .taken)
 
 loop-again : tie.Need-loop-again Inv-loop μ-loop
 loop-again c =
-    let turn = c .before in
-    filled-turn _ (start turn .pre) _ _ _ _ (counted turn .states-of .ensures .is) (turn .loop-test .taken)
-    (c .row-of .ensures) (turn .before .loop .inv)
+    let turn : tie.In-loop Inv-loop μ-loop = search in
+    let at-loop : tie.At-loop Inv-loop μ-loop = search in
+    let counted : tie.After-states-of Inv-loop μ-loop = search in
+    let start : tie.Start Inv-loop μ-loop = search in
+    filled-turn _ (start .pre) _ _ _ _ (counted .states-of .ensures .is) (turn .loop-test .taken)
+    (c .row-of .ensures) (at-loop .loop .inv)
 
 returns : tie.Need-returns Inv-loop μ-loop
 returns c =
-    let counted = c .before .before .before in
-    filled-end _ (counted .before .before .pre) _ _ _ (counted .states-of .ensures .is) (c .loop-test .left)
-    (c .before .loop .inv)
+    let at-loop : tie.At-loop Inv-loop μ-loop = search in
+    let counted : tie.After-states-of Inv-loop μ-loop = search in
+    let begun : tie.Start Inv-loop μ-loop = search in
+    filled-end _ (begun .pre) _ _ _ (counted .states-of .ensures .is) (c .loop-test .left)
+    (at-loop .loop .inv)
 
 pub spread-out-spec : {M : Type 1} → statement M
 spread-out-spec =

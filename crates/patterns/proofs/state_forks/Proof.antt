@@ -15,10 +15,10 @@ returns : tie.Need-returns
 returns c = sym (outer-even _ _ _ (c .if1 .taken))
 
 row-forks-requires : tie.Need-row-forks-requires
-row-forks-requires c κs = c .before .before .pre .0 .letters
+row-forks-requires c κs = let start : tie.Start = search in start .pre .0 .letters
 
 returns-2 : tie.Need-returns-2
-returns-2 c = c .row-forks .ensures ∙ sym (inner-row _ _ _ (c .before .if1 .left))
+returns-2 c = let left-1 : tie.Else1 = search in c .row-forks .ensures ∙ sym (inner-row _ _ _ (left-1 .if1 .left))
 
 pub state-forks-spec : {M : Type 1} → statement M
 state-forks-spec = tie.close (tie.spec cast-if1 shr-if1 returns row-forks-requires returns-2)

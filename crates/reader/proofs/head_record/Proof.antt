@@ -17,10 +17,15 @@ word-requires : tie.Need-word-requires
 word-requires c κs = search needs
 
 returns : tie.Need-returns
-returns c = read-head _ _ (c .before .before .states-of .ensures) (c .before .if1 .taken) (c .word .ensures)
+returns c =
+    let taken-1 : tie.Then1 = search in
+    let after-states-of : tie.After-states-of = search in
+    read-head _ _ (after-states-of .states-of .ensures) (taken-1 .if1 .taken) (c .word .ensures)
 
 returns-2 : tie.Need-returns-2
-returns-2 c = read-none _ _ (c .before .states-of .ensures) (c .if1 .left)
+returns-2 c =
+    let after-states-of : tie.After-states-of = search in
+    read-none _ _ (after-states-of .states-of .ensures) (c .if1 .left)
 
 pub head-record-spec : {M : Type 1} → statement M
 head-record-spec =

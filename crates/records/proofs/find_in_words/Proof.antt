@@ -14,15 +14,17 @@ full-records-requires c κs = search needs
 
 returns : tie.Need-returns
 returns c =
-    let counted = c .before in
+    let counted : tie.After-full-records = search in
+    let after-find-in-four : tie.After-find-in-four = search in
     let held = records-length _ ∙ sym (counted .full-records .ensures) in
-    found-held _ _ 4 (counted .before .find-in-four .ensures) held (c .if1 .taken)
+    found-held _ _ 4 (after-find-in-four .find-in-four .ensures) held (c .if1 .taken)
 
 returns-2 : tie.Need-returns-2
 returns-2 c =
-    let counted = c .before in
+    let counted : tie.After-full-records = search in
+    let after-find-in-four : tie.After-find-in-four = search in
     let held = records-length _ ∙ sym (counted .full-records .ensures) in
-    found-behind _ _ 4 (counted .before .find-in-four .ensures) held (c .if1 .left)
+    found-behind _ _ 4 (after-find-in-four .find-in-four .ensures) held (c .if1 .left)
 
 pub find-in-words-spec : {M : Type 1} → statement M
 find-in-words-spec =

@@ -7,16 +7,6 @@ use Rattle.tables.proofs.Marking.{names-few, heads-fail, chains-answer}
 use Rattle.tables.proofs.chains_good.Statement.{statement}
 use Rattle.tables.proofs.chains_good.Tie as tie
 
--- PLACES: where the function begins, where the records are counted, and where the heads are named
-abbrev start : tie.After-records-of → tie.Start
-start c = c .before .before
-
-abbrev counted : tie.After-name-heads → tie.After-records-of
-counted c = c .before .before
-
-abbrev heads-named : tie.Else1 → tie.After-name-heads
-heads-named c = c .before .before
-
 records-of-requires : tie.Need-records-of-requires
 records-of-requires c κs = search needs
 
@@ -28,8 +18,9 @@ name-heads-requires c κs = search needs
 
 returns : tie.Need-returns
 returns c =
-    let named = c .before .before in
-    heads-fail (now (start (counted named) .args .table)) mark-words mark-words (named .name-heads .ensures) (omega arith)
+    let named : tie.After-name-heads = search in
+    let start : tie.Start = search in
+    heads-fail (now (start .args .table)) mark-words mark-words (named .name-heads .ensures) (omega arith)
 
 slice-aggregate-name-nexts : tie.Need-slice-aggregate-name-nexts
 slice-aggregate-name-nexts c = search needs
@@ -38,16 +29,21 @@ name-nexts-requires : tie.Need-name-nexts-requires
 name-nexts-requires c κs = search needs
 
 add-result : tie.Need-add-result
-add-result c = let few = names-few (c .before .name-nexts .ensures) in omega arith
+add-result c =
+    let after-name-nexts : tie.After-name-nexts = search in
+    let few = names-few (after-name-nexts .name-nexts .ensures) in omega arith
 
 returns-2 : tie.Need-returns-2
 returns-2 c =
-    let within = c .before .before .before in
-    let named = heads-named within in
-    chains-answer (now (start (counted named) .args .table)) mark-words mark-words (counted named .records-of .ensures .is)
-    (named .name-heads .ensures)
+    let after-name-nexts : tie.After-name-nexts = search in
+    let within : tie.Else1 = search in
+    let heads-named : tie.After-name-heads = search in
+    let counted : tie.After-records-of = search in
+    let start : tie.Start = search in
+    chains-answer (now (start .args .table)) mark-words mark-words (counted .records-of .ensures .is)
+    (heads-named .name-heads .ensures)
     (within .if1 .left)
-    (c .before .name-nexts .ensures)
+    (after-name-nexts .name-nexts .ensures)
 
 pub chains-good-spec : {M : Type 1} → statement M
 chains-good-spec =

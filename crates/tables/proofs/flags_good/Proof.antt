@@ -15,13 +15,6 @@ Inv-loop table n q₀ q = Scan (flag-good table) (n-of table) q
 abbrev μ-loop : tie.MeasureT-loop
 μ-loop table n q₀ q = n - q
 
--- PLACES: where the function begins, and a turn
-abbrev start : tie.At-loop Inv-loop μ-loop → tie.Start Inv-loop μ-loop
-start c = c .before .before .before
-
-abbrev turn : tie.After-flags-of Inv-loop μ-loop → tie.At-loop Inv-loop μ-loop
-turn c = c .before .before
-
 states-of-requires : tie.Need-states-of-requires Inv-loop μ-loop
 states-of-requires c κs = search needs
 
@@ -34,9 +27,11 @@ flags-of-requires c κs = record { inside = omega arith; sized = omega arith }
 returns : tie.Need-returns Inv-loop μ-loop
 unfolding flags-good
 returns c =
-    let at = turn (c .before) in
-    scan-fails (flag-good (now (start at .args .table))) _ (at .loop .q) (omega arith)
-    (read-gt (c .before .flags-of .ensures .is) refl (c .if1 .taken))
+    let after-flags-of : tie.After-flags-of Inv-loop μ-loop = search in
+    let turn : tie.At-loop Inv-loop μ-loop = search in
+    let start : tie.Start Inv-loop μ-loop = search in
+    scan-fails (flag-good (now (start .args .table))) _ (turn .loop .q) (omega arith)
+    (read-gt (after-flags-of .flags-of .ensures .is) refl (c .if1 .taken))
 
 add-q : tie.Need-add-q Inv-loop μ-loop
 add-q c = omega arith
@@ -46,11 +41,13 @@ loop-less c = omega arith
 
 loop-again : tie.Need-loop-again Inv-loop μ-loop
 loop-again c =
-    scan-more (turn (c .before) .loop .inv) (omega arith) (read-le (c .before .flags-of .ensures .is) refl (c .if1 .left))
+    let after-flags-of : tie.After-flags-of Inv-loop μ-loop = search in
+    let turn : tie.At-loop Inv-loop μ-loop = search in
+    scan-more (turn .loop .inv) (omega arith) (read-le (after-flags-of .flags-of .ensures .is) refl (c .if1 .left))
 
 returns-2 : tie.Need-returns-2 Inv-loop μ-loop
 unfolding flags-good
-returns-2 c = scan-done (c .before .loop .inv) (omega arith)
+returns-2 c = let at-loop : tie.At-loop Inv-loop μ-loop = search in scan-done (at-loop .loop .inv) (omega arith)
 
 pub flags-good-spec : {M : Type 1} → statement M
 flags-good-spec =

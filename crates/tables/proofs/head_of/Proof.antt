@@ -20,11 +20,13 @@ shared-slice-read-result : tie.Need-shared-slice-read-result
 shared-slice-read-result c = search needs
 
 cast-result : tie.Need-cast-result
-cast-result c = omega (arith, c .shared-slice-known .given (4 + 2 * c .before .args .state))
+cast-result c = let start : tie.Start = search in omega (arith, c .shared-slice-known .given (4 + 2 * start .args .state))
 
 returns : tie.Need-returns
 unfolding head-of
-returns c = record { is = refl; small = omega (arith, c .shared-slice-known .given (4 + 2 * c .before .args .state)) }
+returns c =
+    let start : tie.Start = search in
+    record { is = refl; small = omega (arith, c .shared-slice-known .given (4 + 2 * start .args .state)) }
 
 pub head-of-spec : {M : Type 1} → statement M
 head-of-spec =

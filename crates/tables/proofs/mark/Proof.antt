@@ -9,11 +9,6 @@ use Rattle.tables.proofs.mark.Statement.{statement}
 use Rattle.tables.proofs.mark.Tie as tie
 
 -- where the function begins, seen from a record that was named already and from one that was not
-abbrev start : tie.Then2 → tie.Start
-start c = c .before .before .before
-
-abbrev fresh : tie.Else2 → tie.Start
-fresh c = c .before .before .before
 
 returns : tie.Need-returns
 returns c = nothing (c .if1 .taken) refl
@@ -31,7 +26,7 @@ shr-if2 : tie.Need-shr-if2
 shr-if2 c = search needs
 
 returns-2 : tie.Need-returns-2
-returns-2 c = again (omega arith) (bit-set (start c .pre) (c .if2 .taken)) refl
+returns-2 c = let start : tie.Start = search in again (omega arith) (bit-set (start .pre) (c .if2 .taken)) refl
 
 cast-seen : tie.Need-cast-seen
 cast-seen c = search needs
@@ -41,7 +36,9 @@ shl-seen c = search needs
 
 add-seen : tie.Need-add-seen
 add-seen c =
-    record { fits = bit-fits (fresh c .pre) (c .before .slice-known .given (fresh c .args .link % mark-words) .fits) (c .if2 .left) }
+    let after-slice-known : tie.After-slice-known = search in
+    let fresh : tie.Start = search in
+    record { fits = bit-fits (fresh .pre) (after-slice-known .slice-known .given (fresh .args .link % mark-words) .fits) (c .if2 .left) }
 
 mul-seen : tie.Need-mul-seen
 mul-seen c = search needs
@@ -53,7 +50,9 @@ same-length : tie.Need-same-length
 same-length c = search needs
 
 returns-3 : tie.Need-returns-3
-returns-3 c = first (omega arith) (bit-clear (fresh c .pre) (c .if2 .left)) (bit-raised (fresh c .pre))
+returns-3 c =
+    let fresh : tie.Start = search in
+    first (omega arith) (bit-clear (fresh .pre) (c .if2 .left)) (bit-raised (fresh .pre))
 
 pub mark-spec : {M : Type 1} → statement M
 mark-spec =

@@ -7,7 +7,7 @@ use denote.Ref.{now}
 use Rattle.basics.proofs.Scans.{Scan, scan-start, scan-more, read-le, read-gt}
 use Rattle.tables.specs.Marks.{mark-words, Mark-asks, Marked}
 use Rattle.tables.specs.Table.{n-of, m-of, head-of, head-good}
-use Rattle.tables.proofs.Marking.{marked-start, marked-few, marked-more, marked-twice, names-wrong, names-all}
+use Rattle.tables.proofs.Marking.{markable, marked-start, marked-few, marked-more, marked-twice, names-wrong, names-all}
 use Rattle.tables.proofs.name_heads.Statement.{statement}
 use Rattle.tables.proofs.name_heads.Tie as tie
 
@@ -18,29 +18,15 @@ Inv-loop table seen₀ n m names₀ q₀ seen names q =
 abbrev μ-loop : tie.MeasureT-loop
 μ-loop table seen₀ n m names₀ q₀ seen names q = n - q
 
--- PLACES: where the function begins, a turn, a head that was read, one that is in range, and one that was marked
 abbrev start : tie.At-loop Inv-loop μ-loop → tie.Start Inv-loop μ-loop
-start c = c .before .before .before .before .before
+start c = search
 
 abbrev turn : tie.After-head-of Inv-loop μ-loop → tie.At-loop Inv-loop μ-loop
-turn c = c .before .before
-
-abbrev in-range : tie.After-mark Inv-loop μ-loop → tie.Else1 Inv-loop μ-loop
-in-range c = c .before .before
-
-abbrev marking : tie.After-slice-known2 Inv-loop μ-loop → tie.After-mark Inv-loop μ-loop
-marking c = c .before .before
-
-abbrev reading : tie.After-slice-known2 Inv-loop μ-loop → tie.After-head-of Inv-loop μ-loop
-reading c = in-range (marking c) .before
+turn c = search
 
 -- a head has its bit among the words of marks
-markable : (c : tie.After-head-of Inv-loop μ-loop) → Mark-asks mark-words (c .head-of .result) (turn c .loop .seen)
-markable c =
-    let long = start (turn c) .pre .1 in
-    let kept = turn c .loop .inv .1 .kept in
-    let small = c .head-of .ensures .small in
-    record { some = omega arith; long = omega arith; inside = omega arith }
+asks-mark : (c : tie.After-head-of Inv-loop μ-loop) → Mark-asks mark-words (c .head-of .result) (turn c .loop .seen)
+asks-mark c = markable (c .head-of .ensures) (start (turn c) .pre .1) (turn c .loop .inv .1 .kept)
 
 states-of-requires : tie.Need-states-of-requires Inv-loop μ-loop
 states-of-requires c κs = search needs
@@ -58,28 +44,37 @@ add-result : tie.Need-add-result Inv-loop μ-loop
 add-result c = omega arith
 
 same-length : tie.Need-same-length Inv-loop μ-loop
-same-length c = turn (c .before) .loop .inv .1 .kept
+same-length c = let turn : tie.At-loop Inv-loop μ-loop = search in turn .loop .inv .1 .kept
 
 returns : tie.Need-returns Inv-loop μ-loop
 returns c =
-    let at = turn (c .before) in
-    names-wrong (head-good (now (start at .args .table))) (at .loop .q) (omega arith)
-    (read-gt (c .before .head-of .ensures .is) (at .before .records-of .ensures .is) (c .if1 .taken)) (omega arith)
+    let after-head-of : tie.After-head-of Inv-loop μ-loop = search in
+    let turn : tie.At-loop Inv-loop μ-loop = search in
+    let after-records-of : tie.After-records-of Inv-loop μ-loop = search in
+    let start : tie.Start Inv-loop μ-loop = search in
+    names-wrong (head-good (now (start .args .table))) (turn .loop .q) (omega arith)
+    (read-gt (after-head-of .head-of .ensures .is) (after-records-of .records-of .ensures .is) (c .if1 .taken)) (omega arith)
 
 mark-requires : tie.Need-mark-requires Inv-loop μ-loop
-mark-requires c κs = markable (c .before .before)
+mark-requires c κs = let after-head-of : tie.After-head-of Inv-loop μ-loop = search in asks-mark after-head-of
 
 add-result-2 : tie.Need-add-result-2 Inv-loop μ-loop
 add-result-2 c = omega arith
 
 same-length-2 : tie.Need-same-length-2 Inv-loop μ-loop
-same-length-2 c = marking (c .before) .mark .kept .0 ∙ turn (reading (c .before)) .loop .inv .1 .kept
+same-length-2 c =
+    let marking : tie.After-mark Inv-loop μ-loop = search in
+    let turn : tie.At-loop Inv-loop μ-loop = search in
+    marking .mark .kept .0 ∙ turn .loop .inv .1 .kept
 
 returns-2 : tie.Need-returns-2 Inv-loop μ-loop
 returns-2 c =
-    let at = turn (reading (c .before)) in
-    marked-twice (at .loop .inv .1) (reading (c .before) .head-of .ensures .is) (marking (c .before) .mark .ensures)
-    (head-good (now (start at .args .table)))
+    let marking : tie.After-mark Inv-loop μ-loop = search in
+    let reading : tie.After-head-of Inv-loop μ-loop = search in
+    let turn : tie.At-loop Inv-loop μ-loop = search in
+    let start : tie.Start Inv-loop μ-loop = search in
+    marked-twice (turn .loop .inv .1) (reading .head-of .ensures .is) (marking .mark .ensures)
+    (head-good (now (start .args .table)))
     _
     (omega arith)
     (omega arith)
@@ -87,7 +82,9 @@ returns-2 c =
     (omega arith)
 
 add-names : tie.Need-add-names Inv-loop μ-loop
-add-names c = let few = marked-few (turn (reading (c .before)) .loop .inv .1) in omega arith
+add-names c =
+    let turn : tie.At-loop Inv-loop μ-loop = search in
+    let few = marked-few (turn .loop .inv .1) in omega arith
 
 add-q : tie.Need-add-q Inv-loop μ-loop
 add-q c = omega arith
@@ -97,23 +94,28 @@ loop-less c = omega arith
 
 loop-again : tie.Need-loop-again Inv-loop μ-loop
 loop-again c =
-    let head = reading (c .before) in
-    let at = turn head in
-    let few = at .before .records-of .ensures .small in (
-      scan-more (at .loop .inv .0) (omega arith)
-          (read-le (head .head-of .ensures .is) (at .before .records-of .ensures .is) (in-range (marking (c .before)) .if1 .left)),
-      marked-more (at .loop .inv .1) (head .head-of .ensures .is) (marking (c .before) .mark .ensures)
-          (markable head)
+    let marking : tie.After-mark Inv-loop μ-loop = search in
+    let in-range : tie.Else1 Inv-loop μ-loop = search in
+    let reading : tie.After-head-of Inv-loop μ-loop = search in
+    let turn : tie.At-loop Inv-loop μ-loop = search in
+    let after-records-of : tie.After-records-of Inv-loop μ-loop = search in
+    let few = after-records-of .records-of .ensures .small in (
+      scan-more (turn .loop .inv .0) (omega arith)
+          (read-le (reading .head-of .ensures .is) (after-records-of .records-of .ensures .is) (in-range .if1 .left)),
+      marked-more (turn .loop .inv .1) (reading .head-of .ensures .is) (marking .mark .ensures)
+          (asks-mark reading)
           (omega arith)
           (omega arith)
           (c .if2 .left),
     )
 
 same-length-3 : tie.Need-same-length-3 Inv-loop μ-loop
-same-length-3 c = c .before .loop .inv .1 .kept
+same-length-3 c = let at-loop : tie.At-loop Inv-loop μ-loop = search in at-loop .loop .inv .1 .kept
 
 returns-3 : tie.Need-returns-3 Inv-loop μ-loop
-returns-3 c = names-all (c .before .loop .inv .0) (c .before .loop .inv .1) (omega arith)
+returns-3 c =
+    let at-loop : tie.At-loop Inv-loop μ-loop = search in
+    names-all (at-loop .loop .inv .0) (at-loop .loop .inv .1) (omega arith)
 
 pub name-heads-spec : {M : Type 1} → statement M
 name-heads-spec =

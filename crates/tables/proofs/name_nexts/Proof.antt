@@ -9,7 +9,7 @@ use Rattle.basics.proofs.Scans.{Scan, scan-start, scan-more}
 use Rattle.tables.specs.Marks.{mark-words, Mark-asks, Marked}
 use Rattle.tables.specs.Table.{m-of, next-of, next-good}
 use Rattle.tables.proofs.Checks.{next-fails, next-passes, next-small}
-use Rattle.tables.proofs.Marking.{marked-start, marked-few, marked-more, marked-twice, names-wrong, names-all}
+use Rattle.tables.proofs.Marking.{markable, marked-start, marked-few, marked-more, marked-twice, names-wrong, names-all}
 use Rattle.tables.proofs.name_nexts.Statement.{statement}
 use Rattle.tables.proofs.name_nexts.Tie as tie
 
@@ -20,41 +20,30 @@ Inv-loop table seen₀ n m names₀ i₀ seen names i =
 abbrev μ-loop : tie.MeasureT-loop
 μ-loop table seen₀ n m names₀ i₀ seen names i = m - i
 
--- PLACES: where the function begins, a turn, a next that was read, one that was tested, one that passed, and one that was marked
-abbrev start : tie.At-loop Inv-loop μ-loop → tie.Start Inv-loop μ-loop
-start c = c .before .before .before .before .before
+-- a next was read: it has its bit among the words of marks
+module _ (c : tie.After-next-of Inv-loop μ-loop) where
+  abbrev turn : tie.At-loop Inv-loop μ-loop
+  turn = search
 
-abbrev turn : tie.After-next-of Inv-loop μ-loop → tie.At-loop Inv-loop μ-loop
-turn c = c .before .before
+  abbrev start : tie.Start Inv-loop μ-loop
+  start = search
 
-abbrev passing : tie.After-mark Inv-loop μ-loop → tie.Else1 Inv-loop μ-loop
-passing c = c .before .before
+  asks-mark : Mark-asks mark-words (c .next-of .result) (turn .loop .seen)
+  asks-mark = markable (c .next-of .ensures) (start .pre .1) (turn .loop .inv .1 .kept)
 
-abbrev marking : tie.After-slice-known2 Inv-loop μ-loop → tie.After-mark Inv-loop μ-loop
-marking c = c .before .before
+-- it passed: it is in range
+module _ (c : tie.Else1 Inv-loop μ-loop) where
+  abbrev reading : tie.After-next-of Inv-loop μ-loop
+  reading = search
 
-abbrev testing : tie.After-slice-known2 Inv-loop μ-loop → tie.After-next-good Inv-loop μ-loop
-testing c = passing (marking c) .before
-
-abbrev reading : tie.After-slice-known2 Inv-loop μ-loop → tie.After-next-of Inv-loop μ-loop
-reading c = testing c .before
-
--- a next has its bit among the words of marks
-markable : (c : tie.After-next-of Inv-loop μ-loop) → Mark-asks mark-words (c .next-of .result) (turn c .loop .seen)
-markable c =
-    let long = start (turn c) .pre .1 in
-    let kept = turn c .loop .inv .1 .kept in
-    let small = c .next-of .ensures .small in
-    record { some = omega arith; long = omega arith; inside = omega arith }
-
--- one that passed is in range
-inside : (c : tie.Else1 Inv-loop μ-loop) → c .before .before .next-of .result ≤ m-of (now (start (turn (c .before .before)) .args .table))
-inside c =
-    let next = c .before .before in
-    let at = turn next in
-    next-small (now (start at .args .table)) (at .loop .i) (at .before .records-of .ensures .is) (next .next-of .ensures .is)
-    (c .before .next-good .ensures)
-    (c .if1 .left)
+  inside : reading .next-of .result ≤ m-of (now (start reading .args .table))
+  inside =
+      let tested : tie.After-next-good Inv-loop μ-loop = search in
+      let counted : tie.After-records-of Inv-loop μ-loop = search in
+      next-small (now (start reading .args .table)) (turn reading .loop .i) (counted .records-of .ensures .is)
+      (reading .next-of .ensures .is)
+      (tested .next-good .ensures)
+      (c .if1 .left)
 
 states-of-requires : tie.Need-states-of-requires Inv-loop μ-loop
 states-of-requires c κs = search needs
@@ -70,8 +59,9 @@ add-next-of c = omega arith
 
 next-of-requires : tie.Need-next-of-requires Inv-loop μ-loop
 next-of-requires c κs =
+    let after-states-of : tie.After-states-of Inv-loop μ-loop = search in
     record {
-      counted = c .before .before .before .states-of .ensures .is;
+      counted = after-states-of .states-of .ensures .is;
       from-one = omega arith;
       number-to = omega arith;
       sized = omega arith;
@@ -87,40 +77,51 @@ add-result : tie.Need-add-result Inv-loop μ-loop
 add-result c = omega arith
 
 same-length : tie.Need-same-length Inv-loop μ-loop
-same-length c = turn (c .before .before) .loop .inv .1 .kept
+same-length c = let turn : tie.At-loop Inv-loop μ-loop = search in turn .loop .inv .1 .kept
 
 returns : tie.Need-returns Inv-loop μ-loop
 returns c =
-    let next = c .before .before in
-    let at = turn next in
-    let t = now (start at .args .table) in
-    names-wrong (next-good t) (at .loop .i) (omega arith)
-    (next-fails t (at .loop .i) (at .before .records-of .ensures .is) (next .next-of .ensures .is) (c .before .next-good .ensures) (c .if1 .taken))
+    let after-next-good : tie.After-next-good Inv-loop μ-loop = search in
+    let next : tie.After-next-of Inv-loop μ-loop = search in
+    let turn : tie.At-loop Inv-loop μ-loop = search in
+    let after-records-of : tie.After-records-of Inv-loop μ-loop = search in
+    let start : tie.Start Inv-loop μ-loop = search in
+    let t = now (start .args .table) in
+    names-wrong (next-good t) (turn .loop .i) (omega arith)
+    (next-fails t (turn .loop .i) (after-records-of .records-of .ensures .is) (next .next-of .ensures .is) (after-next-good .next-good .ensures) (c .if1 .taken))
     (omega arith)
 
 mark-requires : tie.Need-mark-requires Inv-loop μ-loop
-mark-requires c κs = markable (c .before .before .before)
+mark-requires c κs = let after-next-of : tie.After-next-of Inv-loop μ-loop = search in asks-mark after-next-of
 
 add-result-2 : tie.Need-add-result-2 Inv-loop μ-loop
 add-result-2 c = omega arith
 
 same-length-2 : tie.Need-same-length-2 Inv-loop μ-loop
-same-length-2 c = marking (c .before) .mark .kept .0 ∙ turn (reading (c .before)) .loop .inv .1 .kept
+same-length-2 c =
+    let marking : tie.After-mark Inv-loop μ-loop = search in
+    let turn : tie.At-loop Inv-loop μ-loop = search in
+    marking .mark .kept .0 ∙ turn .loop .inv .1 .kept
 
 returns-2 : tie.Need-returns-2 Inv-loop μ-loop
 returns-2 c =
-    let next = reading (c .before) in
-    let at = turn next in
-    marked-twice (at .loop .inv .1) (rw add-one at (next .next-of .ensures .is)) (marking (c .before) .mark .ensures)
-    (next-good (now (start at .args .table)))
+    let marking : tie.After-mark Inv-loop μ-loop = search in
+    let passing : tie.Else1 Inv-loop μ-loop = search in
+    let reading : tie.After-next-of Inv-loop μ-loop = search in
+    let turn : tie.At-loop Inv-loop μ-loop = search in
+    let start : tie.Start Inv-loop μ-loop = search in
+    marked-twice (turn .loop .inv .1) (rw add-one at (reading .next-of .ensures .is)) (marking .mark .ensures)
+    (next-good (now (start .args .table)))
     _
     (omega arith)
-    (inside (passing (marking (c .before))))
+    (inside passing)
     (c .if2 .taken)
     (omega arith)
 
 add-names : tie.Need-add-names Inv-loop μ-loop
-add-names c = let few = marked-few (turn (reading (c .before)) .loop .inv .1) in omega arith
+add-names c =
+    let turn : tie.At-loop Inv-loop μ-loop = search in
+    let few = marked-few (turn .loop .inv .1) in omega arith
 
 add-i : tie.Need-add-i Inv-loop μ-loop
 add-i c = omega arith
@@ -130,26 +131,32 @@ loop-less c = omega arith
 
 loop-again : tie.Need-loop-again Inv-loop μ-loop
 loop-again c =
-    let next = reading (c .before) in
-    let passed = passing (marking (c .before)) in
-    let at = turn next in
-    let counted = at .before .records-of .ensures .is in
-    let few = at .before .records-of .ensures .small in (
-      scan-more (at .loop .inv .0) (omega arith)
-          (next-passes (now (start at .args .table)) (at .loop .i) counted (next .next-of .ensures .is)
-          (testing (c .before) .next-good .ensures)
-          (passed .if1 .left)),
-      marked-more (at .loop .inv .1) (rw add-one at (next .next-of .ensures .is)) (marking (c .before) .mark .ensures) (markable next)
+    let marking : tie.After-mark Inv-loop μ-loop = search in
+    let passing : tie.Else1 Inv-loop μ-loop = search in
+    let testing : tie.After-next-good Inv-loop μ-loop = search in
+    let reading : tie.After-next-of Inv-loop μ-loop = search in
+    let turn : tie.At-loop Inv-loop μ-loop = search in
+    let after-records-of : tie.After-records-of Inv-loop μ-loop = search in
+    let start : tie.Start Inv-loop μ-loop = search in
+    let counted = after-records-of .records-of .ensures .is in
+    let few = after-records-of .records-of .ensures .small in (
+      scan-more (turn .loop .inv .0) (omega arith)
+          (next-passes (now (start .args .table)) (turn .loop .i) counted (reading .next-of .ensures .is)
+          (testing .next-good .ensures)
+          (passing .if1 .left)),
+      marked-more (turn .loop .inv .1) (rw add-one at (reading .next-of .ensures .is)) (marking .mark .ensures) (asks-mark reading)
           (omega arith)
-          (inside passed)
+          (inside passing)
           (c .if2 .left),
     )
 
 same-length-3 : tie.Need-same-length-3 Inv-loop μ-loop
-same-length-3 c = c .before .loop .inv .1 .kept
+same-length-3 c = let at-loop : tie.At-loop Inv-loop μ-loop = search in at-loop .loop .inv .1 .kept
 
 returns-3 : tie.Need-returns-3 Inv-loop μ-loop
-returns-3 c = names-all (c .before .loop .inv .0) (c .before .loop .inv .1) (omega arith)
+returns-3 c =
+    let at-loop : tie.At-loop Inv-loop μ-loop = search in
+    names-all (at-loop .loop .inv .0) (at-loop .loop .inv .1) (omega arith)
 
 pub name-nexts-spec : {M : Type 1} → statement M
 name-nexts-spec =

@@ -4,13 +4,19 @@ use Rattle.tables.proofs.next_good.Statement.{statement}
 use Rattle.tables.proofs.next_good.Tie as tie
 
 returns : tie.Need-returns
-returns c = next-far (c .before .args .number) (c .if1 .taken)
+returns c = let start : tie.Start = search in next-far (start .args .number) (c .if1 .taken)
 
 returns-2 : tie.Need-returns-2
-returns-2 c = next-none (c .before .before .args .number) (c .before .if1 .left) (c .if2 .taken)
+returns-2 c =
+    let left-1 : tie.Else1 = search in
+    let start : tie.Start = search in
+    next-none (start .args .number) (left-1 .if1 .left) (c .if2 .taken)
 
 returns-3 : tie.Need-returns-3
-returns-3 c = next-link (c .before .before .args .number) (c .before .if1 .left) (c .if2 .left)
+returns-3 c =
+    let left-1 : tie.Else1 = search in
+    let start : tie.Start = search in
+    next-link (start .args .number) (left-1 .if1 .left) (c .if2 .left)
 
 pub next-good-spec : {M : Type 1} → statement M
 next-good-spec = tie.close (tie.spec returns returns-2 returns-3)

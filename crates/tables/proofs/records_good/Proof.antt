@@ -15,18 +15,8 @@ Inv-loop table n k m i₀ i = Scan (record-good table) (m-of table) i
 abbrev μ-loop : tie.MeasureT-loop
 μ-loop table n k m i₀ i = m - i
 
--- PLACES: where the function begins, where the counts are known, a turn, a letter that was read, and one that is in range
-abbrev start : tie.After-letters-of Inv-loop μ-loop → tie.Start Inv-loop μ-loop
-start c = c .before .before .before
-
 abbrev counted : tie.At-loop Inv-loop μ-loop → tie.After-letters-of Inv-loop μ-loop
-counted c = c .before .before
-
-abbrev turn : tie.After-letter-of Inv-loop μ-loop → tie.At-loop Inv-loop μ-loop
-turn c = c .before .before
-
-abbrev in-range : tie.After-target-of Inv-loop μ-loop → tie.Else1 Inv-loop μ-loop
-in-range c = c .before
+counted c = search
 
 states-of-requires : tie.Need-states-of-requires Inv-loop μ-loop
 states-of-requires c κs = search needs
@@ -45,8 +35,9 @@ add-letter-of c = omega arith
 
 letter-of-requires : tie.Need-letter-of-requires Inv-loop μ-loop
 letter-of-requires c κs =
+    let after-states-of : tie.After-states-of Inv-loop μ-loop = search in
     record {
-      counted = counted (c .before) .before .states-of .ensures .is;
+      counted = after-states-of .states-of .ensures .is;
       from-one = omega arith;
       number-to = omega arith;
       sized = omega arith;
@@ -54,10 +45,13 @@ letter-of-requires c κs =
 
 returns : tie.Need-returns Inv-loop μ-loop
 returns c =
-    let at = turn (c .before) in
-    let counts = counted at in
-    letter-bad (now (start counts .args .table)) (at .loop .i) (counts .before .states-of .ensures .is) (counts .letters-of .ensures .is)
-    (c .before .letter-of .ensures .is)
+    let after-letter-of : tie.After-letter-of Inv-loop μ-loop = search in
+    let turn : tie.At-loop Inv-loop μ-loop = search in
+    let counted : tie.After-letters-of Inv-loop μ-loop = search in
+    let after-states-of : tie.After-states-of Inv-loop μ-loop = search in
+    let start : tie.Start Inv-loop μ-loop = search in
+    letter-bad (now (start .args .table)) (turn .loop .i) (after-states-of .states-of .ensures .is) (counted .letters-of .ensures .is)
+    (after-letter-of .letter-of .ensures .is)
     (omega arith)
     (c .if1 .taken)
 
@@ -66,8 +60,9 @@ add-target-of c = omega arith
 
 target-of-requires : tie.Need-target-of-requires Inv-loop μ-loop
 target-of-requires c κs =
+    let after-states-of : tie.After-states-of Inv-loop μ-loop = search in
     record {
-      counted = counted (turn (c .before)) .before .states-of .ensures .is;
+      counted = after-states-of .states-of .ensures .is;
       from-one = omega arith;
       number-to = omega arith;
       sized = omega arith;
@@ -75,13 +70,16 @@ target-of-requires c κs =
 
 returns-2 : tie.Need-returns-2 Inv-loop μ-loop
 returns-2 c =
-    let letter = in-range (c .before) .before in
-    let at = turn letter in
-    let counts = counted at in
-    target-bad (now (start counts .args .table)) (at .loop .i) (counts .before .states-of .ensures .is) (counts .letters-of .ensures .is)
+    let after-target-of : tie.After-target-of Inv-loop μ-loop = search in
+    let letter : tie.After-letter-of Inv-loop μ-loop = search in
+    let turn : tie.At-loop Inv-loop μ-loop = search in
+    let counted : tie.After-letters-of Inv-loop μ-loop = search in
+    let after-states-of : tie.After-states-of Inv-loop μ-loop = search in
+    let start : tie.Start Inv-loop μ-loop = search in
+    target-bad (now (start .args .table)) (turn .loop .i) (after-states-of .states-of .ensures .is) (counted .letters-of .ensures .is)
     (letter .letter-of .ensures .is)
     (omega arith)
-    (c .before .target-of .ensures .is)
+    (after-target-of .target-of .ensures .is)
     (c .if2 .taken)
 
 add-i : tie.Need-add-i Inv-loop μ-loop
@@ -92,19 +90,23 @@ loop-less c = omega arith
 
 loop-again : tie.Need-loop-again Inv-loop μ-loop
 loop-again c =
-    let letter = in-range (c .before) .before in
-    let at = turn letter in
-    let counts = counted at in
-    scan-more (at .loop .inv) (omega arith)
-    (record-passes (now (start counts .args .table)) (at .loop .i) (counts .before .states-of .ensures .is) (counts .letters-of .ensures .is)
+    let after-target-of : tie.After-target-of Inv-loop μ-loop = search in
+    let in-range : tie.Else1 Inv-loop μ-loop = search in
+    let letter : tie.After-letter-of Inv-loop μ-loop = search in
+    let turn : tie.At-loop Inv-loop μ-loop = search in
+    let counted : tie.After-letters-of Inv-loop μ-loop = search in
+    let after-states-of : tie.After-states-of Inv-loop μ-loop = search in
+    let start : tie.Start Inv-loop μ-loop = search in
+    scan-more (turn .loop .inv) (omega arith)
+    (record-passes (now (start .args .table)) (turn .loop .i) (after-states-of .states-of .ensures .is) (counted .letters-of .ensures .is)
     (letter .letter-of .ensures .is)
-    (in-range (c .before) .if1 .left)
-    (c .before .target-of .ensures .is)
+    (in-range .if1 .left)
+    (after-target-of .target-of .ensures .is)
     (c .if2 .left))
 
 returns-3 : tie.Need-returns-3 Inv-loop μ-loop
 unfolding records-good
-returns-3 c = scan-done (c .before .loop .inv) (omega arith)
+returns-3 c = let at-loop : tie.At-loop Inv-loop μ-loop = search in scan-done (at-loop .loop .inv) (omega arith)
 
 pub records-good-spec : {M : Type 1} → statement M
 records-good-spec =

@@ -10,25 +10,15 @@ use Rattle.tables.proofs.Refusals.{sizes-bad, flags-bad, records-bad, c
 use Rattle.tables.proofs.table_refusal.Statement.{statement}
 use Rattle.tables.proofs.table_refusal.Tie as tie
 
--- PLACES: where 2 to 6 are answered and where they have passed, where 7 has, and where 8 has
 abbrev sizes-known : tie.Else1 → tie.After-sizes-refusal
-sizes-known c = c .before
-
-abbrev past-6 : tie.After-flags-good → tie.Else1
-past-6 c = c .before
-
-abbrev past-7 : tie.After-records-good → tie.Else2
-past-7 c = c .before
-
-abbrev past-8 : tie.After-chains-good → tie.Else3
-past-8 c = c .before
+sizes-known c = search
 
 -- what the function is handed
 abbrev range : tie.After-sizes-refusal → Limits
-range c = limits (c .before .before .args .states) (c .before .before .args .records)
+range c = let start : tie.Start = search in limits (start .args .states) (start .args .records)
 
 abbrev table : tie.After-sizes-refusal → List ℕ
-table c = now (c .before .before .args .table)
+table c = let start : tie.Start = search in now (start .args .table)
 
 -- the table's words are all there
 sized : (c : tie.Else1) → Sized (table (sizes-known c))
@@ -39,53 +29,64 @@ sizes-refusal-requires : tie.Need-sizes-refusal-requires
 sizes-refusal-requires c κs = search needs
 
 returns : tie.Need-returns
-returns c = let s = c .before in sizes-bad (range s) (table s) (s .sizes-refusal .ensures) (c .if1 .taken)
+returns c = let s : tie.After-sizes-refusal = search in sizes-bad (range s) (table s) (s .sizes-refusal .ensures) (c .if1 .taken)
 
 flags-good-requires : tie.Need-flags-good-requires
 flags-good-requires c κs = sized c
 
 returns-2 : tie.Need-returns-2
 returns-2 c =
-    let flags = c .before in
-    let s = sizes-known (past-6 flags) in
-    flags-bad (range s) (table s) (s .sizes-refusal .ensures) (past-6 flags .if1 .left) (flags .flags-good .ensures) (c .if2 .taken)
+    let flags : tie.After-flags-good = search in
+    let past-6 : tie.Else1 = search in
+    let sizes-known : tie.After-sizes-refusal = search in
+    flags-bad (range sizes-known) (table sizes-known) (sizes-known .sizes-refusal .ensures) (past-6 .if1 .left) (flags .flags-good .ensures) (c .if2 .taken)
 
 records-good-requires : tie.Need-records-good-requires
-records-good-requires c κs = sized (past-6 (c .before))
+records-good-requires c κs = let past-6 : tie.Else1 = search in sized past-6
 
 returns-3 : tie.Need-returns-3
 returns-3 c =
-    let records = c .before in
-    let flags = past-7 records .before in
-    let s = sizes-known (past-6 flags) in
-    records-bad (range s) (table s) (s .sizes-refusal .ensures) (past-6 flags .if1 .left) (flags .flags-good .ensures) (past-7 records .if2 .left)
+    let records : tie.After-records-good = search in
+    let past-7 : tie.Else2 = search in
+    let flags : tie.After-flags-good = search in
+    let past-6 : tie.Else1 = search in
+    let sizes-known : tie.After-sizes-refusal = search in
+    records-bad (range sizes-known) (table sizes-known) (sizes-known .sizes-refusal .ensures) (past-6 .if1 .left) (flags .flags-good .ensures) (past-7 .if2 .left)
     (records .records-good .ensures)
     (c .if3 .taken)
 
 chains-good-requires : tie.Need-chains-good-requires
-chains-good-requires c κs = sized (past-6 (past-7 (c .before) .before))
+chains-good-requires c κs =
+    let past-6 : tie.Else1 = search in
+    sized past-6
 
 returns-4 : tie.Need-returns-4
 returns-4 c =
-    let chains = c .before in
-    let records = past-8 chains .before in
-    let flags = past-7 records .before in
-    let s = sizes-known (past-6 flags) in
-    chains-bad (range s) (table s) (s .sizes-refusal .ensures) (past-6 flags .if1 .left) (flags .flags-good .ensures) (past-7 records .if2 .left)
+    let chains : tie.After-chains-good = search in
+    let past-8 : tie.Else3 = search in
+    let records : tie.After-records-good = search in
+    let past-7 : tie.Else2 = search in
+    let flags : tie.After-flags-good = search in
+    let past-6 : tie.Else1 = search in
+    let sizes-known : tie.After-sizes-refusal = search in
+    chains-bad (range sizes-known) (table sizes-known) (sizes-known .sizes-refusal .ensures) (past-6 .if1 .left) (flags .flags-good .ensures) (past-7 .if2 .left)
     (records .records-good .ensures)
-    (past-8 chains .if3 .left)
+    (past-8 .if3 .left)
     (chains .chains-good .ensures)
     (c .if4 .taken)
 
 returns-5 : tie.Need-returns-5
 returns-5 c =
-    let chains = c .before in
-    let records = past-8 chains .before in
-    let flags = past-7 records .before in
-    let s = sizes-known (past-6 flags) in
-    table-good (range s) (table s) (s .sizes-refusal .ensures) (past-6 flags .if1 .left) (flags .flags-good .ensures) (past-7 records .if2 .left)
+    let chains : tie.After-chains-good = search in
+    let past-8 : tie.Else3 = search in
+    let records : tie.After-records-good = search in
+    let past-7 : tie.Else2 = search in
+    let flags : tie.After-flags-good = search in
+    let past-6 : tie.Else1 = search in
+    let sizes-known : tie.After-sizes-refusal = search in
+    table-good (range sizes-known) (table sizes-known) (sizes-known .sizes-refusal .ensures) (past-6 .if1 .left) (flags .flags-good .ensures) (past-7 .if2 .left)
     (records .records-good .ensures)
-    (past-8 chains .if3 .left)
+    (past-8 .if3 .left)
     (chains .chains-good .ensures)
     (c .if4 .left)
 

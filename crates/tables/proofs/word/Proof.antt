@@ -14,13 +14,17 @@ shared-slice-read-result : tie.Need-shared-slice-read-result
 shared-slice-read-result c = search needs
 
 cast-result : tie.Need-cast-result
-cast-result c = omega (arith, c .shared-slice-known .given (c .before .before .args .i))
+cast-result c = let start : tie.Start = search in omega (arith, c .shared-slice-known .given (start .args .i))
 
 returns : tie.Need-returns
-returns c = record { is = refl; small = omega (arith, c .shared-slice-known .given (c .before .before .args .i)) }
+returns c =
+    let start : tie.Start = search in
+    record { is = refl; small = omega (arith, c .shared-slice-known .given (start .args .i)) }
 
 returns-2 : tie.Need-returns-2
-returns-2 c = record { is = sym (List·getD-eq-default (now (c .before .args .table)) 0 (c .if1 .left)); small = omega arith }
+returns-2 c =
+    let start : tie.Start = search in
+    record { is = sym (List·getD-eq-default (now (start .args .table)) 0 (c .if1 .left)); small = omega arith }
 
 pub word-spec : {M : Type 1} → statement M
 word-spec = tie.close (tie.spec mul-result shared-slice-read-result cast-result returns returns-2)

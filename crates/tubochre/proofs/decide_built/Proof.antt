@@ -1,19 +1,10 @@
 -- `decide_built` meets its contract. Assumes nothing.
 use mathlib.Core.Path.{refl, sym}
 use lib.Seq.{length-take-le}
-use Rattle.complement.specs.Build.{used, words-needed}
+use Rattle.complement.specs.Build.{used}
 use borrow.Author.Needs.{needs}
 use Rattle.tubochre.proofs.decide_built.Statement.{statement}
 use Rattle.tubochre.proofs.decide_built.Tie as tie
-
--- THE PLACES: where the call begins, and where its build was accepted
-module _ (c : tie.Else1) where
-  abbrev start : tie.Start
-  start = c .before .before .before .before .before
-
-module _ (c : tie.After-decide-lasso) where
-  abbrev accepted : tie.Else1
-  accepted = c .before .before .before .before .before
 
 returns : tie.Need-returns
 returns c =
@@ -25,30 +16,21 @@ returns c =
       kept = λ n. refl;
     }
 
-cast-end : tie.Need-cast-end
-cast-end c = search needs
+cast-table-words : tie.Need-cast-table-words
+cast-table-words c = search needs
 
-mul-end : tie.Need-mul-end
-mul-end c = search needs
+cast-table-words-2 : tie.Need-cast-table-words-2
+cast-table-words-2 c = search needs
 
-add-end : tie.Need-add-end
-add-end c = search needs
-
-cast-end-2 : tie.Need-cast-end-2
-cast-end-2 c = search needs
-
-mul-end-2 : tie.Need-mul-end-2
-mul-end-2 c = search needs
-
-add-end-2 : tie.Need-add-end-2
-add-end-2 c = search needs
+table-words-requires : tie.Need-table-words-requires
+table-words-requires c κs = search needs
 
 slice-aggregate-decide-lasso : tie.Need-slice-aggregate-decide-lasso
-unfolding words-needed
 slice-aggregate-decide-lasso c =
-    let passed = c .before .before .before in
-    let asked = start passed in
-    sym (length-take-le _ (asked .args .words .now) (asked .pre .inside (passed .if1 .left)))
+    let start : tie.Start = search in
+    let accepted : tie.Else1 = search in
+    let counted : tie.After-table-words = search in
+    rw (counted .table-words .ensures) (sym (length-take-le _ (start .args .words .now) (start .pre .inside (accepted .if1 .left))))
 
 decide-lasso-requires : tie.Need-decide-lasso-requires
 decide-lasso-requires c κs = search needs
@@ -57,13 +39,15 @@ same-length : tie.Need-same-length
 same-length c = search needs
 
 returns-2 : tie.Need-returns-2
-unfolding used words-needed
+unfolding used
 returns-2 c =
-    let decided = c .before .before in
+    let accepted : tie.Else1 = search in
+    let decided : tie.After-decide-lasso = search in
+    let counted : tie.After-table-words = search in
     let says = decided .decide-lasso .ensures in
-    let number = accepted decided .if1 .left in
+    let number = accepted .if1 .left in
     record {
-      built = λ z. says .answer;
+      built = λ z. rw (counted .table-words .ensures) at (says .answer);
       unbuilt = λ n. absurd (n number);
       work = λ z. says .work;
       kept = λ n. absurd (n number);
@@ -74,12 +58,9 @@ decide-built-spec =
     tie.close
     (tie.spec
     returns
-    cast-end
-    mul-end
-    add-end
-    cast-end-2
-    mul-end-2
-    add-end-2
+    cast-table-words
+    cast-table-words-2
+    table-words-requires
     slice-aggregate-decide-lasso
     decide-lasso-requires
     same-length

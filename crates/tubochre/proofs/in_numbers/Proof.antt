@@ -24,7 +24,7 @@ returns-2 c = sym (ap as-answer (c .enum-told2 .given .1))
 
 returns-3 : tie.Need-returns-3
 unfolding as-answer
-returns-3 c = sym (ap as-answer (c .before .decision .given .1))
+returns-3 c = let refused : tie.After-decision = search in sym (ap as-answer (refused .decision .given .1))
 
 pub in-numbers-spec : {M : Type 1} → statement M
 in-numbers-spec =

@@ -5,22 +5,6 @@ use Rattle.tubochre.proofs.Trying.{trial-says}
 use Rattle.tubochre.proofs.try_lasso.Statement.{statement}
 use Rattle.tubochre.proofs.try_lasso.Tie as tie
 
--- THE PLACES behind the calls before each call
-module _ (c : tie.After-build-complement) where
-  abbrev checked : tie.After-check-pattern
-  checked = c .before .before .before
-
-module _ (c : tie.After-decide-lasso) where
-  abbrev handed-back : tie.After-sets
-  handed-back = c .before .before .before
-
-  abbrev built : tie.After-build-complement
-  built = handed-back .before .before .before
-
-module _ (c : tie.After-decide-built) where
-  abbrev decided : tie.After-decide-lasso
-  decided = c .before .before .before .before .before
-
 check-pattern-requires : tie.Need-check-pattern-requires
 check-pattern-requires c κs = search needs
 
@@ -32,7 +16,7 @@ decide-lasso-requires c κs = search needs
 
 decide-built-requires : tie.Need-decide-built-requires
 decide-built-requires c κs =
-    let asked = c .before .before .before .before in used-inside (built asked .build-complement .ensures)
+    let built : tie.After-build-complement = search in used-inside (built .build-complement .ensures)
 
 same-length : tie.Need-same-length
 same-length c = search needs
@@ -45,11 +29,12 @@ same-length-3 c = search needs
 
 returns : tie.Need-returns
 returns c =
-    let last = c .before .before in
-    let asked = decided last in
-    let began = built asked in
-    trial-says (checked began .check-pattern .ensures) (began .build-complement .ensures) (asked .decide-lasso .ensures)
-    (last .decide-built .ensures)
+    let checked : tie.After-check-pattern = search in
+    let built : tie.After-build-complement = search in
+    let pattern : tie.After-decide-lasso = search in
+    let complement : tie.After-decide-built = search in
+    trial-says (checked .check-pattern .ensures) (built .build-complement .ensures) (pattern .decide-lasso .ensures)
+    (complement .decide-built .ensures)
 
 pub try-lasso-spec : {M : Type 1} → statement M
 try-lasso-spec =

@@ -16,9 +16,10 @@ same-length c = search needs
 
 returns : tie.Need-returns
 returns c =
+    let decided : tie.After-decide-lasso = search in
     record {
-      answer = c .in-numbers .ensures ∙ ap as-answer (c .before .before .before .decide-lasso .ensures .answer);
-      work = c .before .before .before .decide-lasso .ensures .work;
+      answer = c .in-numbers .ensures ∙ ap as-answer (decided .decide-lasso .ensures .answer);
+      work = decided .decide-lasso .ensures .work;
     }
 
 pub tubochre-lasso-spec : {M : Type 1} → statement M

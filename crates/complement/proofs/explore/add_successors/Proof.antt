@@ -21,52 +21,28 @@ Inv-loop masks words₀ sets₀ source x letter asked choices progress₀ choice
 abbrev μ-loop : tie.MeasureT-loop
 μ-loop masks words₀ sets₀ source x letter asked choices progress₀ choice₀ words sets progress choice = choices - choice
 
--- THE PLACES
--- whether the letter is blocked is known
-module _ (c : tie.After-blocked Inv-loop μ-loop) where
-  abbrev worked-out : tie.After-on-letter Inv-loop μ-loop
-  worked-out = c .before
-
-  abbrev start : tie.Start Inv-loop μ-loop
-  start = worked-out .before .before .before
-
--- before a choice
-module _ (c : tie.At-loop Inv-loop μ-loop) where
-  abbrev counted : tie.After-choices Inv-loop μ-loop
-  counted = c .before
-
-  abbrev goes : tie.Else1 Inv-loop μ-loop
-  goes = counted .before
-
-  abbrev tested : tie.After-blocked Inv-loop μ-loop
-  tested = goes .before
-
 -- its successor is met
 module _ (c : tie.After-meet Inv-loop μ-loop) where
-  abbrev chosen : tie.After-successor Inv-loop μ-loop
-  chosen = c .before
-
-  abbrev one : tie.In-loop Inv-loop μ-loop
-  one = chosen .before .before .before
-
   abbrev turn : tie.At-loop Inv-loop μ-loop
-  turn = one .before
+  turn = search
 
   sizes : Same-sizes (lent (c .meet .last .0) (c .meet .last .1 .0)) (lent (turn .loop .words) (turn .loop .sets))
   sizes = record { words = c .meet .kept .0; sets = c .meet .kept .1 .0 }
 
 -- THE NEEDS
 on-letter-requires : tie.Need-on-letter-requires Inv-loop μ-loop
-on-letter-requires c κs = c .before .before .pre .0
+on-letter-requires c κs = let begun : tie.Start Inv-loop μ-loop = search in begun .pre .0
 
 blocked-requires : tie.Need-blocked-requires Inv-loop μ-loop
-blocked-requires c κs = c .before .before .before .pre .0
+blocked-requires c κs = let begun : tie.Start Inv-loop μ-loop = search in begun .pre .0
 
 returns : tie.Need-returns Inv-loop μ-loop
 returns c =
-    let at = c .before in
-    let args = start at .args in
-    letter-blocked wide-range (args .masks .now) (args .shape) (args .x) (args .source) (args .letter) (worked-out at .on-letter .ensures)
+    let at : tie.After-blocked Inv-loop μ-loop = search in
+    let worked-out : tie.After-on-letter Inv-loop μ-loop = search in
+    let start : tie.Start Inv-loop μ-loop = search in
+    let args = start .args in
+    letter-blocked wide-range (args .masks .now) (args .shape) (args .x) (args .source) (args .letter) (worked-out .on-letter .ensures)
     (at .blocked .ensures) (c .if1 .taken)
 
 choices-requires : tie.Need-choices-requires Inv-loop μ-loop
@@ -77,35 +53,47 @@ loop-holds c = (omega arith, choose-start)
 
 cast-successor : tie.Need-cast-successor Inv-loop μ-loop
 cast-successor c =
-    let at = c .before .before in
+    let at : tie.In-loop Inv-loop μ-loop = search in
+    let counted : tie.After-choices Inv-loop μ-loop = search in
+    let worked-out : tie.After-on-letter Inv-loop μ-loop = search in
     let l = at .loop-test .taken in
-    let e = counted (at .before) .choices .ensures in
-    let h = choices-fit (worked-out (tested (at .before)) .on-letter .result .free) in omega arith
+    let e = counted .choices .ensures in
+    let h = choices-fit (worked-out .on-letter .result .free) in omega arith
 
 successor-requires : tie.Need-successor-requires Inv-loop μ-loop
 successor-requires c κs = tt
 
 meet-requires : tie.Need-meet-requires Inv-loop μ-loop
 meet-requires c κs =
-    let at = c .before .before .before .before in choose-asks (at .loop .inv .1) (start (tested at) .pre .1)
+    let at : tie.At-loop Inv-loop μ-loop = search in
+    let start : tie.Start Inv-loop μ-loop = search in choose-asks (at .loop .inv .1) (start .pre .1)
 
 same-length : tie.Need-same-length Inv-loop μ-loop
 same-length c =
-    let at = c .before .before .before .before .before in sizes at .words ∙ turn at .loop .inv .1 .reaching .sizes .words
+    let at : tie.After-meet Inv-loop μ-loop = search in
+    let turn : tie.At-loop Inv-loop μ-loop = search in sizes at .words ∙ turn .loop .inv .1 .reaching .sizes .words
 
 same-length-2 : tie.Need-same-length-2 Inv-loop μ-loop
 same-length-2 c =
-    let at = c .before .before .before .before .before in sizes at .sets ∙ turn at .loop .inv .1 .reaching .sizes .sets
+    let at : tie.After-meet Inv-loop μ-loop = search in
+    let turn : tie.At-loop Inv-loop μ-loop = search in sizes at .sets ∙ turn .loop .inv .1 .reaching .sizes .sets
 
 returns-2 : tie.Need-returns-2 Inv-loop μ-loop
 returns-2 c =
-    let at = c .before .before .before .before .before in
-    let before = turn at in
-    let args = start (tested before) .args in
+    let at : tie.After-meet Inv-loop μ-loop = search in
+    let chosen : tie.After-successor Inv-loop μ-loop = search in
+    let one : tie.In-loop Inv-loop μ-loop = search in
+    let turn : tie.At-loop Inv-loop μ-loop = search in
+    let counted : tie.After-choices Inv-loop μ-loop = search in
+    let goes : tie.Else1 Inv-loop μ-loop = search in
+    let tested : tie.After-blocked Inv-loop μ-loop = search in
+    let worked-out : tie.After-on-letter Inv-loop μ-loop = search in
+    let start : tie.Start Inv-loop μ-loop = search in
+    let args = start .args in
     letter-full wide-range (args .masks .now) (args .shape) (args .x) (args .source) (args .letter)
-    (worked-out (tested before) .on-letter .ensures) (tested before .blocked .ensures) (goes before .if1 .left)
-    (counted before .choices .ensures) (before .loop .inv .1) (chosen at .successor .ensures) (at .meet .ensures)
-    (one at .loop-test .taken) (c .if2 .taken)
+    (worked-out .on-letter .ensures) (tested .blocked .ensures) (goes .if1 .left)
+    (counted .choices .ensures) (turn .loop .inv .1) (chosen .successor .ensures) (at .meet .ensures)
+    (one .loop-test .taken) (c .if2 .taken)
 
 add-choice : tie.Need-add-choice Inv-loop μ-loop
 add-choice c = omega arith
@@ -115,23 +103,30 @@ loop-less c = omega arith
 
 loop-again : tie.Need-loop-again Inv-loop μ-loop
 loop-again c =
-    let at = c .before .before .before .before .before in (
+    let at : tie.After-meet Inv-loop μ-loop = search in
+    let chosen : tie.After-successor Inv-loop μ-loop = search in
+    let turn : tie.At-loop Inv-loop μ-loop = search in (
       omega arith,
-      choose-turn (turn at .loop .inv .1) (rw (chosen at .successor .ensures) at (at .meet .ensures)) (sizes at) (c .if2 .left),
+      choose-turn (turn .loop .inv .1) (rw (chosen .successor .ensures) at (at .meet .ensures)) (sizes at) (c .if2 .left),
     )
 
 same-length-3 : tie.Need-same-length-3 Inv-loop μ-loop
-same-length-3 c = c .before .loop .inv .1 .reaching .sizes .words
+same-length-3 c = let at-loop : tie.At-loop Inv-loop μ-loop = search in at-loop .loop .inv .1 .reaching .sizes .words
 
 same-length-4 : tie.Need-same-length-4 Inv-loop μ-loop
-same-length-4 c = c .before .loop .inv .1 .reaching .sizes .sets
+same-length-4 c = let at-loop : tie.At-loop Inv-loop μ-loop = search in at-loop .loop .inv .1 .reaching .sizes .sets
 
 returns-3 : tie.Need-returns-3 Inv-loop μ-loop
 returns-3 c =
-    let at = c .before in
-    let args = start (tested at) .args in
+    let at : tie.At-loop Inv-loop μ-loop = search in
+    let counted : tie.After-choices Inv-loop μ-loop = search in
+    let goes : tie.Else1 Inv-loop μ-loop = search in
+    let tested : tie.After-blocked Inv-loop μ-loop = search in
+    let worked-out : tie.After-on-letter Inv-loop μ-loop = search in
+    let start : tie.Start Inv-loop μ-loop = search in
+    let args = start .args in
     letter-end wide-range (args .masks .now) (args .shape) (args .x) (args .source) (args .letter)
-    (worked-out (tested at) .on-letter .ensures) (tested at .blocked .ensures) (goes at .if1 .left) (counted at .choices .ensures)
+    (worked-out .on-letter .ensures) (tested .blocked .ensures) (goes .if1 .left) (counted .choices .ensures)
     (at .loop .inv .1) (at .loop .inv .0) (c .loop-test .left)
 
 pub add-successors-spec : {M : Type 1} → statement M

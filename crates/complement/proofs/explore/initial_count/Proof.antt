@@ -11,7 +11,10 @@ choices-requires : tie.Need-choices-requires
 choices-requires c κs = search needs
 
 returns : tie.Need-returns
-returns c = start-counted (c .before .before .before .args .shape) (c .before .without .ensures) (c .choices .ensures .0)
+returns c =
+    let after-without : tie.After-without = search in
+    let start : tie.Start = search in
+    start-counted (start .args .shape) (after-without .without .ensures) (c .choices .ensures .0)
 
 pub initial-count-spec : {M : Type 1} → statement M
 initial-count-spec = tie.close (tie.spec without-requires choices-requires returns)

@@ -14,7 +14,8 @@ add-result c = search needs
 returns : tie.Need-returns
 unfolding wide-range
 returns c =
-    let at = c .before .args in
+    let start : tie.Start = search in
+    let at = start .args in
     let e = an-edge (at .source) (at .letter) (at .target) in
     (edge-past wide-range (at .words .now) (at .edges) e (c .if1 .taken), count-stops wide-range (at .edges) (c .if1 .taken))
 
@@ -33,9 +34,11 @@ add-result-2 c = search needs
 returns-2 : tie.Need-returns-2
 unfolding wide-range
 returns-2 c =
-    let at = c .before .before .args in
+    let left-1 : tie.Else1 = search in
+    let start : tie.Start = search in
+    let at = start .args in
     let e = an-edge (at .source) (at .letter) (at .target) in
-    (edge-long wide-range (at .words .now) (at .edges) e (c .if2 .taken), count-more wide-range (at .edges) (c .before .if1 .left))
+    (edge-long wide-range (at .words .now) (at .edges) e (c .if2 .taken), count-more wide-range (at .edges) (left-1 .if1 .left))
 
 mul-words : tie.Need-mul-words
 mul-words c = search needs
@@ -70,9 +73,11 @@ same-length c = search needs
 returns-3 : tie.Need-returns-3
 unfolding wide-range
 returns-3 c =
-    let at = c .before .before .args in (
-      edge-stored wide-range (at .words .now) (at .edges) (at .source) (at .letter) (at .target) (c .before .if1 .left) (c .if2 .left),
-      count-more wide-range (at .edges) (c .before .if1 .left),
+    let left-1 : tie.Else1 = search in
+    let start : tie.Start = search in
+    let at = start .args in (
+      edge-stored wide-range (at .words .now) (at .edges) (at .source) (at .letter) (at .target) (left-1 .if1 .left) (c .if2 .left),
+      count-more wide-range (at .edges) (left-1 .if1 .left),
     )
 
 pub keep-edge-spec : {M : Type 1} → statement M

@@ -9,38 +9,34 @@ use borrow.Author.Needs.{needs}
 use Rattle.complement.proofs.explore.meet.Statement.{statement}
 use Rattle.complement.proofs.explore.meet.Tie as tie
 
--- THE PLACES
 -- the room is known
 module _ (c : tie.After-room) where
   abbrev placed : tie.After-place
-  placed = c .before .before .before .before
+  placed = search
 
   abbrev start : tie.Start
-  start = placed .before .before .before .before
+  start = search
 
 -- there is room: both states' numbers are below what a table can have
 module _ (c : tie.Else1) where
   abbrev roomy : tie.After-room
-  roomy = c .before
+  roomy = search
 
   source-few : start roomy .args .source < wide-range .states
   source-few =
-      let asked = start roomy .pre in
+      let start : tie.Start = search in
+      let asked = start .pre in
       let inside = asked .inside in
       let count = asked .shows .states .counted in
       let most = asked .shows .states .fits in
-      let limit = capacity-limit wide-range (start roomy .args .sets .now) in omega arith
+      let limit = capacity-limit wide-range (start .args .sets .now) in omega arith
 
   target-few : placed roomy .place .result < wide-range .states
   target-few =
+      let placed : tie.After-place = search in
       let inside = c .if1 .left in
       let room = roomy .room .ensures in
-      let limit = capacity-limit wide-range (placed roomy .place .last .0) in omega arith
-
--- the edge is kept
-module _ (c : tie.After-keep-edge) where
-  abbrev fits : tie.Else1
-  fits = c .before .before
+      let limit = capacity-limit wide-range (placed .place .last .0) in omega arith
 
 -- THE NEEDS
 place-requires : tie.Need-place-requires
@@ -55,19 +51,25 @@ same-length c = search needs
 returns : tie.Need-returns
 unfolding overfull
 returns c =
-    let at = c .before in
-    meet-full wide-range _ _ _ {p = start at .args .found} (placed at .place .ensures) _ (at .room .ensures) (c .if1 .taken)
+    let at : tie.After-room = search in
+    let placed : tie.After-place = search in
+    let start : tie.Start = search in
+    meet-full wide-range _ _ _ {p = start .args .found} (placed .place .ensures) _ (at .room .ensures) (c .if1 .taken)
 
 cast-keep-edge : tie.Need-cast-keep-edge
 unfolding wide-range
-cast-keep-edge c = let source = source-few (c .before) in let target = target-few (c .before) in omega arith
+cast-keep-edge c =
+    let left-1 : tie.Else1 = search in
+    let source = source-few left-1 in let target = target-few left-1 in omega arith
 
 cast-keep-edge-2 : tie.Need-cast-keep-edge-2
 cast-keep-edge-2 c = search needs
 
 cast-keep-edge-3 : tie.Need-cast-keep-edge-3
 unfolding wide-range
-cast-keep-edge-3 c = let source = source-few (c .before) in let target = target-few (c .before) in omega arith
+cast-keep-edge-3 c =
+    let left-1 : tie.Else1 = search in
+    let source = source-few left-1 in let target = target-few left-1 in omega arith
 
 keep-edge-requires : tie.Need-keep-edge-requires
 keep-edge-requires c κs = search needs
@@ -80,8 +82,9 @@ same-length-3 c = search needs
 
 returns-2 : tie.Need-returns-2
 returns-2 c =
-    let kept = c .before .before .before in
-    meet-known wide-range _ _ _ (placed (roomy (fits kept)) .place .ensures) (c .if2 .taken) (kept .keep-edge .ensures .0)
+    let kept : tie.After-keep-edge = search in
+    let placed : tie.After-place = search in
+    meet-known wide-range _ _ _ (placed .place .ensures) (c .if2 .taken) (kept .keep-edge .ensures .0)
     (kept .keep-edge .ensures .1)
 
 add-t12 : tie.Need-add-t12
@@ -95,9 +98,11 @@ same-length-5 c = search needs
 
 returns-3 : tie.Need-returns-3
 returns-3 c =
-    let kept = c .before .before .before in
-    let at = roomy (fits kept) in
-    meet-new wide-range _ _ _ (placed at .place .ensures) _ (at .room .ensures) (fits kept .if1 .left) (c .if2 .left)
+    let kept : tie.After-keep-edge = search in
+    let fits : tie.Else1 = search in
+    let roomy : tie.After-room = search in
+    let placed : tie.After-place = search in
+    meet-new wide-range _ _ _ (placed .place .ensures) _ (roomy .room .ensures) (fits .if1 .left) (c .if2 .left)
     (kept .keep-edge .ensures .0) (kept .keep-edge .ensures .1)
 
 pub meet-spec : {M : Type 1} → statement M

@@ -10,39 +10,27 @@ use borrow.Author.Needs.{needs}
 use Rattle.complement.proofs.explore.place.Statement.{statement}
 use Rattle.complement.proofs.explore.place.Tie as tie
 
--- THE PLACES
--- it is looked up
-module _ (c : tie.After-find) where
-  abbrev start : tie.Start
-  start = c .before .before .before
-
--- it is new, and the room is known
-module _ (c : tie.After-room) where
-  abbrev new : tie.Else1
-  new = c .before .before
-
-  abbrev looked : tie.After-find
-  looked = new .before
-
 -- THE NEEDS
 find-requires : tie.Need-find-requires
 find-requires c κs =
-    let begun = c .before .before in capacity-full wide-range (begun .args .sets .now) (begun .args .states) (begun .pre)
+    let begun : tie.Start = search in capacity-full wide-range (begun .args .sets .now) (begun .args .states) (begun .pre)
 
 same-length : tie.Need-same-length
 same-length c = search needs
 
 returns : tie.Need-returns
-returns c = known (c .if1 .taken) (c .before .find .ensures) refl
+returns c = let after-find : tie.After-find = search in known (c .if1 .taken) (after-find .find .ensures) refl
 
 room-requires : tie.Need-room-requires
 room-requires c κs = search needs
 
 store-requires : tie.Need-store-requires
 store-requires c κs =
-    let at = c .before .before in
-    let args = start (looked at) .args in
-    let l = c .before .if2 .taken in
+    let taken-2 : tie.Then2 = search in
+    let at : tie.After-room = search in
+    let start : tie.Start = search in
+    let args = start .args in
+    let l = taken-2 .if2 .taken in
     let e = at .room .ensures in capacity-full wide-range (args .sets .now) (suc (args .states)) (omega arith)
 
 same-length-2 : tie.Need-same-length-2
@@ -50,21 +38,25 @@ same-length-2 c = search needs
 
 returns-2 : tie.Need-returns-2
 returns-2 c =
-    let stored = c .before .before in
-    let roomy = stored .before .before in
-    let at = roomy .before in
+    let stored : tie.After-store = search in
+    let roomy : tie.Then2 = search in
+    let at : tie.After-room = search in
+    let new : tie.Else1 = search in
+    let looked : tie.After-find = search in
     let l = roomy .if2 .taken in
     let e = at .room .ensures in
-    fresh refl (looked-all _ _ (looked at .find .ensures) (new at .if1 .left)) (omega arith) (stored .store .ensures)
+    fresh refl (looked-all _ _ (looked .find .ensures) (new .if1 .left)) (omega arith) (stored .store .ensures)
 
 same-length-3 : tie.Need-same-length-3
 same-length-3 c = search needs
 
 returns-3 : tie.Need-returns-3
 returns-3 c =
-    let at = c .before in
+    let at : tie.After-room = search in
+    let new : tie.Else1 = search in
+    let looked : tie.After-find = search in
     let l = c .if2 .left in
-    let e = at .room .ensures in left-out refl (looked-all _ _ (looked at .find .ensures) (new at .if1 .left)) (omega arith) refl
+    let e = at .room .ensures in left-out refl (looked-all _ _ (looked .find .ensures) (new .if1 .left)) (omega arith) refl
 
 pub place-spec : {M : Type 1} → statement M
 place-spec =

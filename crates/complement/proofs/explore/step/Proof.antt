@@ -19,22 +19,10 @@ Inv-loop shape words₀ sets₀ source masks x letters progress₀ letter₀ wor
 abbrev μ-loop : tie.MeasureT-loop
 μ-loop shape words₀ sets₀ source masks x letters progress₀ letter₀ words sets progress letter = letters - letter
 
--- THE PLACES
--- before a letter
-module _ (c : tie.At-loop Inv-loop μ-loop) where
-  abbrev loaded : tie.After-load Inv-loop μ-loop
-  loaded = c .before
-
-  abbrev start : tie.Start Inv-loop μ-loop
-  start = loaded .before .before .before .before
-
 -- its edges are added
 module _ (c : tie.After-add-successors Inv-loop μ-loop) where
-  abbrev one : tie.In-loop Inv-loop μ-loop
-  one = c .before .before .before .before
-
   abbrev turn : tie.At-loop Inv-loop μ-loop
-  turn = one .before
+  turn = search
 
   sizes :
       Same-sizes (lent (c .add-successors .last .1 .1 .0) (c .add-successors .last .1 .1 .1 .0))
@@ -43,31 +31,38 @@ module _ (c : tie.After-add-successors Inv-loop μ-loop) where
 
 -- THE NEEDS
 load-requires : tie.Need-load-requires Inv-loop μ-loop
-load-requires c κs = expand-load (c .before .before .before .pre)
+load-requires c κs = let began : tie.Start Inv-loop μ-loop = search in expand-load (began .pre)
 
 loop-holds : tie.Need-loop-holds Inv-loop μ-loop
 loop-holds c = (omega arith, spell-start)
 
 add-successors-requires : tie.Need-add-successors-requires Inv-loop μ-loop
 add-successors-requires c κs =
-    let at = c .before .before .before in
-    let begun = start (at .before) in
-    (narrow (begun .args .t1) _ (begun .good .0), spell-asks (at .before .loop .inv .1) (at .loop-test .taken) (begun .pre))
+    let at : tie.In-loop Inv-loop μ-loop = search in
+    let at-loop : tie.At-loop Inv-loop μ-loop = search in
+    let start : tie.Start Inv-loop μ-loop = search in
+    (narrow (start .args .t1) _ (start .good .0), spell-asks (at-loop .loop .inv .1) (at .loop-test .taken) (start .pre))
 
 same-length : tie.Need-same-length Inv-loop μ-loop
 same-length c =
-    let at = c .before .before .before .before .before in sizes at .words ∙ turn at .loop .inv .1 .reaching .sizes .words
+    let at : tie.After-add-successors Inv-loop μ-loop = search in
+    let turn : tie.At-loop Inv-loop μ-loop = search in sizes at .words ∙ turn .loop .inv .1 .reaching .sizes .words
 
 same-length-2 : tie.Need-same-length-2 Inv-loop μ-loop
 same-length-2 c =
-    let at = c .before .before .before .before .before in sizes at .sets ∙ turn at .loop .inv .1 .reaching .sizes .sets
+    let at : tie.After-add-successors Inv-loop μ-loop = search in
+    let turn : tie.At-loop Inv-loop μ-loop = search in sizes at .sets ∙ turn .loop .inv .1 .reaching .sizes .sets
 
 returns : tie.Need-returns Inv-loop μ-loop
 unfolding ncsb
 returns c =
-    let at = c .before .before .before .before .before in
-    rw (← loaded (turn at) .load .ensures)
-    (spell-full (turn at .loop .inv .1) (at .add-successors .ensures) (start (turn at) .args .shape .letters) (one at .loop-test .taken)
+    let at : tie.After-add-successors Inv-loop μ-loop = search in
+    let one : tie.In-loop Inv-loop μ-loop = search in
+    let turn : tie.At-loop Inv-loop μ-loop = search in
+    let loaded : tie.After-load Inv-loop μ-loop = search in
+    let start : tie.Start Inv-loop μ-loop = search in
+    rw (← loaded .load .ensures)
+    (spell-full (turn .loop .inv .1) (at .add-successors .ensures) (start .args .shape .letters) (one .loop-test .taken)
     (c .if1 .taken))
 
 add-letter : tie.Need-add-letter Inv-loop μ-loop
@@ -79,20 +74,23 @@ loop-less c = omega arith
 loop-again : tie.Need-loop-again Inv-loop μ-loop
 unfolding ncsb
 loop-again c =
-    let at = c .before .before .before .before .before in
-    (omega arith, spell-turn (turn at .loop .inv .1) (at .add-successors .ensures) (sizes at) (c .if1 .left))
+    let at : tie.After-add-successors Inv-loop μ-loop = search in
+    let turn : tie.At-loop Inv-loop μ-loop = search in
+    (omega arith, spell-turn (turn .loop .inv .1) (at .add-successors .ensures) (sizes at) (c .if1 .left))
 
 same-length-3 : tie.Need-same-length-3 Inv-loop μ-loop
-same-length-3 c = c .before .loop .inv .1 .reaching .sizes .words
+same-length-3 c = let at-loop : tie.At-loop Inv-loop μ-loop = search in at-loop .loop .inv .1 .reaching .sizes .words
 
 same-length-4 : tie.Need-same-length-4 Inv-loop μ-loop
-same-length-4 c = c .before .loop .inv .1 .reaching .sizes .sets
+same-length-4 c = let at-loop : tie.At-loop Inv-loop μ-loop = search in at-loop .loop .inv .1 .reaching .sizes .sets
 
 returns-2 : tie.Need-returns-2 Inv-loop μ-loop
 returns-2 c =
-    let at = c .before in
-    rw (← loaded at .load .ensures)
-    (spell-end (at .loop .inv .1) (start at .args .shape .letters) (at .loop .inv .0) (c .loop-test .left))
+    let at : tie.At-loop Inv-loop μ-loop = search in
+    let loaded : tie.After-load Inv-loop μ-loop = search in
+    let start : tie.Start Inv-loop μ-loop = search in
+    rw (← loaded .load .ensures)
+    (spell-end (at .loop .inv .1) (start .args .shape .letters) (at .loop .inv .0) (c .loop-test .left))
 
 pub step-spec : {M : Type 1} → statement M
 step-spec =

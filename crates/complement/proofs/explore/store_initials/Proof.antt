@@ -14,23 +14,6 @@ Inv-loop shape sets₀ choices choice₀ sets choice = (choice ≤ choices) × S
 abbrev μ-loop : tie.MeasureT-loop
 μ-loop shape sets₀ choices choice₀ sets choice = choices - choice
 
--- THE PLACES
--- the room is known
-module _ (c : tie.After-room Inv-loop μ-loop) where
-  abbrev counted : tie.After-initial-count Inv-loop μ-loop
-  counted = c .before .before
-
-  abbrev start : tie.Start Inv-loop μ-loop
-  start = counted .before .before
-
--- before a choice
-module _ (c : tie.At-loop Inv-loop μ-loop) where
-  abbrev roomy : tie.Else1 Inv-loop μ-loop
-  roomy = c .before
-
-  abbrev measured : tie.After-room Inv-loop μ-loop
-  measured = roomy .before
-
 -- THE NEEDS
 initial-count-requires : tie.Need-initial-count-requires Inv-loop μ-loop
 initial-count-requires c κs = tt
@@ -44,20 +27,25 @@ same-length c = refl
 returns : tie.Need-returns Inv-loop μ-loop
 unfolding overfull
 returns c =
-    let at = c .before in
-    start-full wide-range (start at .args .shape) (counted at .initial-count .ensures) (at .room .ensures) (c .if1 .taken) refl
+    let at : tie.After-room Inv-loop μ-loop = search in
+    let counted : tie.After-initial-count Inv-loop μ-loop = search in
+    let start : tie.Start Inv-loop μ-loop = search in
+    start-full wide-range (start .args .shape) (counted .initial-count .ensures) (at .room .ensures) (c .if1 .taken) refl
 
 loop-holds : tie.Need-loop-holds Inv-loop μ-loop
 loop-holds c =
-    let at = c .before in
-    (omega arith, store-start wide-range (start at .args .shape) (counted at .initial-count .ensures) (start at .pre))
+    let counted : tie.After-initial-count Inv-loop μ-loop = search in
+    let start : tie.Start Inv-loop μ-loop = search in
+    (omega arith, store-start wide-range (start .args .shape) (counted .initial-count .ensures) (start .pre))
 
 cast-initial : tie.Need-cast-initial Inv-loop μ-loop
 cast-initial c =
-    let at = measured (c .before) in
+    let at-loop : tie.At-loop Inv-loop μ-loop = search in
+    let counted : tie.After-initial-count Inv-loop μ-loop = search in
+    let start : tie.Start Inv-loop μ-loop = search in
     record {
       fits =
-          start-fits wide-range (start at .args .shape) (counted at .initial-count .ensures) (c .before .loop .choice)
+          start-fits wide-range (start .args .shape) (counted .initial-count .ensures) (at-loop .loop .choice)
           (c .loop-test .taken);
     }
 
@@ -66,11 +54,14 @@ initial-requires c κs = tt
 
 store-requires : tie.Need-store-requires Inv-loop μ-loop
 store-requires c κs =
-    let one = c .before .before in
-    let turn = one .before in
-    let at = measured turn in
-    store-asks wide-range (start at .args .shape) (counted at .initial-count .ensures) (turn .loop .inv .1) (one .loop-test .taken)
-    (at .room .ensures) (roomy turn .if1 .left)
+    let one : tie.In-loop Inv-loop μ-loop = search in
+    let turn : tie.At-loop Inv-loop μ-loop = search in
+    let roomy : tie.Else1 Inv-loop μ-loop = search in
+    let measured : tie.After-room Inv-loop μ-loop = search in
+    let counted : tie.After-initial-count Inv-loop μ-loop = search in
+    let start : tie.Start Inv-loop μ-loop = search in
+    store-asks wide-range (start .args .shape) (counted .initial-count .ensures) (turn .loop .inv .1) (one .loop-test .taken)
+    (measured .room .ensures) (roomy .if1 .left)
 
 add-choice : tie.Need-add-choice Inv-loop μ-loop
 add-choice c = omega arith
@@ -80,24 +71,28 @@ loop-less c = omega arith
 
 loop-again : tie.Need-loop-again Inv-loop μ-loop
 loop-again c =
-    let stored = c .before .before in
-    let chosen = stored .before .before in
-    let one = chosen .before in
-    let turn = one .before in
-    let at = measured turn in (
+    let stored : tie.After-store Inv-loop μ-loop = search in
+    let chosen : tie.After-initial Inv-loop μ-loop = search in
+    let one : tie.In-loop Inv-loop μ-loop = search in
+    let turn : tie.At-loop Inv-loop μ-loop = search in
+    let roomy : tie.Else1 Inv-loop μ-loop = search in
+    let measured : tie.After-room Inv-loop μ-loop = search in
+    let counted : tie.After-initial-count Inv-loop μ-loop = search in
+    let start : tie.Start Inv-loop μ-loop = search in (
       omega arith,
-      store-turn wide-range (start at .args .shape) (counted at .initial-count .ensures) (turn .loop .inv .1) (one .loop-test .taken)
-          (at .room .ensures) (roomy turn .if1 .left) (chosen .initial .ensures) (stored .store .ensures) (stored .store .kept .0),
+      store-turn wide-range (start .args .shape) (counted .initial-count .ensures) (turn .loop .inv .1) (one .loop-test .taken)
+          (measured .room .ensures) (roomy .if1 .left) (chosen .initial .ensures) (stored .store .ensures) (stored .store .kept .0),
     )
 
 same-length-2 : tie.Need-same-length-2 Inv-loop μ-loop
-same-length-2 c = c .before .loop .inv .1 .size
+same-length-2 c = let at-loop : tie.At-loop Inv-loop μ-loop = search in at-loop .loop .inv .1 .size
 
 returns-2 : tie.Need-returns-2 Inv-loop μ-loop
 returns-2 c =
-    let turn = c .before in
-    let at = measured turn in
-    store-end wide-range (start at .args .shape) (counted at .initial-count .ensures) (turn .loop .inv .1) (turn .loop .inv .0)
+    let turn : tie.At-loop Inv-loop μ-loop = search in
+    let counted : tie.After-initial-count Inv-loop μ-loop = search in
+    let start : tie.Start Inv-loop μ-loop = search in
+    store-end wide-range (start .args .shape) (counted .initial-count .ensures) (turn .loop .inv .1) (turn .loop .inv .0)
     (c .loop-test .left) refl refl refl
 
 pub store-initials-spec : {M : Type 1} → statement M

@@ -14,29 +14,17 @@ Inv-loop words₀ sets initial states state₀ words state = (state ≤ states) 
 abbrev μ-loop : tie.MeasureT-loop
 μ-loop words₀ sets initial states state₀ words state = states - state
 
--- THE PLACES
--- before a state
-module _ (c : tie.At-loop Inv-loop μ-loop) where
-  abbrev start : tie.Start Inv-loop μ-loop
-  start = c .before .before .before
-
--- its flags are known
-module _ (c : tie.After-state-flags Inv-loop μ-loop) where
-  abbrev one : tie.In-loop Inv-loop μ-loop
-  one = c .before
-
-  abbrev turn : tie.At-loop Inv-loop μ-loop
-  turn = one .before
-
 -- THE NEEDS
 loop-holds : tie.Need-loop-holds Inv-loop μ-loop
 loop-holds c =
-    let args = c .before .before .args in
+    let begun : tie.Start Inv-loop μ-loop = search in
+    let args = begun .args in
     (omega arith, refl, flags-start (record-accepts (args .sets .now)) (args .initial) (args .words .now))
 
 state-flags-requires : tie.Need-state-flags-requires Inv-loop μ-loop
 state-flags-requires c κs =
-    let l = c .loop-test .taken in let r = start (c .before) .pre .sets-room in omega arith
+    let start : tie.Start Inv-loop μ-loop = search in
+    let l = c .loop-test .taken in let r = start .pre .sets-room in omega arith
 
 mul-words : tie.Need-mul-words Inv-loop μ-loop
 mul-words c = omega arith
@@ -49,9 +37,12 @@ mul-words-2 c = omega arith
 
 slice-write-words : tie.Need-slice-write-words Inv-loop μ-loop
 slice-write-words c =
-    let l = one c .loop-test .taken in
-    let r = start (turn c) .pre .words-room in
-    let e = turn c .loop .inv .1 in omega arith
+    let one : tie.In-loop Inv-loop μ-loop = search in
+    let turn : tie.At-loop Inv-loop μ-loop = search in
+    let start : tie.Start Inv-loop μ-loop = search in
+    let l = one .loop-test .taken in
+    let r = start .pre .words-room in
+    let e = turn .loop .inv .1 in omega arith
 
 add-state : tie.Need-add-state Inv-loop μ-loop
 add-state c = omega arith
@@ -61,21 +52,23 @@ loop-less c = omega arith
 
 loop-again : tie.Need-loop-again Inv-loop μ-loop
 loop-again c =
-    let at = turn c in
-    let args = start at .args in (
+    let turn : tie.At-loop Inv-loop μ-loop = search in
+    let start : tie.Start Inv-loop μ-loop = search in
+    let args = start .args in (
       omega arith,
-      simp length-set (at .loop .inv .1),
-      flags-turn (record-accepts (args .sets .now)) (args .initial) (args .words .now) (at .loop .state) (at .loop .inv .2)
+      simp length-set (turn .loop .inv .1),
+      flags-turn (record-accepts (args .sets .now)) (args .initial) (args .words .now) (turn .loop .state) (turn .loop .inv .2)
           (c .state-flags .ensures),
     )
 
 same-length : tie.Need-same-length Inv-loop μ-loop
-same-length c = c .before .loop .inv .1
+same-length c = let at-loop : tie.At-loop Inv-loop μ-loop = search in at-loop .loop .inv .1
 
 returns : tie.Need-returns Inv-loop μ-loop
 returns c =
-    let at = c .before in
-    let args = start at .args in
+    let at : tie.At-loop Inv-loop μ-loop = search in
+    let start : tie.Start Inv-loop μ-loop = search in
+    let args = start .args in
     flags-end (record-accepts (args .sets .now)) (args .initial) (args .words .now) (at .loop .state) (args .states) (at .loop .inv .2)
     (at .loop .inv .0) (c .loop-test .left)
 

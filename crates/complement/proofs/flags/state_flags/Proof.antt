@@ -6,11 +6,6 @@ use borrow.Author.Needs.{needs}
 use Rattle.complement.proofs.flags.state_flags.Statement.{statement}
 use Rattle.complement.proofs.flags.state_flags.Tie as tie
 
--- the record is loaded
-module _ (c : tie.After-load) where
-  abbrev start : tie.Start
-  start = c .before .before
-
 load-requires : tie.Need-load-requires
 load-requires c κs = search needs
 
@@ -19,38 +14,46 @@ accepting-requires c κs = search needs
 
 returns : tie.Need-returns
 returns c =
-    let tested = c .before in
-    let first = tested .before in
-    let args = start (first .before) .args in
+    let tested : tie.After-accepting = search in
+    let first : tie.Then1 = search in
+    let after-load : tie.After-load = search in
+    let start : tie.Start = search in
+    let args = start .args in
     flags-both (record-accepts (args .sets .now)) (args .initial) (args .state) (first .if1 .taken)
-    (accepts-loaded (args .sets .now) (args .state) (first .before .load .ensures) (tested .accepting .ensures) ∙ c .if2 .taken)
+    (accepts-loaded (args .sets .now) (args .state) (after-load .load .ensures) (tested .accepting .ensures) ∙ c .if2 .taken)
 
 returns-2 : tie.Need-returns-2
 returns-2 c =
-    let tested = c .before in
-    let first = tested .before in
-    let args = start (first .before) .args in
+    let tested : tie.After-accepting = search in
+    let first : tie.Then1 = search in
+    let after-load : tie.After-load = search in
+    let start : tie.Start = search in
+    let args = start .args in
     flags-initial (record-accepts (args .sets .now)) (args .initial) (args .state) (first .if1 .taken)
-    (accepts-loaded (args .sets .now) (args .state) (first .before .load .ensures) (tested .accepting .ensures) ∙ c .if2 .left)
+    (accepts-loaded (args .sets .now) (args .state) (after-load .load .ensures) (tested .accepting .ensures) ∙ c .if2 .left)
 
 accepting-requires-2 : tie.Need-accepting-requires-2
 accepting-requires-2 c κs = search needs
 
 returns-3 : tie.Need-returns-3
 returns-3 c =
-    let tested = c .before in
-    let later = tested .before in
-    let args = start (later .before) .args in
+    let tested : tie.After-accepting2 = search in
+    let later : tie.Else1 = search in
+    let after-load : tie.After-load = search in
+    let start : tie.Start = search in
+    let args = start .args in
     flags-accepting (record-accepts (args .sets .now)) (args .initial) (args .state) (later .if1 .left)
-    (accepts-loaded (args .sets .now) (args .state) (later .before .load .ensures) (tested .accepting2 .ensures) ∙ c .if3 .taken)
+    (accepts-loaded (args .sets .now) (args .state) (after-load .load .ensures) (tested .accepting2 .ensures) ∙ c .if3 .taken)
 
 returns-4 : tie.Need-returns-4
 returns-4 c =
-    let tested = c .before in
-    let later = tested .before in
-    let args = start (later .before) .args in
+    let tested : tie.After-accepting2 = search in
+    let later : tie.Else1 = search in
+    let after-load : tie.After-load = search in
+    let start : tie.Start = search in
+    let args = start .args in
     flags-none (record-accepts (args .sets .now)) (args .initial) (args .state) (later .if1 .left)
-    (accepts-loaded (args .sets .now) (args .state) (later .before .load .ensures) (tested .accepting2 .ensures) ∙ c .if3 .left)
+    (accepts-loaded (args .sets .now) (args .state) (after-load .load .ensures) (tested .accepting2 .ensures) ∙ c .if3 .left)
 
 pub state-flags-spec : {M : Type 1} → statement M
 state-flags-spec =

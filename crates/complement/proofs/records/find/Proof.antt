@@ -14,37 +14,28 @@ Inv-loop sets count x number₀ number = None-below (λ i. same x (quadruple-at 
 abbrev μ-loop : tie.MeasureT-loop
 μ-loop sets count x number₀ number = count - number
 
--- THE PLACES
--- a record is compared
-module _ (c : tie.After-equals Inv-loop μ-loop) where
-  abbrev loaded : tie.After-load Inv-loop μ-loop
-  loaded = c .before
-
-  abbrev one : tie.In-loop Inv-loop μ-loop
-  one = loaded .before
-
-  abbrev turn : tie.At-loop Inv-loop μ-loop
-  turn = one .before
-
-  abbrev start : tie.Start Inv-loop μ-loop
-  start = turn .before .before
-
 -- THE NEEDS
 loop-holds : tie.Need-loop-holds Inv-loop μ-loop
 loop-holds c = none-start _ _
 
 load-requires : tie.Need-load-requires Inv-loop μ-loop
-load-requires c κs = let l = c .loop-test .taken in let p = c .before .before .before .pre in omega arith
+load-requires c κs =
+    let begun : tie.Start Inv-loop μ-loop = search in
+    let l = c .loop-test .taken in let p = begun .pre in omega arith
 
 equals-requires : tie.Need-equals-requires Inv-loop μ-loop
 equals-requires c κs = tt
 
 returns : tie.Need-returns Inv-loop μ-loop
 returns c =
-    let at = c .before in
-    let args = start at .args in
-    looked-found (args .sets .now) (args .x) (one at .loop-test .taken) (turn at .loop .inv)
-    (compared (args .x) (at .equals .ensures) (loaded at .load .ensures) (c .if1 .taken))
+    let at : tie.After-equals Inv-loop μ-loop = search in
+    let loaded : tie.After-load Inv-loop μ-loop = search in
+    let one : tie.In-loop Inv-loop μ-loop = search in
+    let turn : tie.At-loop Inv-loop μ-loop = search in
+    let start : tie.Start Inv-loop μ-loop = search in
+    let args = start .args in
+    looked-found (args .sets .now) (args .x) (one .loop-test .taken) (turn .loop .inv)
+    (compared (args .x) (at .equals .ensures) (loaded .load .ensures) (c .if1 .taken))
 
 add-number : tie.Need-add-number Inv-loop μ-loop
 add-number c = omega arith
@@ -54,13 +45,19 @@ loop-less c = omega arith
 
 loop-again : tie.Need-loop-again Inv-loop μ-loop
 loop-again c =
-    let at = c .before in
-    none-turn _ _ _ (one at .loop-test .taken)
-    (compared (start at .args .x) (at .equals .ensures) (loaded at .load .ensures) (c .if1 .left)) (turn at .loop .inv)
+    let at : tie.After-equals Inv-loop μ-loop = search in
+    let loaded : tie.After-load Inv-loop μ-loop = search in
+    let one : tie.In-loop Inv-loop μ-loop = search in
+    let turn : tie.At-loop Inv-loop μ-loop = search in
+    let start : tie.Start Inv-loop μ-loop = search in
+    none-turn _ _ _ (one .loop-test .taken)
+    (compared (start .args .x) (at .equals .ensures) (loaded .load .ensures) (c .if1 .left)) (turn .loop .inv)
 
 returns-2 : tie.Need-returns-2 Inv-loop μ-loop
 returns-2 c =
-    let args = c .before .before .before .args in looked-none (args .sets .now) (args .x) (c .loop-test .left) (c .before .loop .inv)
+    let at-loop : tie.At-loop Inv-loop μ-loop = search in
+    let begun : tie.Start Inv-loop μ-loop = search in
+    let args = begun .args in looked-none (args .sets .now) (args .x) (c .loop-test .left) (at-loop .loop .inv)
 
 pub find-spec : {M : Type 1} → statement M
 find-spec =

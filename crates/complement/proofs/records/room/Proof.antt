@@ -11,12 +11,14 @@ full-records-requires c κs = search needs
 returns : tie.Need-returns
 unfolding wide-range
 returns c =
-    let at = c .before in room-records wide-range (at .before .before .args .sets .now) (at .full-records .ensures) (c .if1 .taken)
+    let at : tie.After-full-records = search in
+    let start : tie.Start = search in room-records wide-range (start .args .sets .now) (at .full-records .ensures) (c .if1 .taken)
 
 returns-2 : tie.Need-returns-2
 unfolding wide-range
 returns-2 c =
-    let at = c .before in room-limit wide-range (at .before .before .args .sets .now) (at .full-records .ensures) (c .if1 .left)
+    let at : tie.After-full-records = search in
+    let start : tie.Start = search in room-limit wide-range (start .args .sets .now) (at .full-records .ensures) (c .if1 .left)
 
 pub room-spec : {M : Type 1} → statement M
 room-spec = tie.close (tie.spec full-records-requires returns returns-2)

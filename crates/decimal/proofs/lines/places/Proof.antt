@@ -14,16 +14,18 @@ loop-holds : tie.Need-loop-holds Inv-loop μ-loop
 loop-holds c = counting-start (c .args .n) (omega arith)
 
 add-count : tie.Need-add-count Inv-loop μ-loop
-add-count c = record { fits = omega (arith, counting-small (c .loop-test .taken) (c .before .loop .inv)) }
+add-count c =
+    let turn : tie.At-loop Inv-loop μ-loop = search in
+    record { fits = omega (arith, counting-small (c .loop-test .taken) (turn .loop .inv)) }
 
 loop-less : tie.Need-loop-less Inv-loop μ-loop
 loop-less c = omega (arith, c .loop-test .taken)
 
 loop-again : tie.Need-loop-again Inv-loop μ-loop
-loop-again c = counting-turn (c .loop-test .taken) (c .before .loop .inv)
+loop-again c = let turn : tie.At-loop Inv-loop μ-loop = search in counting-turn (c .loop-test .taken) (turn .loop .inv)
 
 returns : tie.Need-returns Inv-loop μ-loop
-returns c = counting-end (c .loop-test .left) (c .before .loop .inv)
+returns c = let turn : tie.At-loop Inv-loop μ-loop = search in counting-end (c .loop-test .left) (turn .loop .inv)
 
 pub places-spec : {M : Type 1} → statement M
 places-spec =

@@ -18,8 +18,8 @@ same-length c = search needs
 
 returns : tie.Need-returns
 returns c =
-    let put : tie.After-put-number = c .before .before in
-    let entry : tie.Start = put .before .before .before in
+    let put : tie.After-put-number = search in
+    let entry : tie.Start = search in
     field-put (entry .args .n) (entry .args .behind) (entry .pre) (put .put-number .ensures)
 
 pub put-field-spec : {M : Type 1} → statement M

@@ -12,66 +12,70 @@ Inv-loop fields buffer₀ at last place₀ i₀ buffer place i = Lining fields b
 abbrev μ-loop : tie.MeasureT-loop
 μ-loop fields buffer₀ at last place₀ i₀ buffer place i = last - i
 
--- one turn, and what is behind the loop
-module _ (c : tie.After-put-field Inv-loop μ-loop) where
-  abbrev turn : tie.In-loop Inv-loop μ-loop
-  turn = c .before .before .before
-
-module _ (c : tie.After-put-field2 Inv-loop μ-loop) where
-  abbrev behind : tie.After-loop Inv-loop μ-loop
-  behind = c .before .before .before
-
-  abbrev entry : tie.Start Inv-loop μ-loop
-  entry = behind .before .before .before .before
-
 sub-last : tie.Need-sub-last Inv-loop μ-loop
-sub-last c = c .before .before .pre .0
+sub-last c = let start : tie.Start Inv-loop μ-loop = search in start .pre .0
 
 loop-holds : tie.Need-loop-holds Inv-loop μ-loop
-loop-holds c = lining-start _ _ _ (c .before .before .pre .0)
+loop-holds c = let start : tie.Start Inv-loop μ-loop = search in lining-start _ _ _ (start .pre .0)
 
 mul-put-field : tie.Need-mul-put-field Inv-loop μ-loop
-mul-put-field c = record { fits = omega (arith, c .loop-test .taken, c .before .before .before .before .good .0 .1) }
+mul-put-field c =
+    let start : tie.Start Inv-loop μ-loop = search in
+    record { fits = omega (arith, c .loop-test .taken, start .good .0 .1) }
 
 shared-slice-read-put-field : tie.Need-shared-slice-read-put-field Inv-loop μ-loop
-shared-slice-read-put-field c = omega (arith, c .before .loop-test .taken)
+shared-slice-read-put-field c =
+    let inside-loop : tie.In-loop Inv-loop μ-loop = search in
+    omega (arith, inside-loop .loop-test .taken)
 
 put-field-requires : tie.Need-put-field-requires Inv-loop μ-loop
 put-field-requires c κs =
-    let loop : tie.At-loop Inv-loop μ-loop = c .before .before .before in
-    lining-room (loop .before .before .before .pre .1) (loop .loop .inv)
+    let loop : tie.At-loop Inv-loop μ-loop = search in
+    let begun : tie.Start Inv-loop μ-loop = search in
+    lining-room (begun .pre .1) (loop .loop .inv)
 
 add-i : tie.Need-add-i Inv-loop μ-loop
-add-i c = record { fits = omega (arith, turn (c .before .before) .loop-test .taken) }
+add-i c =
+    let turn : tie.In-loop Inv-loop μ-loop = search in
+    record { fits = omega (arith, turn .loop-test .taken) }
 
 loop-less : tie.Need-loop-less Inv-loop μ-loop
-loop-less c = omega (arith, turn (c .before .before) .loop-test .taken)
+loop-less c =
+    let turn : tie.In-loop Inv-loop μ-loop = search in
+    omega (arith, turn .loop-test .taken)
 
 loop-again : tie.Need-loop-again Inv-loop μ-loop
 loop-again c =
-    let put : tie.After-put-field Inv-loop μ-loop = c .before .before in
-    lining-turn (turn put .loop-test .taken) (turn put .before .loop .inv) (put .put-field .ensures)
+    let put : tie.After-put-field Inv-loop μ-loop = search in
+    let turn : tie.In-loop Inv-loop μ-loop = search in
+    let at-loop : tie.At-loop Inv-loop μ-loop = search in
+    lining-turn (turn .loop-test .taken) (at-loop .loop .inv) (put .put-field .ensures)
 
 mul-put-field-2 : tie.Need-mul-put-field-2 Inv-loop μ-loop
-mul-put-field-2 c = record { fits = omega (arith, c .before .before .before .before .good .0 .1) }
+mul-put-field-2 c = let start : tie.Start Inv-loop μ-loop = search in record { fits = omega (arith, start .good .0 .1) }
 
 shared-slice-read-put-field-2 : tie.Need-shared-slice-read-put-field-2 Inv-loop μ-loop
-shared-slice-read-put-field-2 c = omega (arith, c .before .before .before .before .before .pre .0)
+shared-slice-read-put-field-2 c = let start : tie.Start Inv-loop μ-loop = search in omega (arith, start .pre .0)
 
 put-field-requires-2 : tie.Need-put-field-requires-2 Inv-loop μ-loop
 put-field-requires-2 c κs =
-    let loop : tie.At-loop Inv-loop μ-loop = c .before .before .before in
-    lining-room (loop .before .before .before .pre .1) (loop .loop .inv)
+    let loop : tie.At-loop Inv-loop μ-loop = search in
+    let begun : tie.Start Inv-loop μ-loop = search in
+    lining-room (begun .pre .1) (loop .loop .inv)
 
 same-length : tie.Need-same-length Inv-loop μ-loop
 same-length c =
-    let put : tie.After-put-field2 Inv-loop μ-loop = c .before .before in
-    same-length-of (put .put-field2 .ensures) ∙ behind put .before .loop .inv .same
+    let put : tie.After-put-field2 Inv-loop μ-loop = search in
+    let at-loop : tie.At-loop Inv-loop μ-loop = search in
+    same-length-of (put .put-field2 .ensures) ∙ at-loop .loop .inv .same
 
 returns : tie.Need-returns Inv-loop μ-loop
 returns c =
-    let put : tie.After-put-field2 Inv-loop μ-loop = c .before .before in
-    lining-end (entry put .pre .1) (behind put .loop-test .left) (behind put .before .loop .inv) (put .put-field2 .ensures)
+    let put : tie.After-put-field2 Inv-loop μ-loop = search in
+    let behind : tie.After-loop Inv-loop μ-loop = search in
+    let at-loop : tie.At-loop Inv-loop μ-loop = search in
+    let entry : tie.Start Inv-loop μ-loop = search in
+    lining-end (entry .pre .1) (behind .loop-test .left) (at-loop .loop .inv) (put .put-field2 .ensures)
 
 pub put-line-spec : {M : Type 1} → statement M
 put-line-spec =

@@ -14,7 +14,7 @@ places-requires : tie.Need-places-requires Inv-loop μ-loop
 places-requires c κs = tt
 
 add-end : tie.Need-add-end Inv-loop μ-loop
-add-end c = record { fits = omega (arith, c .places .ensures .few, c .before .before .pre) }
+add-end c = let start : tie.Start Inv-loop μ-loop = search in record { fits = omega (arith, c .places .ensures .few, start .pre) }
 
 loop-holds : tie.Need-loop-holds Inv-loop μ-loop
 loop-holds c = writing-start _ _ (c .places .ensures)
@@ -29,19 +29,27 @@ add-buffer : tie.Need-add-buffer Inv-loop μ-loop
 add-buffer c = record { fits = omega arith }
 
 slice-write-buffer : tie.Need-slice-write-buffer Inv-loop μ-loop
-slice-write-buffer c = writing-inside (c .before .before .places .ensures) (c .before .before .before .before .pre) (c .loop-test .taken) (c .before .loop .inv)
+slice-write-buffer c =
+    let turn : tie.At-loop Inv-loop μ-loop = search in
+    let after-places : tie.After-places Inv-loop μ-loop = search in
+    let start : tie.Start Inv-loop μ-loop = search in
+    writing-inside (after-places .places .ensures) (start .pre) (c .loop-test .taken) (turn .loop .inv)
 
 loop-less : tie.Need-loop-less Inv-loop μ-loop
 loop-less c = omega (arith, c .loop-test .taken)
 
 loop-again : tie.Need-loop-again Inv-loop μ-loop
-loop-again c = writing-turn (c .loop-test .taken) (c .before .loop .inv)
+loop-again c = let turn : tie.At-loop Inv-loop μ-loop = search in writing-turn (c .loop-test .taken) (turn .loop .inv)
 
 same-length : tie.Need-same-length Inv-loop μ-loop
-same-length c = c .before .loop .inv .same
+same-length c = let turn : tie.At-loop Inv-loop μ-loop = search in turn .loop .inv .same
 
 returns : tie.Need-returns Inv-loop μ-loop
-returns c = writing-end (c .before .before .places .ensures) (c .before .before .before .before .pre) (c .loop-test .left) (c .before .loop .inv)
+returns c =
+    let turn : tie.At-loop Inv-loop μ-loop = search in
+    let after-places : tie.After-places Inv-loop μ-loop = search in
+    let start : tie.Start Inv-loop μ-loop = search in
+    writing-end (after-places .places .ensures) (start .pre) (c .loop-test .left) (turn .loop .inv)
 
 pub put-number-spec : {M : Type 1} → statement M
 put-number-spec =

@@ -16,13 +16,17 @@ loop-holds : tie.Need-loop-holds Inv-loop μ-loop
 loop-holds c = copied-start _ _ _
 
 shared-slice-read-buffer : tie.Need-shared-slice-read-buffer Inv-loop μ-loop
-shared-slice-read-buffer c = c .before .loop-test .taken
+shared-slice-read-buffer c = let inside-loop : tie.In-loop Inv-loop μ-loop = search in inside-loop .loop-test .taken
 
 add-buffer : tie.Need-add-buffer Inv-loop μ-loop
 add-buffer c = omega arith
 
 slice-write-buffer : tie.Need-slice-write-buffer Inv-loop μ-loop
-slice-write-buffer c = omega (arith, copied-length (c .before .before .loop .inv), c .before .before .before .pre, c .before .loop-test .taken)
+slice-write-buffer c =
+    let inside-loop : tie.In-loop Inv-loop μ-loop = search in
+    let turn : tie.At-loop Inv-loop μ-loop = search in
+    let start : tie.Start Inv-loop μ-loop = search in
+    omega (arith, copied-length (turn .loop .inv), start .pre, inside-loop .loop-test .taken)
 
 add-i : tie.Need-add-i Inv-loop μ-loop
 add-i c = omega arith
@@ -31,16 +35,22 @@ loop-less : tie.Need-loop-less Inv-loop μ-loop
 loop-less c = omega arith
 
 loop-again : tie.Need-loop-again Inv-loop μ-loop
-loop-again c = copied-turn (c .before .loop-test .taken) (c .before .before .loop .inv)
+loop-again c =
+    let inside-loop : tie.In-loop Inv-loop μ-loop = search in
+    let turn : tie.At-loop Inv-loop μ-loop = search in
+    copied-turn (inside-loop .loop-test .taken) (turn .loop .inv)
 
 add-result : tie.Need-add-result Inv-loop μ-loop
 add-result c = omega arith
 
 same-length : tie.Need-same-length Inv-loop μ-loop
-same-length c = copied-length (c .before .loop .inv)
+same-length c = let turn : tie.At-loop Inv-loop μ-loop = search in copied-length (turn .loop .inv)
 
 returns : tie.Need-returns Inv-loop μ-loop
-returns c = copied-end (c .before .before .pre) (c .loop-test .left) (c .before .loop .inv)
+returns c =
+    let turn : tie.At-loop Inv-loop μ-loop = search in
+    let start : tie.Start Inv-loop μ-loop = search in
+    copied-end (start .pre) (c .loop-test .left) (turn .loop .inv)
 
 pub put-text-spec : {M : Type 1} → statement M
 put-text-spec =

@@ -4,10 +4,10 @@ use Rattle.decimal.proofs.reading.is_digit.Statement.{statement}
 use Rattle.decimal.proofs.reading.is_digit.Tie as tie
 
 returns : tie.Need-returns
-returns c = digit-high (c .before .args .byte) (c .if1 .taken)
+returns c = let start : tie.Start = search in digit-high (start .args .byte) (c .if1 .taken)
 
 returns-2 : tie.Need-returns-2
-returns-2 c = digit-low (c .before .args .byte) (c .if1 .left)
+returns-2 c = let start : tie.Start = search in digit-low (start .args .byte) (c .if1 .left)
 
 pub is-digit-spec : {M : Type 1} → statement M
 is-digit-spec = tie.close (tie.spec returns returns-2)

@@ -21,7 +21,9 @@ shl-work : tie.Need-shl-work
 shl-work c = search needs
 
 add-work : tie.Need-add-work
-add-work c = record { fits = raise-fits (c .before .pre) (c .slice-known .given (c .before .args .node / 16) .fits) }
+add-work c =
+    let start : tie.Start = search in
+    record { fits = raise-fits (start .pre) (c .slice-known .given (start .args .node / 16) .fits) }
 
 mul-work-2 : tie.Need-mul-work-2
 mul-work-2 c = search needs
@@ -33,7 +35,7 @@ same-length : tie.Need-same-length
 same-length c = search needs
 
 returns : tie.Need-returns
-returns c = raise-is (c .before .pre) (c .slice-known .given (c .before .args .node / 16) .fits)
+returns c = let start : tie.Start = search in raise-is (start .pre) (c .slice-known .given (start .args .node / 16) .fits)
 
 pub raise-spec : {M : Type 1} → statement M
 raise-spec =

@@ -7,24 +7,25 @@ use Rattle.lassos.proofs.inner_search.meets_grey.Tie as tie
 
 -- where the function begins
 abbrev start : tie.After-spread-node → tie.Start
-start c = let lent = c .before .before in lent .before .before .before .before
+start c = let begun : tie.Start = search in let lent : tie.After-slice-known = search in begun
 
 spread-node-requires : tie.Need-spread-node-requires
-spread-node-requires c κs = meets-asks (c .before .before .before .before .before .pre)
+spread-node-requires c κs = let begun : tie.Start = search in meets-asks (begun .pre)
 
 same-length : tie.Need-same-length
 same-length c = search needs
 
 returns : tie.Need-returns
 returns c =
-    let after = c .before .before .before in
+    let after : tie.After-spread-node = search in
     meets-at-once (start after .pre) (after .spread-node .ensures) (c .if1 .taken)
 
 drain-requires : tie.Need-drain-requires
 drain-requires c κs =
-    let after = c .before .before .before .before in
+    let left-1 : tie.Else1 = search in
+    let after : tie.After-spread-node = search in
     meets-drain (start after .pre) (after .spread-node .ensures)
-    (c .before .if1 .left)
+    (left-1 .if1 .left)
     (after .spread-node .kept .1 .1 .1 .0)
 
 same-length-2 : tie.Need-same-length-2
@@ -32,10 +33,11 @@ same-length-2 c = search needs
 
 returns-2 : tie.Need-returns-2
 returns-2 c =
-    let drained = c .before .before in
-    let after = drained .before .before .before .before .before in
+    let drained : tie.After-drain = search in
+    let left-1 : tie.Else1 = search in
+    let after : tie.After-spread-node = search in
     meets-end (start after .pre) (after .spread-node .ensures)
-    (drained .before .before .if1 .left)
+    (left-1 .if1 .left)
     (after .spread-node .kept .1 .1 .1 .0)
     (drained .drain .ensures)
 

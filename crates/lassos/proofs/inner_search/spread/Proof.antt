@@ -17,48 +17,55 @@ abbrev μ-loop : tie.MeasureT-loop
 μ-loop table work₀ states size letter base first waiting at₀ count₀ work at count = left (m-of table) at
 
 -- the turn, seen from where its edge was followed
-abbrev turn : tie.Else1 Inv-loop μ-loop → tie.In-loop Inv-loop μ-loop
-turn c = c .before .before .before .before .before
 
 loop-holds : tie.Need-loop-holds Inv-loop μ-loop
-loop-holds c = spreading-start _ (c .before .before .pre)
+loop-holds c = let start : tie.Start Inv-loop μ-loop = search in spreading-start _ (start .pre)
 
 follow-requires : tie.Need-follow-requires Inv-loop μ-loop
-follow-requires c κs = spreading-follow (c .before .before .loop .inv) (c .before .loop-test .taken)
+follow-requires c κs =
+    let inside-loop : tie.In-loop Inv-loop μ-loop = search in
+    let at-loop : tie.At-loop Inv-loop μ-loop = search in
+    spreading-follow (at-loop .loop .inv) (inside-loop .loop-test .taken)
 
 same-length : tie.Need-same-length Inv-loop μ-loop
 same-length c =
-    let after = c .before .before .before in after .follow .kept .1 .0 ∙ after .before .before .before .loop .inv .same
+    let after : tie.After-follow Inv-loop μ-loop = search in
+    let at-loop : tie.At-loop Inv-loop μ-loop = search in after .follow .kept .1 .0 ∙ at-loop .loop .inv .same
 
 returns : tie.Need-returns Inv-loop μ-loop
 returns c =
-    let after = c .before .before .before in
-    let at = after .before .before in
-    spreading-met (at .before .loop .inv) (at .loop-test .taken) (after .follow .ensures) (c .if1 .taken)
+    let after : tie.After-follow Inv-loop μ-loop = search in
+    let at : tie.In-loop Inv-loop μ-loop = search in
+    let at-loop : tie.At-loop Inv-loop μ-loop = search in
+    spreading-met (at-loop .loop .inv) (at .loop-test .taken) (after .follow .ensures) (c .if1 .taken)
 
 next-of-requires : tie.Need-next-of-requires Inv-loop μ-loop
 next-of-requires c κs =
-    let at = turn c in
-    spreading-record (at .before .loop .inv) (at .loop-test .taken)
+    let turn : tie.In-loop Inv-loop μ-loop = search in
+    let at-loop : tie.At-loop Inv-loop μ-loop = search in
+    spreading-record (at-loop .loop .inv) (turn .loop-test .taken)
 
 loop-less : tie.Need-loop-less Inv-loop μ-loop
 loop-less c =
-    let at = turn (c .before) in
-    next-less (at .before .loop .inv .chain) (at .loop-test .taken) _ (c .next-of .ensures .is)
+    let turn : tie.In-loop Inv-loop μ-loop = search in
+    let at-loop : tie.At-loop Inv-loop μ-loop = search in
+    next-less (at-loop .loop .inv .chain) (turn .loop-test .taken) _ (c .next-of .ensures .is)
 
 loop-again : tie.Need-loop-again Inv-loop μ-loop
 loop-again c =
-    let after = c .before .before .before .before in
-    let at = after .before .before in
-    spreading-turn (at .before .loop .inv) (at .loop-test .taken) (c .next-of .ensures .is) (after .follow .kept .1 .0)
+    let left-1 : tie.Else1 Inv-loop μ-loop = search in
+    let after : tie.After-follow Inv-loop μ-loop = search in
+    let at : tie.In-loop Inv-loop μ-loop = search in
+    let at-loop : tie.At-loop Inv-loop μ-loop = search in
+    spreading-turn (at-loop .loop .inv) (at .loop-test .taken) (c .next-of .ensures .is) (after .follow .kept .1 .0)
     (after .follow .ensures)
-    (c .before .if1 .left)
+    (left-1 .if1 .left)
 
 same-length-2 : tie.Need-same-length-2 Inv-loop μ-loop
-same-length-2 c = c .before .loop .inv .same
+same-length-2 c = let at-loop : tie.At-loop Inv-loop μ-loop = search in at-loop .loop .inv .same
 
 returns-2 : tie.Need-returns-2 Inv-loop μ-loop
-returns-2 c = spreading-end (c .before .loop .inv) (c .loop-test .left)
+returns-2 c = let at-loop : tie.At-loop Inv-loop μ-loop = search in spreading-end (at-loop .loop .inv) (c .loop-test .left)
 
 pub spread-spec : {M : Type 1} → statement M
 spread-spec =

@@ -15,13 +15,13 @@ add-if1 : tie.Need-add-if1
 add-if1 c = search needs
 
 mul-result : tie.Need-mul-result
-mul-result c = record { fits = node-fits (c .before .pre) _ (omega arith) }
+mul-result c = let start : tie.Start = search in record { fits = node-fits (start .pre) _ (omega arith) }
 
 returns : tie.Need-returns
 returns c = base-next _ _ _ _ (c .if1 .taken)
 
 mul-result-2 : tie.Need-mul-result-2
-mul-result-2 c = record { fits = node-fits (c .before .pre) _ (omega arith) }
+mul-result-2 c = let start : tie.Start = search in record { fits = node-fits (start .pre) _ (omega arith) }
 
 returns-2 : tie.Need-returns-2
 returns-2 c = base-back _ _ _ _ (c .if1 .left)

@@ -16,24 +16,26 @@ shared-slice-read-result c = search needs
 
 cast-result : tie.Need-cast-result
 cast-result c =
-    let a = c .before .before .args in omega (arith, c .shared-slice-known .given (a .node / a .states))
+    let start : tie.Start = search in
+    let a = start .args in omega (arith, c .shared-slice-known .given (a .node / a .states))
 
 returns : tie.Need-returns
-returns c = letter-prefix _ _ _ _ (c .before .if1 .taken)
+returns c = let taken-1 : tie.Then1 = search in letter-prefix _ _ _ _ (taken-1 .if1 .taken)
 
 sub-result : tie.Need-sub-result
 sub-result c = search needs
 
 shared-slice-read-result-2 : tie.Need-shared-slice-read-result-2
-shared-slice-read-result-2 c = omega (arith, position-inside (c .before .before .pre))
+shared-slice-read-result-2 c = let start : tie.Start = search in omega (arith, position-inside (start .pre))
 
 cast-result-2 : tie.Need-cast-result-2
 cast-result-2 c =
-    let a = c .before .before .args in
+    let start : tie.Start = search in
+    let a = start .args in
     omega (arith, c .shared-slice-known2 .given (a .node / a .states - length (now (a .prefix))))
 
 returns-2 : tie.Need-returns-2
-returns-2 c = letter-loop _ _ _ _ (c .before .if1 .left)
+returns-2 c = let left-1 : tie.Else1 = search in letter-loop _ _ _ _ (left-1 .if1 .left)
 
 pub node-letter-spec : {M : Type 1} → statement M
 node-letter-spec =

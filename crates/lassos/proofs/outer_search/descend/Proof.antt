@@ -9,21 +9,20 @@ use Rattle.lassos.proofs.Descends.{top-node, top-cursor, top-small, top
 use Rattle.lassos.proofs.outer_search.descend.Statement.{statement}
 use Rattle.lassos.proofs.outer_search.descend.Tie as tie
 
--- PLACES: where the function begins, where the letter of the top's edges is known, and where their base is
 abbrev start : tie.After-node-letter → tie.Start
-start c = c .before .before .before .before .before
+start c = search
 
 abbrev letter-known : tie.After-node-base → tie.After-node-letter
-letter-known c = c .before
+letter-known c = search
 
 abbrev base-known : tie.After-next-white → tie.After-node-base
-base-known c = c .before .before .before
+base-known c = search
 
 node-letter-requires : tie.Need-node-letter-requires
-node-letter-requires c κs = top-node (c .before .before .before .before .pre)
+node-letter-requires c κs = let began : tie.Start = search in top-node (began .pre)
 
 node-base-requires : tie.Need-node-base-requires
-node-base-requires c κs = top-node (start c .pre)
+node-base-requires c κs = let start : tie.Start = search in top-node (start .pre)
 
 sub-top : tie.Need-sub-top
 sub-top c = search needs
@@ -32,36 +31,41 @@ mul-first : tie.Need-mul-first
 mul-first c = search needs
 
 add-first : tie.Need-add-first
-add-first c = omega (arith, top-small (start (letter-known c) .pre))
+add-first c = let start : tie.Start = search in omega (arith, top-small (start .pre))
 
 mul-first-2 : tie.Need-mul-first-2
-mul-first-2 c = omega (arith, top-small (start (letter-known c) .pre))
+mul-first-2 c = let start : tie.Start = search in omega (arith, top-small (start .pre))
 
 slice-read-first : tie.Need-slice-read-first
-slice-read-first c = top-cursor (start (letter-known (c .before)) .pre)
+slice-read-first c = let start : tie.Start = search in top-cursor (start .pre)
 
 cast-first : tie.Need-cast-first
 cast-first c =
-    let a = start (letter-known (c .before)) .args in omega (arith, c .slice-known2 .given (2 * a .size + (a .depth - 1)))
+    let start : tie.Start = search in
+    let a = start .args in omega (arith, c .slice-known2 .given (2 * a .size + (a .depth - 1)))
 
 next-white-requires : tie.Need-next-white-requires
 next-white-requires c κs =
-    let base = c .before .before in
-    let letter = letter-known base in top-asks (start letter .pre) (letter .node-letter .ensures) (base .node-base .ensures)
+    let base : tie.After-node-base = search in
+    let letter-known : tie.After-node-letter = search in
+    let start : tie.Start = search in
+    top-asks (start .pre) (letter-known .node-letter .ensures) (base .node-base .ensures)
 
 same-length : tie.Need-same-length
 same-length c = search needs
 
 returns : tie.Need-returns
 returns c =
-    let base = base-known (c .before) in
-    let letter = letter-known base in
-    none-white (start letter .pre) (letter .node-letter .ensures) (base .node-base .ensures) (c .before .next-white .ensures) (c .if1 .taken)
+    let after-next-white : tie.After-next-white = search in
+    let base-known : tie.After-node-base = search in
+    let letter-known : tie.After-node-letter = search in
+    let start : tie.Start = search in
+    none-white (start .pre) (letter-known .node-letter .ensures) (base-known .node-base .ensures) (after-next-white .next-white .ensures) (c .if1 .taken)
 
 -- a record with a white target was found
 module _ (c : tie.Else1) where
   abbrev base : tie.After-node-base
-  base = base-known (c .before)
+  base = let after-next-white : tie.After-next-white = search in base-known after-next-white
 
   abbrev letter : tie.After-node-letter
   letter = letter-known base
@@ -69,10 +73,13 @@ module _ (c : tie.Else1) where
   abbrev begun : tie.Start
   begun = start letter
 
-  reads-white : Record-asks (now (begun .args .table)) (begun .args .states) (c .before .next-white .result)
+  abbrev after-next-white : tie.After-next-white
+  after-next-white = search
+
+  reads-white : Record-asks (now (begun .args .table)) (begun .args .states) (after-next-white .next-white .result)
   reads-white =
       white-record (begun .pre) (letter .node-letter .ensures) (base .node-base .ensures)
-      (is-white (c .before .next-white .ensures) (c .if1 .left))
+      (is-white (after-next-white .next-white .ensures) (c .if1 .left))
 
 target-of-requires : tie.Need-target-of-requires
 target-of-requires c κs = reads-white c
@@ -80,12 +87,13 @@ target-of-requires c κs = reads-white c
 -- and its target read
 module _ (c : tie.After-target-of) where
   abbrev found : tie.Else1
-  found = c .before
+  found = search
 
   reads-target : State-asks (now (begun found .args .table)) (c .target-of .result)
   reads-target =
+      let after-next-white : tie.After-next-white = search in
       to-state (begun found .pre) (letter found .node-letter .ensures) (base found .node-base .ensures)
-      (is-white (found .before .next-white .ensures) (found .if1 .left))
+      (is-white (after-next-white .next-white .ensures) (found .if1 .left))
       (c .target-of .ensures .is)
 
   enters-white :
@@ -94,64 +102,62 @@ module _ (c : tie.After-target-of) where
       Enter-asks (width-16 .bits) (now (s .args .work)) (s .args .size) (base found .node-base .result + c .target-of .result) first
       (s .args .depth)
   enters-white fits =
+      let after-next-white : tie.After-next-white = search in
       to-asks (begun found .pre) (letter found .node-letter .ensures) (base found .node-base .ensures)
-      (is-white (found .before .next-white .ensures) (found .if1 .left))
+      (is-white (after-next-white .next-white .ensures) (found .if1 .left))
       (c .target-of .ensures .is)
       fits
 
 add-enter : tie.Need-add-enter
 add-enter c =
+    let after-target-of : tie.After-target-of = search in
     let fits : 0 < 2 ^ width-16 .bits = omega arith in
-    let asks = enters-white (c .before) fits in omega (arith, asks .inside, asks .small)
+    let asks = enters-white after-target-of fits in omega (arith, asks .inside, asks .small)
 
 head-of-requires : tie.Need-head-of-requires
-head-of-requires c κs = reads-target (c .before)
+head-of-requires c κs = let after-target-of : tie.After-target-of = search in reads-target after-target-of
 
 enter-requires : tie.Need-enter-requires
-enter-requires c κs = enters-white (c .before .before) (let k = c .head-of .ensures .small in omega arith)
-
--- the record, seen from where its target entered
-abbrev target-found : tie.After-enter → tie.Else1
-target-found c = c .before .before .before .before
+enter-requires c κs =
+    let after-target-of : tie.After-target-of = search in
+    enters-white after-target-of (let k = c .head-of .ensures .small in omega arith)
 
 next-of-requires : tie.Need-next-of-requires
-next-of-requires c κs = reads-white (target-found (c .before .before))
-
--- where the target entered
-module _ (c : tie.After-next-of) where
-  abbrev entered : tie.After-enter
-  entered = c .before .before .before
-
-  abbrev target : tie.After-target-of
-  target = entered .before .before .before
+next-of-requires c κs = let target-found : tie.Else1 = search in reads-white target-found
 
 cast-work : tie.Need-cast-work
 cast-work c = search needs
 
 mul-work : tie.Need-mul-work
-mul-work c = omega (arith, top-small (begun (found (target c)) .pre))
+mul-work c = let found : tie.Else1 = search in omega (arith, top-small (begun found .pre))
 
 add-work : tie.Need-add-work
-add-work c = omega (arith, top-small (begun (found (target c)) .pre))
+add-work c = let found : tie.Else1 = search in omega (arith, top-small (begun found .pre))
 
 mul-work-2 : tie.Need-mul-work-2
-mul-work-2 c = omega (arith, top-small (begun (found (target c)) .pre))
+mul-work-2 c = let found : tie.Else1 = search in omega (arith, top-small (begun found .pre))
 
 slice-write-work : tie.Need-slice-write-work
 slice-write-work c =
-    omega (arith, top-cursor (begun (found (target c)) .pre), entered c .enter .kept .0)
+    let entered : tie.After-enter = search in
+    let found : tie.Else1 = search in
+    omega (arith, top-cursor (begun found .pre), entered .enter .kept .0)
 
 same-length-2 : tie.Need-same-length-2
 same-length-2 c = search needs
 
 returns-2 : tie.Need-returns-2
 returns-2 c =
-    let e = found (target c) in
-    next-deeper (begun e .pre) (letter e .node-letter .ensures) (base e .node-base .ensures)
-    (is-white (e .before .next-white .ensures) (e .if1 .left))
-    (target c .target-of .ensures .is)
-    (entered c .before .head-of .ensures .is)
-    (entered c .enter .ensures)
+    let entered : tie.After-enter = search in
+    let after-head-of : tie.After-head-of = search in
+    let target : tie.After-target-of = search in
+    let found : tie.Else1 = search in
+    let after-next-white : tie.After-next-white = search in
+    next-deeper (begun found .pre) (letter found .node-letter .ensures) (base found .node-base .ensures)
+    (is-white (after-next-white .next-white .ensures) (found .if1 .left))
+    (target .target-of .ensures .is)
+    (after-head-of .head-of .ensures .is)
+    (entered .enter .ensures)
     (c .next-of .ensures .is)
 
 pub descend-spec : {M : Type 1} → statement M

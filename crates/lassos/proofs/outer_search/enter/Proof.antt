@@ -7,7 +7,7 @@ use Rattle.lassos.proofs.outer_search.enter.Statement.{statement}
 use Rattle.lassos.proofs.outer_search.enter.Tie as tie
 
 raise-requires : tie.Need-raise-requires
-raise-requires c κs = enter-raise (c .before .before .pre)
+raise-requires c κs = let start : tie.Start = search in enter-raise (start .pre)
 
 cast-work : tie.Need-cast-work
 cast-work c = search needs
@@ -19,7 +19,7 @@ mul-work : tie.Need-mul-work
 mul-work c = search needs
 
 slice-write-work : tie.Need-slice-write-work
-slice-write-work c = omega (arith, c .before .before .raise .kept .0)
+slice-write-work c = let after-raise : tie.After-raise = search in omega (arith, after-raise .raise .kept .0)
 
 cast-work-2 : tie.Need-cast-work-2
 cast-work-2 c = search needs
@@ -34,14 +34,15 @@ mul-work-3 : tie.Need-mul-work-3
 mul-work-3 c = search needs
 
 slice-write-work-2 : tie.Need-slice-write-work-2
-slice-write-work-2 c = simp length-set (omega (arith, c .before .before .raise .kept .0))
+slice-write-work-2 c = let after-raise : tie.After-raise = search in simp length-set (omega (arith, after-raise .raise .kept .0))
 
 same-length : tie.Need-same-length
 same-length c = search needs
 
 returns : tie.Need-returns
 returns c =
-    let up = c .before .before in entered-is (up .before .before .before .pre) (up .raise .ensures)
+    let up : tie.After-raise = search in
+    let start : tie.Start = search in entered-is (start .pre) (up .raise .ensures)
 
 pub enter-spec : {M : Type 1} → statement M
 enter-spec =

@@ -19,60 +19,67 @@ abbrev μ-loop : tie.MeasureT-loop
 μ-loop table prefix cycle work₀ states size depth₀ work depth = 2 * whites size work + depth
 
 loop-holds : tie.Need-loop-holds Inv-loop μ-loop
-loop-holds c = exploring-start (c .before .before .before .before .pre)
+loop-holds c = let start : tie.Start Inv-loop μ-loop = search in exploring-start (start .pre)
 
 sub-top : tie.Need-sub-top Inv-loop μ-loop
 sub-top c = omega arith
 
 add-node : tie.Need-add-node Inv-loop μ-loop
-add-node c = omega (arith, exploring-small (c .before .loop .inv) (c .loop-test .taken))
+add-node c =
+    let at-loop : tie.At-loop Inv-loop μ-loop = search in
+    omega (arith, exploring-small (at-loop .loop .inv) (c .loop-test .taken))
 
 mul-node : tie.Need-mul-node Inv-loop μ-loop
-mul-node c = omega (arith, exploring-small (c .before .loop .inv) (c .loop-test .taken))
+mul-node c =
+    let at-loop : tie.At-loop Inv-loop μ-loop = search in
+    omega (arith, exploring-small (at-loop .loop .inv) (c .loop-test .taken))
 
 slice-read-node : tie.Need-slice-read-node Inv-loop μ-loop
-slice-read-node c = exploring-below (c .before .before .loop .inv) (c .before .loop-test .taken)
+slice-read-node c =
+    let inside-loop : tie.In-loop Inv-loop μ-loop = search in
+    let at-loop : tie.At-loop Inv-loop μ-loop = search in
+    exploring-below (at-loop .loop .inv) (inside-loop .loop-test .taken)
 
 cast-node : tie.Need-cast-node Inv-loop μ-loop
 cast-node c =
-    let at = c .before .before in
-    omega (arith, c .slice-known2 .given (at .before .before .before .before .before .args .size + (at .loop .depth - 1)))
+    let at : tie.At-loop Inv-loop μ-loop = search in
+    let start : tie.Start Inv-loop μ-loop = search in
+    omega (arith, c .slice-known2 .given (start .args .size + (at .loop .depth - 1)))
 
 descend-requires : tie.Need-descend-requires Inv-loop μ-loop
 descend-requires c κs =
-    let at = c .before .before in exploring-top (at .before .loop .inv) (at .loop-test .taken)
-
--- where the top was looked at
-module _ (c : tie.After-descend Inv-loop μ-loop) where
-  abbrev turn : tie.In-loop Inv-loop μ-loop
-  turn = c .before .before .before
+    let at : tie.In-loop Inv-loop μ-loop = search in
+    let at-loop : tie.At-loop Inv-loop μ-loop = search in exploring-top (at-loop .loop .inv) (at .loop-test .taken)
 
 add-depth : tie.Need-add-depth Inv-loop μ-loop
 add-depth c =
-    let at = turn (c .before .before .before) in
-    omega (arith, exploring-small (at .before .loop .inv) (at .loop-test .taken))
+    let turn : tie.In-loop Inv-loop μ-loop = search in
+    let at-loop : tie.At-loop Inv-loop μ-loop = search in
+    omega (arith, exploring-small (at-loop .loop .inv) (turn .loop-test .taken))
 
 loop-less : tie.Need-loop-less Inv-loop μ-loop
 loop-less c =
-    let after = c .before .before .before in
-    deeper-less (turn after .before .loop .inv) (after .descend .kept .1 .1 .1 .0) (after .descend .ensures) (c .if1 .taken)
+    let after : tie.After-descend Inv-loop μ-loop = search in
+    let at-loop : tie.At-loop Inv-loop μ-loop = search in
+    deeper-less (at-loop .loop .inv) (after .descend .kept .1 .1 .1 .0) (after .descend .ensures) (c .if1 .taken)
 
 loop-again : tie.Need-loop-again Inv-loop μ-loop
 loop-again c =
-    let after = c .before .before .before in
-    exploring-deeper (turn after .before .loop .inv) (after .descend .kept .1 .1 .1 .0) (after .descend .ensures)
+    let after : tie.After-descend Inv-loop μ-loop = search in
+    let at-loop : tie.At-loop Inv-loop μ-loop = search in
+    exploring-deeper (at-loop .loop .inv) (after .descend .kept .1 .1 .1 .0) (after .descend .ensures)
     (c .if1 .taken)
 
 -- all targets of the top are visited
 module _ (c : tie.Else1 Inv-loop μ-loop) where
   abbrev after : tie.After-descend Inv-loop μ-loop
-  after = c .before .before .before
+  after = search
 
   abbrev at : tie.At-loop Inv-loop μ-loop
-  at = turn after .before
+  at = search
 
   abbrev begun : tie.Start Inv-loop μ-loop
-  begun = at .before .before .before .before .before
+  begun = search
 
   finishing :
       Finishing width-16 (now (begun .args .table)) (now (begun .args .prefix)) (now (begun .args .cycle)) (now (begun .args .work))
@@ -80,41 +87,46 @@ module _ (c : tie.Else1 Inv-loop μ-loop) where
       (getD (at .loop .work) (begun .args .size + (at .loop .depth - 1)) 0)
       (at .loop .depth)
   finishing =
-      finishing-start (at .loop .inv) (turn after .loop-test .taken) refl (after .descend .ensures)
+      let turn : tie.In-loop Inv-loop μ-loop = search in
+      finishing-start (at .loop .inv) (turn .loop-test .taken) refl (after .descend .ensures)
       (c .if1 .left)
 
 finish-requires : tie.Need-finish-requires Inv-loop μ-loop
-finish-requires c κs = finishing-asks (finishing (c .before))
+finish-requires c κs = let left-1 : tie.Else1 Inv-loop μ-loop = search in finishing-asks (finishing left-1)
 
 same-length : tie.Need-same-length Inv-loop μ-loop
 same-length c =
-    let finished = c .before .before .before in
-    let a = after (finished .before .before) in
-    finished .finish .kept .1 .1 .1 .0 ∙ a .descend .kept .1 .1 .1 .0 ∙ turn a .before .loop .inv .same
+    let finished : tie.After-finish Inv-loop μ-loop = search in
+    let after : tie.After-descend Inv-loop μ-loop = search in
+    let at-loop : tie.At-loop Inv-loop μ-loop = search in
+    finished .finish .kept .1 .1 .1 .0 ∙ after .descend .kept .1 .1 .1 .0 ∙ at-loop .loop .inv .same
 
 returns : tie.Need-returns Inv-loop μ-loop
 returns c =
-    let finished = c .before .before .before in
-    finishing-found (finishing (finished .before .before)) (finished .finish .ensures) (c .if2 .taken)
+    let finished : tie.After-finish Inv-loop μ-loop = search in
+    let left-1 : tie.Else1 Inv-loop μ-loop = search in
+    finishing-found (finishing left-1) (finished .finish .ensures) (c .if2 .taken)
 
 loop-less-2 : tie.Need-loop-less-2 Inv-loop μ-loop
 loop-less-2 c =
-    let finished = c .before .before .before in
-    let e = finished .before .before in
-    finishing-less (finishing e) (finishing-same (after e .descend .ensures) (e .if1 .left)) (finished .finish .ensures)
+    let finished : tie.After-finish Inv-loop μ-loop = search in
+    let e : tie.Else1 Inv-loop μ-loop = search in
+    let after : tie.After-descend Inv-loop μ-loop = search in
+    finishing-less (finishing e) (finishing-same (after .descend .ensures) (e .if1 .left)) (finished .finish .ensures)
     (c .if2 .left)
 
 loop-again-2 : tie.Need-loop-again-2 Inv-loop μ-loop
 loop-again-2 c =
-    let finished = c .before .before .before in
-    finishing-left (finishing (finished .before .before)) (finished .finish .kept .1 .1 .1 .0) (finished .finish .ensures)
+    let finished : tie.After-finish Inv-loop μ-loop = search in
+    let left-1 : tie.Else1 Inv-loop μ-loop = search in
+    finishing-left (finishing left-1) (finished .finish .kept .1 .1 .1 .0) (finished .finish .ensures)
     (c .if2 .left)
 
 same-length-2 : tie.Need-same-length-2 Inv-loop μ-loop
-same-length-2 c = c .before .loop .inv .same
+same-length-2 c = let at-loop : tie.At-loop Inv-loop μ-loop = search in at-loop .loop .inv .same
 
 returns-2 : tie.Need-returns-2 Inv-loop μ-loop
-returns-2 c = exploring-end (c .before .loop .inv) (c .loop-test .left)
+returns-2 c = let at-loop : tie.At-loop Inv-loop μ-loop = search in exploring-end (at-loop .loop .inv) (c .loop-test .left)
 
 pub explore-spec : {M : Type 1} → statement M
 explore-spec =

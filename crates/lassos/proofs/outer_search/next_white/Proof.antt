@@ -14,36 +14,45 @@ abbrev μ-loop : tie.MeasureT-loop
 μ-loop table work states letter base first at₀ at = left (m-of table) at
 
 loop-holds : tie.Need-loop-holds Inv-loop μ-loop
-loop-holds c = walked-start _ _ _ _ _ _ (c .before .before .pre)
+loop-holds c = let start : tie.Start Inv-loop μ-loop = search in walked-start _ _ _ _ _ _ (start .pre)
 
 leads-to-white-requires : tie.Need-leads-to-white-requires Inv-loop μ-loop
-leads-to-white-requires c κs = walked-edge (c .before .loop .inv) (c .loop-test .taken)
+leads-to-white-requires c κs =
+    let turn : tie.At-loop Inv-loop μ-loop = search in
+    walked-edge (turn .loop .inv) (c .loop-test .taken)
 
 returns : tie.Need-returns Inv-loop μ-loop
 returns c =
-    let at = c .before .before in
-    walked-found (at .before .loop .inv) (at .loop-test .taken) (c .before .leads-to-white .ensures)
+    let after-leads-to-white : tie.After-leads-to-white Inv-loop μ-loop = search in
+    let at : tie.In-loop Inv-loop μ-loop = search in
+    let turn : tie.At-loop Inv-loop μ-loop = search in
+    walked-found (turn .loop .inv) (at .loop-test .taken) (after-leads-to-white .leads-to-white .ensures)
     (c .if1 .taken)
 
 next-of-requires : tie.Need-next-of-requires Inv-loop μ-loop
 next-of-requires c κs =
-    let at = c .before .before in
-    walked-record (at .before .loop .inv) (at .loop-test .taken)
+    let at : tie.In-loop Inv-loop μ-loop = search in
+    let turn : tie.At-loop Inv-loop μ-loop = search in
+    walked-record (turn .loop .inv) (at .loop-test .taken)
 
 loop-less : tie.Need-loop-less Inv-loop μ-loop
 loop-less c =
-    let at = c .before .before .before in
-    next-less (at .before .loop .inv .asks) (at .loop-test .taken) _ (c .next-of .ensures .is)
+    let at : tie.In-loop Inv-loop μ-loop = search in
+    let turn : tie.At-loop Inv-loop μ-loop = search in
+    next-less (turn .loop .inv .asks) (at .loop-test .taken) _ (c .next-of .ensures .is)
 
 loop-again : tie.Need-loop-again Inv-loop μ-loop
 loop-again c =
-    let at = c .before .before .before in
-    walked-turn (at .before .loop .inv) (at .loop-test .taken)
-    (c .before .before .leads-to-white .ensures) (c .before .if1 .left)
+    let left-1 : tie.Else1 Inv-loop μ-loop = search in
+    let after-leads-to-white : tie.After-leads-to-white Inv-loop μ-loop = search in
+    let at : tie.In-loop Inv-loop μ-loop = search in
+    let turn : tie.At-loop Inv-loop μ-loop = search in
+    walked-turn (turn .loop .inv) (at .loop-test .taken)
+    (after-leads-to-white .leads-to-white .ensures) (left-1 .if1 .left)
     _ (c .next-of .ensures .is)
 
 returns-2 : tie.Need-returns-2 Inv-loop μ-loop
-returns-2 c = walked-none (c .before .loop .inv) (c .loop-test .left)
+returns-2 c = let turn : tie.At-loop Inv-loop μ-loop = search in walked-none (turn .loop .inv) (c .loop-test .left)
 
 pub next-white-spec : {M : Type 1} → statement M
 next-white-spec =

@@ -16,20 +16,25 @@ abbrev μ-loop : tie.MeasureT-loop
 μ-loop table prefix cycle work₀ states size state₀ work state = states - state
 
 loop-holds : tie.Need-loop-holds Inv-loop μ-loop
-loop-holds c = trying-start (c .before .before .before .before .pre)
+loop-holds c = let start : tie.Start Inv-loop μ-loop = search in trying-start (start .pre)
 
 try-state-requires : tie.Need-try-state-requires Inv-loop μ-loop
-try-state-requires c κs = trying-asks (c .before .before .loop .inv) (c .before .loop-test .taken)
+try-state-requires c κs =
+    let inside-loop : tie.In-loop Inv-loop μ-loop = search in
+    let turn : tie.At-loop Inv-loop μ-loop = search in
+    trying-asks (turn .loop .inv) (inside-loop .loop-test .taken)
 
 same-length : tie.Need-same-length Inv-loop μ-loop
 same-length c =
-    let after = c .before .before .before in
-    after .try-state .kept .1 .1 .1 .0 ∙ after .before .before .before .loop .inv .same
+    let after : tie.After-try-state Inv-loop μ-loop = search in
+    let turn : tie.At-loop Inv-loop μ-loop = search in
+    after .try-state .kept .1 .1 .1 .0 ∙ turn .loop .inv .same
 
 returns : tie.Need-returns Inv-loop μ-loop
 returns c =
-    let after = c .before .before .before in
-    trying-found (after .before .before .before .loop .inv) (after .try-state .ensures) (c .if1 .taken)
+    let after : tie.After-try-state Inv-loop μ-loop = search in
+    let turn : tie.At-loop Inv-loop μ-loop = search in
+    trying-found (turn .loop .inv) (after .try-state .ensures) (c .if1 .taken)
 
 add-state : tie.Need-add-state Inv-loop μ-loop
 add-state c = omega arith
@@ -39,15 +44,16 @@ loop-less c = omega arith
 
 loop-again : tie.Need-loop-again Inv-loop μ-loop
 loop-again c =
-    let after = c .before .before .before in
-    trying-turn (after .before .before .before .loop .inv) (after .try-state .kept .1 .1 .1 .0) (after .try-state .ensures)
+    let after : tie.After-try-state Inv-loop μ-loop = search in
+    let turn : tie.At-loop Inv-loop μ-loop = search in
+    trying-turn (turn .loop .inv) (after .try-state .kept .1 .1 .1 .0) (after .try-state .ensures)
     (c .if1 .left)
 
 same-length-2 : tie.Need-same-length-2 Inv-loop μ-loop
-same-length-2 c = c .before .loop .inv .same
+same-length-2 c = let turn : tie.At-loop Inv-loop μ-loop = search in turn .loop .inv .same
 
 returns-2 : tie.Need-returns-2 Inv-loop μ-loop
-returns-2 c = trying-end (c .before .loop .inv) (c .loop-test .left)
+returns-2 c = let turn : tie.At-loop Inv-loop μ-loop = search in trying-end (turn .loop .inv) (c .loop-test .left)
 
 pub search-spec : {M : Type 1} → statement M
 search-spec =

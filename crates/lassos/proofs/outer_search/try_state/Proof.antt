@@ -5,37 +5,37 @@ use Rattle.lassos.proofs.Explores.{try-reads, try-word, not-initial, no
 use Rattle.lassos.proofs.outer_search.try_state.Statement.{statement}
 use Rattle.lassos.proofs.outer_search.try_state.Tie as tie
 
--- PLACES: where the function begins, and where the state's flags are known
 abbrev start : tie.After-flags-of → tie.Start
-start c = c .before .before .before .before .before
+start c = search
 
 abbrev flags-known : tie.After-colour-of → tie.After-flags-of
-flags-known c = c .before .before .before
+flags-known c = search
 
 flags-of-requires : tie.Need-flags-of-requires
-flags-of-requires c κs = try-reads (c .before .before .before .before .pre)
+flags-of-requires c κs = let began : tie.Start = search in try-reads (began .pre)
 
 returns : tie.Need-returns
 returns c =
-    not-initial (start (c .before) .pre) (c .before .flags-of .ensures .is) (c .if1 .taken)
+    let after-flags-of : tie.After-flags-of = search in
+    let start : tie.Start = search in
+    not-initial (start .pre) (after-flags-of .flags-of .ensures .is) (c .if1 .taken)
 
 colour-of-requires : tie.Need-colour-of-requires
-colour-of-requires c κs = try-word (start (c .before .before) .pre)
+colour-of-requires c κs = let start : tie.Start = search in try-word (start .pre)
 
 same-length : tie.Need-same-length
 same-length c = search needs
 
 returns-2 : tie.Need-returns-2
 returns-2 c =
-    not-white (start (flags-known (c .before)) .pre) (c .before .colour-of .ensures) (c .if2 .taken)
+    let after-colour-of : tie.After-colour-of = search in
+    let start : tie.Start = search in
+    not-white (start .pre) (after-colour-of .colour-of .ensures) (c .if2 .taken)
 
 -- the state is initial and white
 module _ (c : tie.Else2) where
   abbrev seen : tie.After-colour-of
-  seen = c .before
-
-  abbrev initial : tie.Else1
-  initial = seen .before .before
+  seen = search
 
   abbrev flags : tie.After-flags-of
   flags = flags-known seen
@@ -44,20 +44,23 @@ module _ (c : tie.Else2) where
   begun = start flags
 
 head-of-requires : tie.Need-head-of-requires
-head-of-requires c κs = try-reads (begun (c .before) .pre)
+head-of-requires c κs = let left-2 : tie.Else2 = search in try-reads (begun left-2 .pre)
 
 enter-requires : tie.Need-enter-requires
 enter-requires c κs =
-    let white = c .before .before in
-    try-enter (begun white .pre) (seen white .colour-of .ensures) (white .if2 .left) (let k = c .head-of .ensures .small in omega arith)
+    let white : tie.Else2 = search in
+    let seen : tie.After-colour-of = search in
+    try-enter (begun white .pre) (seen .colour-of .ensures) (white .if2 .left) (let k = c .head-of .ensures .small in omega arith)
 
 explore-requires : tie.Need-explore-requires
 explore-requires c κs =
-    let entered = c .before .before .before in
-    let head = entered .before in
-    let white = head .before .before in
-    try-explore (begun white .pre) (seen white .colour-of .ensures) (white .if2 .left) (flags white .flags-of .ensures .is)
-    (initial white .if1 .left)
+    let entered : tie.After-enter = search in
+    let head : tie.After-head-of = search in
+    let white : tie.Else2 = search in
+    let seen : tie.After-colour-of = search in
+    let initial : tie.Else1 = search in
+    try-explore (begun white .pre) (seen .colour-of .ensures) (white .if2 .left) (flags white .flags-of .ensures .is)
+    (initial .if1 .left)
     (head .head-of .ensures .is)
     (entered .enter .ensures)
 
@@ -66,12 +69,14 @@ same-length-2 c = search needs
 
 returns-3 : tie.Need-returns-3
 returns-3 c =
-    let explored = c .before .before in
-    let entered = explored .before .before .before .before in
-    let head = entered .before in
-    let white = head .before .before in
-    try-end (begun white .pre) (seen white .colour-of .ensures) (white .if2 .left) (flags white .flags-of .ensures .is)
-    (initial white .if1 .left)
+    let explored : tie.After-explore = search in
+    let entered : tie.After-enter = search in
+    let head : tie.After-head-of = search in
+    let white : tie.Else2 = search in
+    let seen : tie.After-colour-of = search in
+    let initial : tie.Else1 = search in
+    try-end (begun white .pre) (seen .colour-of .ensures) (white .if2 .left) (flags white .flags-of .ensures .is)
+    (initial .if1 .left)
     (head .head-of .ensures .is)
     (entered .enter .ensures)
     (explored .explore .ensures)

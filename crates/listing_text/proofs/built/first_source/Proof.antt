@@ -15,25 +15,38 @@ abbrev μ-loop : tie.MeasureT-loop
 μ-loop words states from state₀ state = states - state
 
 loop-holds : tie.Need-loop-holds Inv-loop μ-loop
-loop-holds c = source-start (c .before .pre) (c .before .args .from)
+loop-holds c = let start : tie.Start Inv-loop μ-loop = search in source-start (start .pre) (start .args .from)
 
 head-of-requires : tie.Need-head-of-requires Inv-loop μ-loop
-head-of-requires c κs = source-reads (c .before .before .before .pre) (c .loop-test .taken)
+head-of-requires c κs = let start : tie.Start Inv-loop μ-loop = search in source-reads (start .pre) (c .loop-test .taken)
 
 returns : tie.Need-returns Inv-loop μ-loop
-returns c = source-found (c .before .before .before .before .before .pre) (c .before .before .before .before .before .args .from) (c .before .before .loop-test .taken) (c .before .head-of .ensures .is) (c .if1 .taken) (c .before .before .before .loop .inv)
+returns c =
+    let after-head-of : tie.After-head-of Inv-loop μ-loop = search in
+    let inside-loop : tie.In-loop Inv-loop μ-loop = search in
+    let turn : tie.At-loop Inv-loop μ-loop = search in
+    let start : tie.Start Inv-loop μ-loop = search in
+    source-found (start .pre) (start .args .from) (inside-loop .loop-test .taken) (after-head-of .head-of .ensures .is) (c .if1 .taken) (turn .loop .inv)
 
 add-state : tie.Need-add-state Inv-loop μ-loop
 add-state c = search needs
 
 loop-less : tie.Need-loop-less Inv-loop μ-loop
-loop-less c = omega (arith, c .before .before .loop-test .taken)
+loop-less c = let inside-loop : tie.In-loop Inv-loop μ-loop = search in omega (arith, inside-loop .loop-test .taken)
 
 loop-again : tie.Need-loop-again Inv-loop μ-loop
-loop-again c = source-turn (c .before .before .before .before .before .pre) (c .before .before .before .before .before .args .from) (c .before .before .loop-test .taken) (c .before .head-of .ensures .is) (c .if1 .left) (c .before .before .before .loop .inv)
+loop-again c =
+    let after-head-of : tie.After-head-of Inv-loop μ-loop = search in
+    let inside-loop : tie.In-loop Inv-loop μ-loop = search in
+    let turn : tie.At-loop Inv-loop μ-loop = search in
+    let start : tie.Start Inv-loop μ-loop = search in
+    source-turn (start .pre) (start .args .from) (inside-loop .loop-test .taken) (after-head-of .head-of .ensures .is) (c .if1 .left) (turn .loop .inv)
 
 returns-2 : tie.Need-returns-2 Inv-loop μ-loop
-returns-2 c = source-end (c .before .before .before .pre) (c .before .before .before .args .from) (c .loop-test .left) (c .before .loop .inv)
+returns-2 c =
+    let turn : tie.At-loop Inv-loop μ-loop = search in
+    let start : tie.Start Inv-loop μ-loop = search in
+    source-end (start .pre) (start .args .from) (c .loop-test .left) (turn .loop .inv)
 
 pub first-source-spec : {M : Type 1} → statement M
 first-source-spec =

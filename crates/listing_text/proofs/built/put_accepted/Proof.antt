@@ -4,15 +4,6 @@ use Rattle.listing_text.proofs.Printing.{states-room, edges-room, text-
 use Rattle.listing_text.proofs.built.put_accepted.Statement.{statement}
 use Rattle.listing_text.proofs.built.put_accepted.Tie as tie
 
--- the places behind each call
-module _ (c : tie.After-put-counts) where
-  abbrev entry : tie.Start
-  entry = c .before .before .before .before .before
-
-module _ (c : tie.After-put-states) where
-  abbrev counted : tie.After-put-counts
-  counted = c .before .before .before .before
-
 cast-put-counts : tie.Need-cast-put-counts
 cast-put-counts c = search needs
 
@@ -24,24 +15,29 @@ put-counts-requires c κs = search needs
 
 put-states-requires : tie.Need-put-states-requires
 put-states-requires c κs =
-    let counted : tie.After-put-counts = c .before .before .before in
-    let asked = entry counted .pre in
+    let counted : tie.After-put-counts = search in
+    let entry : tie.Start = search in
+    let asked = entry .pre in
     (asked .0 .stated, states-room (asked .0) (counted .put-counts .ensures) (asked .1))
 
 put-edges-requires : tie.Need-put-edges-requires
 put-edges-requires c κs =
-    let stated : tie.After-put-states = c .before .before .before in
-    let asked = entry (counted stated) .pre in
-    (asked .0 .sourced, edges-room (asked .0) (counted stated .put-counts .ensures) (stated .put-states .ensures) (asked .1))
+    let stated : tie.After-put-states = search in
+    let counted : tie.After-put-counts = search in
+    let entry : tie.Start = search in
+    let asked = entry .pre in
+    (asked .0 .sourced, edges-room (asked .0) (counted .put-counts .ensures) (stated .put-states .ensures) (asked .1))
 
 same-length : tie.Need-same-length
 same-length c = search needs
 
 returns : tie.Need-returns
 returns c =
-    let all : tie.After-put-edges = c .before .before in
-    let stated : tie.After-put-states = all .before .before .before .before in
-    text-put (entry (counted stated) .pre .0) (counted stated .put-counts .ensures) (stated .put-states .ensures) (all .put-edges .ensures)
+    let all : tie.After-put-edges = search in
+    let stated : tie.After-put-states = search in
+    let counted : tie.After-put-counts = search in
+    let entry : tie.Start = search in
+    text-put (entry .pre .0) (counted .put-counts .ensures) (stated .put-states .ensures) (all .put-edges .ensures)
 
 pub put-accepted-spec : {M : Type 1} → statement M
 put-accepted-spec =

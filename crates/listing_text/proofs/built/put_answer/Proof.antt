@@ -12,9 +12,9 @@ same-length c = search needs
 
 returns : tie.Need-returns
 returns c =
-    let refused : tie.After-put-refused = c .before .before in
-    let test : tie.Then1 = refused .before .before in
-    let entry : tie.Start = test .before .before .before .before .before in
+    let refused : tie.After-put-refused = search in
+    let test : tie.Then1 = search in
+    let entry : tie.Start = search in
     answer-refused (entry .args .answer) _ _ (test .if1 .taken) (refused .put-refused .ensures)
 
 cast-put-accepted : tie.Need-cast-put-accepted
@@ -25,8 +25,8 @@ cast-put-accepted-2 c = search needs
 
 put-accepted-requires : tie.Need-put-accepted-requires
 put-accepted-requires c κs =
-    let test : tie.Else1 = c .before .before .before in
-    let entry : tie.Start = test .before .before .before .before .before in
+    let test : tie.Else1 = search in
+    let entry : tie.Start = search in
     (entry .pre .0 .accepted (test .if1 .left), entry .pre .1)
 
 same-length-2 : tie.Need-same-length-2
@@ -34,9 +34,9 @@ same-length-2 c = search needs
 
 returns-2 : tie.Need-returns-2
 returns-2 c =
-    let written : tie.After-put-accepted = c .before .before in
-    let test : tie.Else1 = written .before .before .before .before in
-    let entry : tie.Start = test .before .before .before .before .before in
+    let written : tie.After-put-accepted = search in
+    let test : tie.Else1 = search in
+    let entry : tie.Start = search in
     answer-accepted (entry .args .answer) _ _ (test .if1 .left) (written .put-accepted .ensures)
 
 pub put-answer-spec : {M : Type 1} → statement M

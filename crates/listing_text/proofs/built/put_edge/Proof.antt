@@ -30,10 +30,11 @@ same-length c = search needs
 
 returns : tie.Need-returns
 returns c =
-    let written : tie.After-put-line = c .before .before in
-    let target : tie.After-target-of = written .before .before .before in
-    let entry : tie.Start = target .before .before .before .before in
-    edge-put _ (entry .args .source) (entry .args .number) (target .before .letter-of .ensures .is) (target .target-of .ensures .is)
+    let written : tie.After-put-line = search in
+    let target : tie.After-target-of = search in
+    let after-letter-of : tie.After-letter-of = search in
+    let entry : tie.Start = search in
+    edge-put _ (entry .args .source) (entry .args .number) (after-letter-of .letter-of .ensures .is) (target .target-of .ensures .is)
     (written .put-line .ensures)
 
 pub put-edge-spec : {M : Type 1} → statement M

@@ -27,10 +27,11 @@ same-length c = search needs
 
 returns : tie.Need-returns
 returns c =
-    let written : tie.After-put-line = c .before .before in
-    let flags : tie.After-flags-of = written .before .before .before in
-    let entry : tie.Start = flags .before .before .before .before .before in
-    state-put _ _ (entry .args .state) (flags .before .load .ensures) (flags .flags-of .ensures .is) (written .put-line .ensures)
+    let written : tie.After-put-line = search in
+    let flags : tie.After-flags-of = search in
+    let after-load : tie.After-load = search in
+    let entry : tie.Start = search in
+    state-put _ _ (entry .args .state) (after-load .load .ensures) (flags .flags-of .ensures .is) (written .put-line .ensures)
 
 pub put-state-spec : {M : Type 1} → statement M
 put-state-spec =

@@ -1,8 +1,8 @@
 -- `put_states` writes one state behind the other. The invariant: the states passed are written. Assumes nothing.
 use Prim.Native.Nat.{_-_}
 use native.Mathlib.Omega.{arith}
-use Rattle.decimal.proofs.Placing.{same-length as same-length-of}
-use Rattle.listing_text.proofs.Printing.{Stating, stating-start, state-asked, stating-room, stating-turn, stating-end}
+use Rattle.decimal.proofs.Placing.{same-length as same-length-of, rowing-start, rowing-room, rowing-turn, rowing-end}
+use Rattle.listing_text.proofs.Printing.{Stating, state-asked}
 use Rattle.listing_text.proofs.built.put_states.Statement.{statement}
 use Rattle.listing_text.proofs.built.put_states.Tie as tie
 
@@ -12,36 +12,37 @@ Inv-loop words sets states output₀ at place₀ state₀ output place state = S
 abbrev μ-loop : tie.MeasureT-loop
 μ-loop words sets states output₀ at place₀ state₀ output place state = states - state
 
--- what the function asks, at the loop
-module _ (c : tie.At-loop Inv-loop μ-loop) where
-  abbrev entry : tie.Start Inv-loop μ-loop
-  entry = c .before .before .before .before
-
 loop-holds : tie.Need-loop-holds Inv-loop μ-loop
-loop-holds c = stating-start (c .before .before .before .pre .0) (c .before .before .before .pre .1)
+loop-holds c = let start : tie.Start Inv-loop μ-loop = search in let room = start .pre .1 in rowing-start _ (omega arith)
 
 put-state-requires : tie.Need-put-state-requires Inv-loop μ-loop
 put-state-requires c κs =
-    let turn : tie.In-loop Inv-loop μ-loop = c .before in
-    let asked = entry (turn .before) .pre in
-    (state-asked (asked .0) (turn .loop-test .taken), stating-room (asked .0) (asked .1) (turn .loop-test .taken) (turn .before .loop .inv))
+    let turn : tie.In-loop Inv-loop μ-loop = search in
+    let at-loop : tie.At-loop Inv-loop μ-loop = search in
+    let entry : tie.Start Inv-loop μ-loop = search in
+    let asked = entry .pre in
+    (state-asked (asked .0) (turn .loop-test .taken), rowing-room _ (at-loop .loop .inv) (asked .1) (turn .loop-test .taken))
 
 add-state : tie.Need-add-state Inv-loop μ-loop
-add-state c = record { fits = omega (arith, c .before .before .before .before .loop-test .taken) }
+add-state c =
+    let inside-loop : tie.In-loop Inv-loop μ-loop = search in
+    record { fits = omega (arith, inside-loop .loop-test .taken) }
 
 loop-less : tie.Need-loop-less Inv-loop μ-loop
-loop-less c = omega (arith, c .before .before .before .before .loop-test .taken)
+loop-less c = let inside-loop : tie.In-loop Inv-loop μ-loop = search in omega (arith, inside-loop .loop-test .taken)
 
 loop-again : tie.Need-loop-again Inv-loop μ-loop
 loop-again c =
-    let turn : tie.In-loop Inv-loop μ-loop = c .before .before .before .before in
-    stating-turn (turn .loop-test .taken) (turn .before .loop .inv) (c .before .before .put-state .ensures)
+    let after-put-state : tie.After-put-state Inv-loop μ-loop = search in
+    let turn : tie.In-loop Inv-loop μ-loop = search in
+    let at-loop : tie.At-loop Inv-loop μ-loop = search in
+    rowing-turn _ (at-loop .loop .inv) (turn .loop-test .taken) (after-put-state .put-state .ensures)
 
 same-length : tie.Need-same-length Inv-loop μ-loop
-same-length c = same-length-of (c .before .loop .inv .put)
+same-length c = let at-loop : tie.At-loop Inv-loop μ-loop = search in same-length-of (at-loop .loop .inv .put)
 
 returns : tie.Need-returns Inv-loop μ-loop
-returns c = stating-end (entry (c .before) .pre .0) (entry (c .before) .pre .1) (c .loop-test .left) (c .before .loop .inv)
+returns c = let at-loop : tie.At-loop Inv-loop μ-loop = search in rowing-end _ (at-loop .loop .inv) (c .loop-test .left)
 
 pub put-states-spec : {M : Type 1} → statement M
 put-states-spec =

@@ -9,7 +9,10 @@ next-of-requires : tie.Need-next-of-requires
 next-of-requires c κs = search needs
 
 returns : tie.Need-returns
-returns c = behind-same _ (c .before .before .before .args .source) (c .before .before .before .args .number) (c .before .next-of .ensures .is) (c .if1 .taken)
+returns c =
+    let after-next-of : tie.After-next-of = search in
+    let start : tie.Start = search in
+    behind-same _ (start .args .source) (start .args .number) (after-next-of .next-of .ensures .is) (c .if1 .taken)
 
 add-first-source : tie.Need-add-first-source
 add-first-source c = search needs
@@ -18,7 +21,11 @@ first-source-requires : tie.Need-first-source-requires
 first-source-requires c κs = search needs
 
 returns-2 : tie.Need-returns-2
-returns-2 c = c .first-source .ensures ∙ behind-next _ (c .before .before .before .before .args .source) (c .before .before .before .before .args .number) (c .before .before .next-of .ensures .is) (c .before .if1 .left)
+returns-2 c =
+    let left-1 : tie.Else1 = search in
+    let after-next-of : tie.After-next-of = search in
+    let start : tie.Start = search in
+    c .first-source .ensures ∙ behind-next _ (start .args .source) (start .args .number) (after-next-of .next-of .ensures .is) (left-1 .if1 .left)
 
 pub source-behind-spec : {M : Type 1} → statement M
 source-behind-spec =

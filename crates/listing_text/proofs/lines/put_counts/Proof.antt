@@ -5,20 +5,6 @@ use Rattle.listing_text.proofs.Printing.{counts-put}
 use Rattle.listing_text.proofs.lines.put_counts.Statement.{statement}
 use Rattle.listing_text.proofs.lines.put_counts.Tie as tie
 
--- the places behind each call
-module _ (c : tie.After-put-field2) where
-  abbrev second-text : tie.After-put-text2
-  second-text = c .before .before .before .before
-
-  abbrev first-field : tie.After-put-field
-  first-field = second-text .before .before .before .before .before
-
-  abbrev first-text : tie.After-put-text
-  first-text = first-field .before .before .before .before
-
-  abbrev entry : tie.Start
-  entry = first-text .before .before .before .before
-
 slice-aggregate-put-text : tie.Need-slice-aggregate-put-text
 slice-aggregate-put-text c = search needs
 
@@ -43,9 +29,13 @@ same-length c = search needs
 returns : tie.Need-returns
 unfolding ascii
 returns c =
-    let last : tie.After-put-field2 = c .before .before in
-    counts-put (entry last .args .states) (entry last .args .edges) (first-text last .put-text .ensures) (first-field last .put-field .ensures)
-    (second-text last .put-text2 .ensures) (last .put-field2 .ensures)
+    let last : tie.After-put-field2 = search in
+    let second-text : tie.After-put-text2 = search in
+    let first-field : tie.After-put-field = search in
+    let first-text : tie.After-put-text = search in
+    let entry : tie.Start = search in
+    counts-put (entry .args .states) (entry .args .edges) (first-text .put-text .ensures) (first-field .put-field .ensures)
+    (second-text .put-text2 .ensures) (last .put-field2 .ensures)
 
 pub put-counts-spec : {M : Type 1} → statement M
 put-counts-spec =

@@ -20,9 +20,9 @@ same-length c = search needs
 returns : tie.Need-returns
 unfolding ascii
 returns c =
-    let field : tie.After-put-field = c .before .before in
-    let text : tie.After-put-text = field .before .before .before .before in
-    let entry : tie.Start = text .before .before .before .before in
+    let field : tie.After-put-field = search in
+    let text : tie.After-put-text = search in
+    let entry : tie.Start = search in
     refused-put (entry .args .number) (text .put-text .ensures) (field .put-field .ensures)
 
 pub put-refused-spec : {M : Type 1} → statement M

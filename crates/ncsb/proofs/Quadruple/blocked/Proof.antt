@@ -1,6 +1,6 @@
 -- `Quadruple::blocked` meets its contract. Assumes nothing.
 use mathlib.Core.Path.{_≡_, sym, _∙_}
-use mathlib.Core.Bool.{true, _||_, not}
+use mathlib.Core.Bool.{true, not}
 use Prim.Native.Nat.{ℕ}
 use lib.Bits.{bitAnd}
 use lib.Dec.{eqb}
@@ -36,24 +36,27 @@ module _ (d : Moves) (x : Quadruple) (c : ℕ) (a : Asked) where
 returns : tie.Need-returns
 unfolding from-array
 returns c =
-    let args = c .before .before .args in
+    let start : tie.Start = search in
+    let args = start .args in
     by-clash (from-array (now (args .moves)) 0 (args .marks) 0) (args .self) (args .letter) (args .asked) (c .if1 .taken)
 
 returns-2 : tie.Need-returns-2
 unfolding from-array
 returns-2 c =
-    let args = c .before .before .before .before .args in
+    let start : tie.Start = search in
+    let args = start .args in
     by-mark (from-array (now (args .moves)) 0 (args .marks) 0) (args .self) (args .letter) (args .asked) (c .if2 .taken)
 
 dead-end-requires : tie.Need-dead-end-requires
-dead-end-requires c κs = c .before .before .before .before .pre
+dead-end-requires c κs = let start : tie.Start = search in start .pre
 
 returns-3 : tie.Need-returns-3
 unfolding from-array
 returns-3 c =
-    let unmarked = c .before in
-    let apart = unmarked .before .before in
-    let args = apart .before .before .args in
+    let unmarked : tie.Else2 = search in
+    let apart : tie.Else1 = search in
+    let start : tie.Start = search in
+    let args = start .args in
     c .dead-end .ensures
     ∙ by-dead-end (from-array (now (args .moves)) 0 (args .marks) 0) (args .self) (args .letter) (args .asked)
     (apart .if1 .left) (unmarked .if2 .left)

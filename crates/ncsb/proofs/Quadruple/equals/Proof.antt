@@ -13,16 +13,11 @@ in-order false true true b = refl
 in-order false true false b = refl
 in-order false false s b = refl
 
--- C and S are compared
-module _ (c : tie.After-struct-known4) where
-  abbrev start : tie.Start
-  start = c .before .before .before .before
-
 returns : tie.Need-returns
 unfolding same
 returns c =
-    let compared = c .before .before .before .before in
-    let args = start compared .args in
+    let start : tie.Start = search in
+    let args = start .args in
     in-order (eqb (args .self .N) (args .other .N)) (eqb (args .self .C) (args .other .C)) (eqb (args .self .S) (args .other .S)) (eqb (args .self .B) (args .other .B))
 
 pub equals-spec : {M : Type 1} → statement M

@@ -33,10 +33,12 @@ without-requires-3 c κs = search needs
 returns : tie.Need-returns
 unfolding quadruple chosen
 returns c =
-    let rested = c .before in
-    let picked = rested .before in
-    let args = picked .before .before .args in
-    parted (args .starts) (args .marks) (args .inner) (args .choice) (picked .before .without .ensures)
+    let rested : tie.After-without2 = search in
+    let picked : tie.After-nth-subset = search in
+    let after-without : tie.After-without = search in
+    let start : tie.Start = search in
+    let args = start .args in
+    parted (args .starts) (args .marks) (args .inner) (args .choice) (after-without .without .ensures)
     (picked .nth-subset .ensures) (rested .without2 .ensures) (c .without3 .ensures)
 
 pub initial-spec : {M : Type 1} → statement M

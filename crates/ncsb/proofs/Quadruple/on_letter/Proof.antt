@@ -38,16 +38,16 @@ targets-requires : tie.Need-targets-requires
 targets-requires c κs = c .pre
 
 targets-requires-2 : tie.Need-targets-requires-2
-targets-requires-2 c κs = c .before .before .pre
+targets-requires-2 c κs = let begun : tie.Start = search in begun .pre
 
 without-requires : tie.Need-without-requires
 without-requires c κs = search needs
 
 targets-requires-3 : tie.Need-targets-requires-3
-targets-requires-3 c κs = c .before .before .before .before .pre
+targets-requires-3 c κs = let begun : tie.Start = search in begun .pre
 
 targets-requires-4 : tie.Need-targets-requires-4
-targets-requires-4 c κs = c .before .before .before .before .before .pre
+targets-requires-4 c κs = let begun : tie.Start = search in begun .pre
 
 without-requires-2 : tie.Need-without-requires-2
 without-requires-2 c κs = search needs
@@ -57,31 +57,31 @@ without-requires-3 c κs = search needs
 
 -- the targets of S are known: five calls after the start
 module _ (c : tie.After-targets4) where
-  abbrev stayed : tie.After-targets3
-  stayed = c .before
-
   abbrev left : tie.After-targets2
-  left = stayed .before .before
-
-  abbrev start : tie.Start
-  start = left .before .before .before
+  left = search
 
 targets-requires-5 : tie.Need-targets-requires-5
-targets-requires-5 c κs = start (c .before .before) .pre
+targets-requires-5 c κs = let start : tie.Start = search in start .pre
 
 returns : tie.Need-returns
 unfolding targets from-array
 returns c =
-    let parted = c .before in
-    let safe = parted .before .before in
-    let args = start safe .args in
+    let parted : tie.After-without3 = search in
+    let after-without2 : tie.After-without2 = search in
+    let safe : tie.After-targets4 = search in
+    let stayed : tie.After-targets3 = search in
+    let after-without : tie.After-without = search in
+    let left : tie.After-targets2 = search in
+    let after-targets : tie.After-targets = search in
+    let start : tie.Start = search in
+    let args = start .args in
     asked-of (now (args .moves)) (args .marks) (args .inner) (args .letter) (args .self)
-    (left safe .before .before .targets .ensures)
-    (left safe .targets2 .ensures)
-    (stayed safe .before .without .ensures)
-    (stayed safe .targets3 .ensures)
+    (after-targets .targets .ensures)
+    (left .targets2 .ensures)
+    (after-without .without .ensures)
+    (stayed .targets3 .ensures)
     (safe .targets4 .ensures)
-    (parted .before .without2 .ensures)
+    (after-without2 .without2 .ensures)
     (parted .without3 .ensures)
     (c .targets5 .ensures)
 

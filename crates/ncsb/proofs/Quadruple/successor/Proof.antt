@@ -38,20 +38,23 @@ without-requires c κs = search needs
 returns : tie.Need-returns
 unfolding quadruple chosen
 returns c =
-    let parted = c .before .before in
-    let picked = parted .before .before in
-    let args = picked .before .args in
+    let parted : tie.After-without = search in
+    let picked : tie.After-nth-subset = search in
+    let start : tie.Start = search in
+    let args = start .args in
     anew (args .self) (args .asked) (args .choice) (picked .nth-subset .result) (parted .without .result)
     (picked .nth-subset .ensures) (parted .without .ensures) (c .if1 .taken)
 
 returns-2 : tie.Need-returns-2
 unfolding quadruple chosen
 returns-2 c =
-    let parted = c .before .before .before in
-    let picked = parted .before .before in
-    let args = picked .before .args in
+    let left-1 : tie.Else1 = search in
+    let parted : tie.After-without = search in
+    let picked : tie.After-nth-subset = search in
+    let start : tie.Start = search in
+    let args = start .args in
     followed (args .self) (args .asked) (args .choice) (picked .nth-subset .result) (parted .without .result)
-    (picked .nth-subset .ensures) (parted .without .ensures) (c .before .if1 .left)
+    (picked .nth-subset .ensures) (parted .without .ensures) (left-1 .if1 .left)
 
 pub successor-spec : {M : Type 1} → statement M
 successor-spec = tie.close (tie.spec nth-subset-requires without-requires returns returns-2)

@@ -13,30 +13,32 @@ abbrev μ-loop : tie.MeasureT-loop
 μ-loop chunk words₀ reading₀ i₀ words reading i = length chunk - i
 
 loop-holds : tie.Need-loop-holds Inv-loop μ-loop
-loop-holds c = feeding-start _ (c .before .before .pre)
+loop-holds c = let start : tie.Start Inv-loop μ-loop = search in feeding-start _ (start .pre)
 
 shared-slice-read-with-byte : tie.Need-shared-slice-read-with-byte Inv-loop μ-loop
-shared-slice-read-with-byte c = c .before .loop-test .taken
+shared-slice-read-with-byte c = let inside-loop : tie.In-loop Inv-loop μ-loop = search in inside-loop .loop-test .taken
 
 with-byte-requires : tie.Need-with-byte-requires Inv-loop μ-loop
-with-byte-requires c κs = c .before .before .before .loop .inv .became .ready
+with-byte-requires c κs = let at-loop : tie.At-loop Inv-loop μ-loop = search in at-loop .loop .inv .became .ready
 
 add-i : tie.Need-add-i Inv-loop μ-loop
-add-i c = record { fits = omega (arith, c .before .before .before .before .before .loop-test .taken) }
+add-i c = let inside-loop : tie.In-loop Inv-loop μ-loop = search in record { fits = omega (arith, inside-loop .loop-test .taken) }
 
 loop-less : tie.Need-loop-less Inv-loop μ-loop
-loop-less c = omega (arith, c .before .before .before .before .before .loop-test .taken)
+loop-less c = let inside-loop : tie.In-loop Inv-loop μ-loop = search in omega (arith, inside-loop .loop-test .taken)
 
 loop-again : tie.Need-loop-again Inv-loop μ-loop
 loop-again c =
-    let turn = c .before .before .before .before .before in
-    feeding-turn (turn .loop-test .taken) (turn .before .loop .inv) (c .before .before .with-byte .ensures)
+    let after-with-byte : tie.After-with-byte Inv-loop μ-loop = search in
+    let turn : tie.In-loop Inv-loop μ-loop = search in
+    let at-loop : tie.At-loop Inv-loop μ-loop = search in
+    feeding-turn (turn .loop-test .taken) (at-loop .loop .inv) (after-with-byte .with-byte .ensures)
 
 same-length : tie.Need-same-length Inv-loop μ-loop
-same-length c = c .before .loop .inv .became .same
+same-length c = let at-loop : tie.At-loop Inv-loop μ-loop = search in at-loop .loop .inv .became .same
 
 returns : tie.Need-returns Inv-loop μ-loop
-returns c = feeding-end (c .loop-test .left) (c .before .loop .inv)
+returns c = let at-loop : tie.At-loop Inv-loop μ-loop = search in feeding-end (c .loop-test .left) (at-loop .loop .inv)
 
 pub fed-spec : {M : Type 1} → statement M
 fed-spec =

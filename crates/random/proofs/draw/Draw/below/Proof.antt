@@ -14,8 +14,9 @@ rem-result c = search needs
 
 returns-2 : tie.Need-returns-2
 returns-2 c =
-    let positive : 0 < c .before .before .args .limit = omega arith in
-    let under = mod-lt (c .before .before .args .self .seed / 65536) positive in
+    let start : tie.Start = search in
+    let positive : 0 < start .args .limit = omega arith in
+    let under = mod-lt (start .args .self .seed / 65536) positive in
     omega arith
 
 pub below-spec : {M : Type 1} → statement M
