@@ -12,15 +12,15 @@ use Rattle.basics.proofs.Booleans.{same-or}
 use Rattle.basics.proofs.Bounded.{pigeonhole}
 use Rattle.basics.proofs.Radix.{digits-same}
 use Rattle.basics.proofs.Upward.{upward}
-use Rattle.automata.specs.Automaton.{Automaton, Path, Takes, Closed}
+use Rattle.automata.specs.Automaton.{Automaton, Run, Takes, Closed}
 use Rattle.automata.specs.Lasso.{letter-at, position-at, position-letter, next-position, positions, Walk, stay, onward, Accepting-cycle}
 use Rattle.automata.proofs.Positions.{position-zero, position-next, position-below, letter-position}
 
 -- FROM A RUN TO A CYCLE: the number of a node gives its position and its state
-module _ (a : Automaton) (u v : List ℕ) (o : 1 ≤ length v) (run : ℕ → ℕ) (path : Path a (letter-at u v) run) where
+module _ (a : Automaton) (u v : List ℕ) (o : 1 ≤ length v) (run : ℕ → ℕ) (is-run : Run a (letter-at u v) run) where
   -- the edge from a place to the next, by position
   edge-at : (i : ℕ) → a .edge (run i) (position-letter u v (position-at u v i)) (run (suc i)) ≡ true
-  edge-at i = rw (letter-position u v o i) at (path .goes-on i)
+  edge-at i = rw (letter-position u v o i) at (is-run .goes-on i)
 
   -- a run walks through the product
   walk-along :
@@ -39,7 +39,7 @@ module _ (a : Automaton) (u v : List ℕ) (o : 1 ≤ length v) (run : ℕ → �
         position = position-at u v i;
         state = run i;
         behind = run (suc i);
-        begins = path .begins;
+        begins = is-run .begins;
         reached = rw (position-zero u v) at (walk-along 0 i (omega arith));
         accepts = e;
         leaves = edge-at i;
@@ -75,19 +75,19 @@ module _ (a : Automaton) (u v : List ℕ) (o : 1 ≤ length v) (run : ℕ → �
         node k = position-at u v (place k) * a .states + run (place k)
 
         below : (k : ℕ) → node k < positions u v * a .states
-        below k = digits-lt (position-below u v o (place k)) (path .inside (place k))
+        below k = digits-lt (position-below u v o (place k)) (is-run .inside (place k))
 
         go : (i : ℕ) × (j : ℕ) × (i < j) × (j ≤ positions u v * a .states) × (node i ≡ node j) → Accepting-cycle a u v
         go (i, j, l, m, e) =
             let (x, y) : ℕ × ℕ = (place i, place j) in
-            let (p, q) = digits-same (position-at u v x) (position-at u v y) (path .inside x) (path .inside y) e in
+            let (p, q) = digits-same (position-at u v x) (position-at u v y) (is-run .inside x) (is-run .inside y) e in
             cycle-between x y (place-rises i j l) p q (place-accepts i)
 
 -- an automaton that takes a lasso has an accepting cycle over it.
 -- The states of a run are states, so this does not need that the automaton is closed.
 pub takes-cycle : {a : Automaton} {u v : List ℕ} → 1 ≤ length v → Takes a (letter-at u v) → Accepting-cycle a u v
 takes-cycle {a} {u} {v} o t =
-    run-cycle a u v o (t .run) (t .accepting-run .path) (t .accepting-run .accepting)
+    run-cycle a u v o (t .run) (t .accepting-run .is-run) (t .accepting-run .accepting)
 
 -- FROM A CYCLE TO A RUN
 -- what is left to walk from position i and state p to position j and state q, the next edge first
@@ -163,7 +163,7 @@ module _ (a : Automaton) (u v : List ℕ) (j q behind : ℕ)
           run = λ i. at i .state;
           accepting-run =
               record {
-                path =
+                is-run =
                     record {
                       inside = λ i. closed .edge (at i .state) (letter-at u v i) (at (suc i) .state) (edge i) .0;
                       begins = begins;

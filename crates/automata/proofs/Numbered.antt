@@ -8,9 +8,9 @@ use native.Mathlib.Omega.{arith}
 use lib.Dec.{ltb, eqb}
 use lib.ListN.{length}
 use Rattle.basics.proofs.Booleans.{clash, and-l, and-r, and-make, or-l, or-r, or-true, eqb-eq, eqb-self, ltb-lt, lt-ltb, same-or}
-use Rattle.automata.specs.Automaton.{Run, Takes, Single-run}
+use Rattle.automata.specs.Automaton.{Accepting-run, Takes, Single-run}
 use Rattle.automata.specs.System.{System, Decides, Member, here, there, Reached, at-start, onward, state-at}
-use Rattle.automata.specs.System.{Edge, an-edge, edge-at, Built, number-of, edges-to, edges-on, edges-of, Exactly, listed, numbered, System-run}
+use Rattle.automata.specs.System.{Edge, an-edge, edge-at, Built, number-of, edges-to, edges-on, edges-of, Exactly, listed, numbered, Accepting-system-run}
 use Rattle.automata.proofs.Members.{Prefix, prefix-same, member-at, number-found, number-first, number-at, number-member, number-prefix, state-prefix}
 use Rattle.automata.proofs.Explore.{exactly-distinct}
 
@@ -189,19 +189,19 @@ module _ {X : Type 0} (s : System X) (decides : Decides s) (b : Built X) (exactl
 
   -- RUNS over a word of the system's letters
   module _ (w : ℕ → ℕ) (letters : (i : ℕ) → w i < s .letters) where
-    pub run-reached : (f : ℕ → X) → System-run s w f → (i : ℕ) → Reached s (f i)
+    pub run-reached : (f : ℕ → X) → Accepting-system-run s w f → (i : ℕ) → Reached s (f i)
     run-reached f r zero = at-start (r .begins)
     run-reached f r (suc i) = onward (w i) (run-reached f r i) (letters i) (r .goes-on i)
 
     -- a run of the system, by number, is one of the numbered automaton
     pub run-numbered :
-        (f : ℕ → X) → System-run s w f →
-        (g : ℕ → ℕ) × Run (numbered s b) w g × ((i : ℕ) → state-at s (b .states) (g i) ≡ f i)
+        (f : ℕ → X) → Accepting-system-run s w f →
+        (g : ℕ → ℕ) × Accepting-run (numbered s b) w g × ((i : ℕ) → state-at s (b .states) (g i) ≡ f i)
     unfolding numbered
     run-numbered f r = (
       number,
       record {
-        path = record { inside = inside; begins = begins; goes-on = goes-on };
+        is-run = record { inside = inside; begins = begins; goes-on = goes-on };
         accepting = λ i. let (j, l, a) = r .accepting i in (j, l, and-make (lt-ltb (inside j)) (rw (back j) a));
       },
       back,
@@ -227,26 +227,26 @@ module _ {X : Type 0} (s : System X) (decides : Decides s) (b : Built X) (exactl
             (rw (back i, back (suc i)) (r .goes-on i))
 
     -- and the other way round
-    pub numbered-run : (g : ℕ → ℕ) → Run (numbered s b) w g → System-run s w (λ i. state-at s (b .states) (g i))
+    pub numbered-run : (g : ℕ → ℕ) → Accepting-run (numbered s b) w g → Accepting-system-run s w (λ i. state-at s (b .states) (g i))
     unfolding numbered
     numbered-run g r =
         record {
           begins =
-              let l = ltb-lt (g 0) (length (s .starts)) (r .path .begins) in
+              let l = ltb-lt (g 0) (length (s .starts)) (r .is-run .begins) in
               rw (state-prefix s starts-first (g 0) l) (member-at s (s .starts) (g 0) l);
-          goes-on = λ i. numbered-leads (g i) (w i) (g (suc i)) (r .path .goes-on i) .3;
+          goes-on = λ i. numbered-leads (g i) (w i) (g (suc i)) (r .is-run .goes-on i) .3;
           accepting = λ i. let (j, l, a) = r .accepting i in (j, l, and-r (ltb (g j) (length (b .states))) a);
         }
 
     -- two runs with the same states have the same numbers
     pub same-numbers :
-        (g h : ℕ → ℕ) → Run (numbered s b) w g → Run (numbered s b) w h →
+        (g h : ℕ → ℕ) → Accepting-run (numbered s b) w g → Accepting-run (numbered s b) w h →
         ((i : ℕ) → state-at s (b .states) (g i) ≡ state-at s (b .states) (h i)) → (i : ℕ) → g i ≡ h i
     unfolding numbered
-    same-numbers g h p q same i = exactly .once (g i) (h i) (p .path .inside i) (q .path .inside i) (same i)
+    same-numbers g h p q same i = exactly .once (g i) (h i) (p .is-run .inside i) (q .is-run .inside i) (same i)
 
     -- the numbered automaton takes the word exactly if the system has an accepting run over it
-    pub numbered-takes : Takes (numbered s b) w ↔ ((f : ℕ → X) × System-run s w f)
+    pub numbered-takes : Takes (numbered s b) w ↔ ((f : ℕ → X) × Accepting-system-run s w f)
     numbered-takes = (
       λ t. ((λ i. state-at s (b .states) (t .run i)), numbered-run (t .run) (t .accepting-run)),
       λ r. let (g, run, back) = run-numbered (r .0) (r .1) in record { run = g; accepting-run = run },
@@ -254,7 +254,7 @@ module _ {X : Type 0} (s : System X) (decides : Decides s) (b : Built X) (exactl
 
     -- and has exactly one accepting run, if the system has one
     pub numbered-single :
-        (f : ℕ → X) → System-run s w f → ((other : ℕ → X) → System-run s w other → (i : ℕ) → other i ≡ f i) →
+        (f : ℕ → X) → Accepting-system-run s w f → ((other : ℕ → X) → Accepting-system-run s w other → (i : ℕ) → other i ≡ f i) →
         Single-run (numbered s b) w
     numbered-single f r only =
         let (g, run, back) = run-numbered f r in

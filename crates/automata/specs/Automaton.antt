@@ -11,27 +11,27 @@ pub record Automaton : Type 0 where
   pub accepting : ℕ → Bool
   pub edge : (source letter target : ℕ) → Bool
 
--- an endless sequence of states over a word: the first is initial, and from each an edge leads to the next
-pub record Path (a : Automaton) (w run : ℕ → ℕ) : Type 0 where
+-- a run over a word: an endless sequence of states; the first is initial, and from each an edge leads to the next
+pub record Run (a : Automaton) (w run : ℕ → ℕ) : Type 0 where
   pub inside : (i : ℕ) → run i < a .states
   pub begins : a .initial (run 0) ≡ true
   pub goes-on : (i : ℕ) → a .edge (run i) (w i) (run (suc i)) ≡ true
 
 -- an accepting run: accepting states stand at infinitely many of its places
-pub record Run (a : Automaton) (w run : ℕ → ℕ) : Type 0 where
-  pub path : Path a w run
+pub record Accepting-run (a : Automaton) (w run : ℕ → ℕ) : Type 0 where
+  pub is-run : Run a w run
   pub accepting : (i : ℕ) → (j : ℕ) × (i ≤ j) × (a .accepting (run j) ≡ true)
 
 -- the automaton takes the word: it has an accepting run over it
 pub record Takes (a : Automaton) (w : ℕ → ℕ) : Type 0 where
   pub run : ℕ → ℕ
-  pub accepting-run : Run a w run
+  pub accepting-run : Accepting-run a w run
 
 -- exactly one accepting run: two runs differ if some place holds different states
 pub record Single-run (a : Automaton) (w : ℕ → ℕ) : Type 0 where
   pub run : ℕ → ℕ
-  pub accepting-run : Run a w run
-  pub only : (other : ℕ → ℕ) → Run a w other → (i : ℕ) → other i ≡ run i
+  pub accepting-run : Accepting-run a w run
+  pub only : (other : ℕ → ℕ) → Accepting-run a w other → (i : ℕ) → other i ≡ run i
 
 -- two automata that differ in nothing
 pub record Same (a b : Automaton) : Type 0 where
@@ -41,7 +41,7 @@ pub record Same (a b : Automaton) : Type 0 where
   pub accepting : (q : ℕ) → a .accepting q ≡ b .accepting q
   pub edge : (p c q : ℕ) → a .edge p c q ≡ b .edge p c q
 
--- initial states and both ends of each edge are states: then every path stays inside
+-- initial states and both ends of each edge are states: then every run stays inside
 pub record Closed (a : Automaton) : Type 0 where
   pub initial : (q : ℕ) → a .initial q ≡ true → q < a .states
   pub edge : (p c q : ℕ) → a .edge p c q ≡ true → (p < a .states) × (c < a .letters) × (q < a .states)

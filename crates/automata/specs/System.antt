@@ -18,10 +18,12 @@ pub record System (X : Type 0) : Type 0 where
   -- what stands where a list of states has ended
   pub blank : X
 
+-- `same` tells states apart exactly
 pub record Decides {X : Type 0} (s : System X) : Type 0 where
   pub same-eq : (x y : X) → s .same x y ≡ true → x ≡ y
   pub same-self : (x : X) → s .same x x ≡ true
 
+-- an item of a list
 pub data Member {X : Type 0} (x : X) : List X → Type 0 where
   here : {ys : List X} → Member x (x ∷ ys)
   there : {y : X} {ys : List X} → Member x ys → Member x (y ∷ ys)
@@ -50,6 +52,7 @@ pub record Edge : Type 0 where
   pub letter : ℕ
   pub target : ℕ
 
+-- the edge from a state on a letter to a state
 unfoldable pub an-edge : (source letter target : ℕ) → Edge
 an-edge i c j = record { source = i; letter = c; target = j }
 
@@ -58,6 +61,7 @@ pub record Built (X : Type 0) : Type 0 where
   pub states : List X
   pub edges : List Edge
 
+-- states and edges together
 unfoldable pub built : {X : Type 0} → List X → List Edge → Built X
 built xs es = record { states = xs; edges = es }
 
@@ -70,6 +74,7 @@ number-of same x (y ∷ ys) = cond (same x y) 0 (suc (number-of same x ys))
 unfoldable pub with-state : {X : Type 0} → (same : X → X → Bool) → X → List X → List X
 with-state same x ys = cond (ltb (number-of same x ys) (length ys)) ys (ys ++ (x ∷ []))
 
+-- then states in order, each as it is met
 unfoldable pub with-states : {X : Type 0} → (same : X → X → Bool) → List X → List X → List X
 with-states same [] ys = ys
 with-states same (x ∷ xs) ys = with-states same xs (with-state same x ys)
@@ -103,22 +108,26 @@ explore-from (suc f) s i b =
 unfoldable pub begin : {X : Type 0} → System X → Built X
 begin s = built (with-states (s .same) (s .starts) []) []
 
+-- exploring from the initial states on, through at most so many states
 unfoldable pub explore : {X : Type 0} → (fuel : ℕ) → System X → Built X
 explore f s = explore-from f s 0 (begin s)
 
--- THE EDGES IN CLOSED FORM, given all states: by source, letter and successor
+-- THE EDGES IN CLOSED FORM, given all states: by source, letter and successor. Of a state on a letter
 unfoldable pub edges-to : {X : Type 0} → (same : X → X → Bool) → (all : List X) → (source letter : ℕ) → List X → List Edge
 edges-to same all i c [] = []
 edges-to same all i c (y ∷ ys) = an-edge i c (number-of same y all) ∷ edges-to same all i c ys
 
+-- of a state, on the letters below the limit
 unfoldable pub edges-on : {X : Type 0} → System X → (all : List X) → (limit source : ℕ) → X → List Edge
 edges-on s all zero i x = []
 edges-on s all (suc c) i x = edges-on s all c i x ++ edges-to (s .same) all i c (s .nexts x c)
 
+-- of the states below the limit
 unfoldable pub edges-of : {X : Type 0} → System X → (all : List X) → (limit : ℕ) → List Edge
 edges-of s all zero = []
 edges-of s all (suc i) = edges-of s all i ++ edges-on s all (s .letters) i (state-at s all i)
 
+-- the edge with a place in the list
 unfoldable pub edge-at : List Edge → ℕ → Edge
 edge-at es r = getD es r (an-edge 0 0 0)
 
@@ -140,11 +149,12 @@ pub record Exactly {X : Type 0} (s : System X) (b : Built X) : Type 0 where
       (r : ℕ) × (r < length (b .edges)) × (edge-at (b .edges) r .target ≡ i)
       × ((q : ℕ) → q < r → edge-at (b .edges) q .target < i)
 
--- THE NUMBERED AUTOMATON
+-- THE NUMBERED AUTOMATON: whether an edge is listed
 unfoldable pub listed : (source letter target : ℕ) → List Edge → Bool
 listed i c j [] = false
 listed i c j (e ∷ es) = (eqb (e .source) i && (eqb (e .letter) c && eqb (e .target) j)) || listed i c j es
 
+-- the states by their numbers: the first ones are initial, as many as the system begins with
 unfoldable pub numbered : {X : Type 0} → System X → Built X → Automaton
 numbered s b =
     record {
@@ -156,7 +166,7 @@ numbered s b =
     }
 
 -- an accepting run of the system itself
-pub record System-run {X : Type 0} (s : System X) (w : ℕ → ℕ) (run : ℕ → X) : Type 0 where
+pub record Accepting-system-run {X : Type 0} (s : System X) (w : ℕ → ℕ) (run : ℕ → X) : Type 0 where
   pub begins : Member (run 0) (s .starts)
   pub goes-on : (i : ℕ) → Member (run (suc i)) (s .nexts (run i) (w i))
   pub accepting : (i : ℕ) → (j : ℕ) × (i ≤ j) × (s .accepting (run j) ≡ true)

@@ -4,7 +4,7 @@ use mathlib.Core.Path.{_≡_}
 use mathlib.Core.List.{List}
 use mathlib.Core.Logic.{_⊎_, inl, inr}
 use Prim.Native.Nat.{ℕ, _<_}
-use Rattle.automata.specs.Automaton.{Automaton, Run, Takes, Single-run}
+use Rattle.automata.specs.Automaton.{Automaton, Accepting-run, Takes, Single-run}
 use Rattle.automata.specs.Lasso.{letter-at, Lasso}
 use Rattle.automata.specs.System.{state-at}
 use Rattle.automata.proofs.Decision.{takes-or-not}
@@ -40,7 +40,7 @@ module _ (t : List ℕ) (passed : check-refusal t ≡ 0) where
 
     -- lemma 3, over every word: the complement is unambiguous
     pub unambiguous :
-        (f g : ℕ → ℕ) → Run (complement-automaton t) w f → Run (complement-automaton t) w g → (i : ℕ) → f i ≡ g i
+        (f g : ℕ → ℕ) → Accepting-run (complement-automaton t) w f → Accepting-run (complement-automaton t) w g → (i : ℕ) → f i ≡ g i
     unfolding complement-automaton system-of ncsb moves meaning
     unambiguous f g r q =
         let (sp, sl) = checked-split t passed in

@@ -26,6 +26,6 @@ pub record Lasso-says (range : Limits) (t u v : List ℕ) (d : Decision) (w w-no
   pub answer : d ≡ decision range t u v (length w)
   pub work : w-now ≡ zeros w
 
--- what the search asks: nothing is refused; it is held to the table's meaning
+-- what the search asks: neither the table nor the lasso is refused
 pub record Takes-asks (r : Limits) (t u v w : List ℕ) : Type 0 where
   pub accepted : lasso-refusal r t u v (length w) ≡ 0

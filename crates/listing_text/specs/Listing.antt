@@ -18,13 +18,15 @@ use Rattle.decimal.specs.Reading.{Bounds, read-numbers}
 unfoldable pub listing-bounds : Bounds
 listing-bounds = record { largest = largest-word word-bits; most = table-words (pattern-range .states) (pattern-range .records) }
 
--- room for 1,024 states and 16,384 table words
+-- THE ROOM: for 1,024 states
 abbrev pub most-states : ℕ
 most-states = 1024
 
+-- and 16,384 table words
 abbrev pub most-words : ℕ
 most-words = 16384
 
+-- both
 unfoldable pub listing-room : Room
 listing-room = record { words = most-words; records = most-states }
 
@@ -61,5 +63,6 @@ unfoldable pub listing-of : Option (List ℕ) → List ℕ
 listing-of none = refused-line 1
 listing-of (some t) = answered (build-refusal wide-range t listing-room) t
 
+-- THE LISTING of an input, byte by byte
 unfoldable pub listing : (input : List ℕ) → List ℕ
 listing input = listing-of (read-numbers listing-bounds input)

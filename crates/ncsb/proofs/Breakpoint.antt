@@ -7,10 +7,10 @@ use Rattle.automata.specs.Automaton.{Automaton}
 use Rattle.sets.specs.Sets.{has}
 use Rattle.sets.proofs.Members.{has-nonzero}
 use Rattle.ncsb.specs.Moves.{Moves}
-use Rattle.ncsb.specs.Step.{Leads, Ncsb-run}
+use Rattle.ncsb.specs.Step.{Leads, Accepting-ncsb-run}
 use Rattle.ncsb.specs.declared.Quadruple.{Quadruple}
 
-module _ {a : Automaton} {d : Moves} {w : ℕ → ℕ} {f : ℕ → Quadruple} (r : Ncsb-run a d w f) (P : (place state : ℕ) → Type 0)
+module _ {a : Automaton} {d : Moves} {w : ℕ → ℕ} {f : ℕ → Quadruple} (r : Accepting-ncsb-run a d w f) (P : (place state : ℕ) → Type 0)
     (in-C : (i q : ℕ) → P i q → has (f i .C) q ≡ true)
     (next : (i p : ℕ) → P i p → (q : ℕ) × (a .edge p (w i) q ≡ true) × P (suc i) q) where
   -- once in B, always in B

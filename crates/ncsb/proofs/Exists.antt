@@ -18,7 +18,7 @@ use Rattle.automata.proofs.Cycles.{cycle-takes}
 use Rattle.sets.specs.Sets.{has}
 use Rattle.sets.proofs.Members.{has-lt}
 use Rattle.ncsb.specs.Moves.{Moves, Spread, Split}
-use Rattle.ncsb.specs.Step.{Ncsb-run}
+use Rattle.ncsb.specs.Step.{Accepting-ncsb-run}
 use Rattle.ncsb.specs.declared.Quadruple.{Quadruple}
 use Rattle.ncsb.proofs.Traces.{reached, next, trace, reached-back, next-edge, trace-add, trace-inside, trace-reached}
 use Rattle.ncsb.proofs.Rational.{rational, rational-run}
@@ -172,7 +172,7 @@ quiet {a} {d} spread split closed u v o rejects i q h k m =
 -- LEMMA 2: the complement accepts a word that the pattern does not accept
 pub run-exists :
     {a : Automaton} {d : Moves} → Spread a d → Split a d → Closed a → (u v : List ℕ) → 1 ≤ length v →
-    (Takes a (letter-at u v) → ⊥) → (f : ℕ → Quadruple) × Ncsb-run a d (letter-at u v) f
+    (Takes a (letter-at u v) → ⊥) → (f : ℕ → Quadruple) × Accepting-ncsb-run a d (letter-at u v) f
 run-exists {a} {d} spread split closed u v o rejects =
     let n = positions u v * a .states in (
       rational a d (letter-at u v) n,

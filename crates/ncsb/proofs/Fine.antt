@@ -7,7 +7,7 @@ use Rattle.basics.proofs.Booleans.{or-l, or-r, same-or}
 use Rattle.automata.specs.Automaton.{Automaton}
 use Rattle.sets.specs.Sets.{has}
 use Rattle.ncsb.specs.Moves.{Moves, Split}
-use Rattle.ncsb.specs.Step.{Small, Leads, Start, Step, Ncsb-run, Fine}
+use Rattle.ncsb.specs.Step.{Small, Leads, Start, Step, Accepting-ncsb-run, Fine}
 use Rattle.ncsb.specs.declared.Quadruple.{Quadruple}
 
 pub start-fine : {a : Automaton} {d : Moves} {x : Quadruple} → Start a d x → Fine d x
@@ -56,7 +56,7 @@ step-fine sl fine s =
     }
 
 -- along a run: it holds sets of states, no safe state is a mark, and, by the laws of Q2, it is fine at each place
-module _ {a : Automaton} {d : Moves} {w : ℕ → ℕ} {f : ℕ → Quadruple} (r : Ncsb-run a d w f) where
+module _ {a : Automaton} {d : Moves} {w : ℕ → ℕ} {f : ℕ → Quadruple} (r : Accepting-ncsb-run a d w f) where
   pub run-small : (i : ℕ) → Small (d .states) (f i)
   run-small zero = r .begins .small
   run-small (suc i) = r .goes-on i .small

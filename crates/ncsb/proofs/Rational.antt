@@ -15,7 +15,7 @@ use Rattle.automata.specs.Automaton.{Automaton, Closed}
 use Rattle.sets.specs.Sets.{has, set-of}
 use Rattle.sets.proofs.Members.{set-of-lt, has-lt, empty, set-of-back, set-of-make}
 use Rattle.ncsb.specs.Moves.{Moves, Spread, Split}
-use Rattle.ncsb.specs.Step.{Small, Leads, Start, Step, Ncsb-run}
+use Rattle.ncsb.specs.Step.{Small, Leads, Start, Step, Accepting-ncsb-run}
 use Rattle.ncsb.specs.declared.Quadruple.{Quadruple}
 use Rattle.ncsb.proofs.Fine.{step-tracked}
 use Rattle.ncsb.proofs.Traces.{reached, next, trace, reached-back, reached-on, reached-inside, next-edge, next-found, trace-add, trace-inside}
@@ -404,6 +404,6 @@ module _ {a : Automaton} {d : Moves} (spread : Spread a d) (split : Split a d) (
       ]
 
   -- LEMMA 2, but for the bound
-  pub rational-run : Ncsb-run a d w (rational a d w n)
+  pub rational-run : Accepting-ncsb-run a d w (rational a d w n)
   unfolding rational
   rational-run = record { begins = rational-start; goes-on = rational-step; accepting = rational-accepting }

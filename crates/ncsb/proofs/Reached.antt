@@ -6,9 +6,9 @@ use Prim.Native.Nat.{ℕ, zero, suc}
 use lib.Dec.{eqb}
 use Rattle.basics.proofs.Booleans.{and-l, and-r, and-make, eqb-eq, eq-eqb, eqb-self}
 use Rattle.automata.specs.Automaton.{Automaton}
-use Rattle.automata.specs.System.{Decides, Reached, at-start, onward, System-run, state-at, Distinct}
+use Rattle.automata.specs.System.{Decides, Reached, at-start, onward, Accepting-system-run, state-at, Distinct}
 use Rattle.ncsb.specs.Moves.{Moves, Spread, Split}
-use Rattle.ncsb.specs.Step.{Fine, Ncsb-run}
+use Rattle.ncsb.specs.Step.{Fine, Accepting-ncsb-run}
 use Rattle.ncsb.specs.Successors.{quadruple, same, accepting, initials, ncsb}
 use Rattle.ncsb.specs.declared.Quadruple.{Quadruple}
 use Rattle.ncsb.proofs.Fine.{start-fine, step-fine, run-small}
@@ -46,12 +46,12 @@ module _ {a : Automaton} {d : Moves} (sp : Spread a d) (sl : Split a d) where
   reached-fine (at-start m) = start-fine (member-start sp m)
   reached-fine (onward c r l m) = step-fine sl (reached-fine r) (member-step sp (reached-fine r .small) c m)
 
-  system-fine : {w : ℕ → ℕ} {run : ℕ → Quadruple} → System-run (ncsb d) w run → (i : ℕ) → Fine d (run i)
+  system-fine : {w : ℕ → ℕ} {run : ℕ → Quadruple} → Accepting-system-run (ncsb d) w run → (i : ℕ) → Fine d (run i)
   unfolding ncsb
   system-fine {w} r zero = start-fine (member-start sp (r .begins))
   system-fine {w} r (suc i) = step-fine sl (system-fine r i) (member-step sp (system-fine r i .small) (w i) (r .goes-on i))
 
-  pub system-run→ncsb-run : {w : ℕ → ℕ} {run : ℕ → Quadruple} → System-run (ncsb d) w run → Ncsb-run a d w run
+  pub system-run→ncsb-run : {w : ℕ → ℕ} {run : ℕ → Quadruple} → Accepting-system-run (ncsb d) w run → Accepting-ncsb-run a d w run
   unfolding ncsb accepting
   system-run→ncsb-run {w} {run} r =
       record {
@@ -60,7 +60,7 @@ module _ {a : Automaton} {d : Moves} (sp : Spread a d) (sl : Split a d) where
         accepting = λ i. let k = r .accepting i in (k .0, k .1, eqb-eq (run (k .0) .B) 0 (k .2));
       }
 
-  pub ncsb-run→system-run : {w : ℕ → ℕ} {run : ℕ → Quadruple} → Ncsb-run a d w run → System-run (ncsb d) w run
+  pub ncsb-run→system-run : {w : ℕ → ℕ} {run : ℕ → Quadruple} → Accepting-ncsb-run a d w run → Accepting-system-run (ncsb d) w run
   unfolding ncsb accepting
   ncsb-run→system-run {w} {run} r =
       record {

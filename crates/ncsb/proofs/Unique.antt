@@ -8,13 +8,13 @@ use Rattle.automata.specs.Automaton.{Automaton}
 use Rattle.sets.specs.Sets.{has}
 use Rattle.sets.proofs.Members.{ext-both}
 use Rattle.ncsb.specs.Moves.{Moves}
-use Rattle.ncsb.specs.Step.{Leads, Ncsb-run}
+use Rattle.ncsb.specs.Step.{Leads, Accepting-ncsb-run}
 use Rattle.ncsb.specs.declared.Quadruple.{Quadruple}
 use Rattle.ncsb.proofs.Fine.{run-small, run-unmarked}
 use Rattle.ncsb.proofs.Breakpoint.{never-stays}
 
 -- what is in a set of one run is in that of the other
-module _ {a : Automaton} {d : Moves} {w : ℕ → ℕ} {f g : ℕ → Quadruple} (r : Ncsb-run a d w f) (s : Ncsb-run a d w g) where
+module _ {a : Automaton} {d : Moves} {w : ℕ → ℕ} {f g : ℕ → Quadruple} (r : Accepting-ncsb-run a d w f) (s : Accepting-ncsb-run a d w g) where
   -- N tracks Q1 and is determined
   same-N : (i q : ℕ) → has (f i .N) q ≡ true → has (g i .N) q ≡ true
   unfolding Leads
@@ -62,7 +62,7 @@ module _ {a : Automaton} {d : Moves} {w : ℕ → ℕ} {f g : ℕ → Quadruple}
         | inr x ↦ absurd (no-split i q h x)
       ]
 
-module _ {a : Automaton} {d : Moves} {w : ℕ → ℕ} {f g : ℕ → Quadruple} (r : Ncsb-run a d w f) (s : Ncsb-run a d w g) where
+module _ {a : Automaton} {d : Moves} {w : ℕ → ℕ} {f g : ℕ → Quadruple} (r : Accepting-ncsb-run a d w f) (s : Accepting-ncsb-run a d w g) where
   same-S : (i q : ℕ) → has (f i .S) q ≡ true → has (g i .S) q ≡ true
   same-S i q h =
       elim (or-true (has (g i .C) q) (has (g i .S) q) (same-CS r s i q (or-r (has (f i .C) q) h))) [
@@ -78,7 +78,7 @@ module _ {a : Automaton} {d : Moves} {w : ℕ → ℕ} {f g : ℕ → Quadruple}
       let (c, (p, b, edge)) = r .goes-on i .breakpoint-kept (λ z. n (sym e ∙ z)) q .0 h in
       s .goes-on i .breakpoint-kept n q .1 (same-C r s (suc i) q c, (p, subst (λ (b : ℕ). has b p ≡ true) e b, edge))
 
-module _ {a : Automaton} {d : Moves} {w : ℕ → ℕ} {f g : ℕ → Quadruple} (r : Ncsb-run a d w f) (s : Ncsb-run a d w g) where
+module _ {a : Automaton} {d : Moves} {w : ℕ → ℕ} {f g : ℕ → Quadruple} (r : Accepting-ncsb-run a d w f) (s : Accepting-ncsb-run a d w g) where
   -- so the sets are equal
   equal-N : (i : ℕ) → f i .N ≡ g i .N
   equal-N i =
@@ -111,7 +111,7 @@ module _ {a : Automaton} {d : Moves} {w : ℕ → ℕ} {f g : ℕ → Quadruple}
 
 -- LEMMA 3: the complement is unambiguous
 pub one-run :
-    {a : Automaton} {d : Moves} → (w : ℕ → ℕ) (f g : ℕ → Quadruple) → Ncsb-run a d w f → Ncsb-run a d w g →
+    {a : Automaton} {d : Moves} → (w : ℕ → ℕ) (f g : ℕ → Quadruple) → Accepting-ncsb-run a d w f → Accepting-ncsb-run a d w g →
     (i : ℕ) → f i ≡ g i
 one-run w f g r s i k =
     record { N = equal-N r s i k; C = equal-C r s i k; S = equal-S r s i k; B = equal-B r s i k }

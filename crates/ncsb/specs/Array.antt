@@ -44,7 +44,7 @@ asks d x c =
       followed = targets d (x .B) c;
     }
 
--- no quadruple follows: a dead end, a safe run that would meet F, or one that would be both safe and not
+-- `blocked`, from what the letter asks
 unfoldable pub blocked-by : Moves → Quadruple → (letter : ℕ) → Asked → Bool
 blocked-by d x c a =
     dead-end d x c || (not (eqb (bitAnd (a .safe) (d .marks)) 0) || not (eqb (bitAnd (a .safe) (a .staying)) 0))

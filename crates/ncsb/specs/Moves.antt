@@ -2,7 +2,7 @@
 use mathlib.Core.Path.{_≡_}
 use mathlib.Core.Bool.{true}
 use Prim.Native.Nat.{ℕ, _<_, _^_}
-use Rattle.automata.specs.Automaton.{Automaton, Path}
+use Rattle.automata.specs.Automaton.{Automaton, Run}
 use Rattle.sets.specs.Sets.{has}
 
 -- all that the step reads of a pattern
@@ -38,4 +38,4 @@ pub record Split (a : Automaton) (d : Moves) : Type 0 where
   pub within : (q : ℕ) → has (d .marks) q ≡ true → (has (d .inner) q ≡ true) × (a .accepting q ≡ true)
   -- an accepting state that a path meets is a mark
   pub met :
-      (w run : ℕ → ℕ) → Path a w run → (i : ℕ) → a .accepting (run i) ≡ true → has (d .marks) (run i) ≡ true
+      (w run : ℕ → ℕ) → Run a w run → (i : ℕ) → a .accepting (run i) ≡ true → has (d .marks) (run i) ≡ true

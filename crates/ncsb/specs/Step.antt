@@ -1,5 +1,6 @@
--- The NCSB construction by membership: one field for each line of section 3.2 of "Complementing Semi-Deterministic Büchi Automata", in its order, with none of the
--- helpers that compute successors. Assumes nothing: these are definitions.
+-- The NCSB construction by membership: the lines of section 3.2 of "Complementing Semi-Deterministic Büchi Automata", in its order, with
+-- none of the helpers that compute successors. Edges are followed from any state of a set: for N in Q1 and C, S and B in Q2, as in every
+-- reached quadruple, they are the paper's d1, dt and d2. Assumes nothing: these are definitions.
 use mathlib.Core.Path.{_≡_}
 use mathlib.Core.Bool.{true, false, _&&_, _||_}
 use mathlib.Core.Logic.{_↔_, _⊎_}
@@ -9,7 +10,7 @@ use Rattle.sets.specs.Sets.{has}
 use Rattle.ncsb.specs.Moves.{Moves}
 use Rattle.ncsb.specs.declared.Quadruple.{Quadruple}
 
--- four sets of pattern states
+-- a quadruple of sets of pattern states
 pub record Small (n : ℕ) (x : Quadruple) : Type 0 where
   pub small-N : x .N < 2 ^ n
   pub small-C : x .C < 2 ^ n
@@ -56,7 +57,7 @@ pub record Step (a : Automaton) (d : Moves) (x : Quadruple) (c : ℕ) (y : Quadr
       (x .B ≡ 0 → ⊥) → (q : ℕ) → (has (y .B) q ≡ true) ↔ ((has (y .C) q ≡ true) × Leads a (x .B) c q)
 
 -- an accepting run of quadruples over a word: B is empty at infinitely many places
-pub record Ncsb-run (a : Automaton) (d : Moves) (w : ℕ → ℕ) (run : ℕ → Quadruple) : Type 0 where
+pub record Accepting-ncsb-run (a : Automaton) (d : Moves) (w : ℕ → ℕ) (run : ℕ → Quadruple) : Type 0 where
   pub begins : Start a d (run 0)
   pub goes-on : (i : ℕ) → Step a d (run i) (w i) (run (suc i))
   pub accepting : (i : ℕ) → (j : ℕ) × (i ≤ j) × (run j .B ≡ 0)

@@ -11,6 +11,7 @@ use Rattle.sets.specs.Sets.{has, without, union, subsets}
 use Rattle.ncsb.specs.Moves.{Moves}
 use Rattle.ncsb.specs.declared.Quadruple.{Quadruple}
 
+-- the quadruple (N, C, S, B) of four sets
 unfoldable pub quadruple : (n c s b : ℕ) → Quadruple
 quadruple n c s b = record { N = n; C = c; S = s; B = b }
 
@@ -18,9 +19,11 @@ quadruple n c s b = record { N = n; C = c; S = s; B = b }
 unfoldable pub four-sets : Quadruple → List ℕ
 four-sets x = x .N ∷ x .C ∷ x .S ∷ x .B ∷ []
 
+-- two quadruples are the same if their four sets are
 unfoldable pub same : Quadruple → Quadruple → Bool
 same x y = (eqb (x .N) (y .N) && eqb (x .C) (y .C)) && (eqb (x .S) (y .S) && eqb (x .B) (y .B))
 
+-- a quadruple is accepting if B is empty
 unfoldable pub accepting : Quadruple → Bool
 accepting x = eqb (x .B) 0
 
@@ -28,30 +31,36 @@ accepting x = eqb (x .B) 0
 unfoldable pub targets : Moves → (set letter : ℕ) → ℕ
 targets d s c = union (d .states) s (λ q. d .move q c)
 
--- INITIAL quadruples, for a choice of S among the initial states of Q2 outside F
+-- INITIAL quadruples: S is chosen among the initial states of Q2 outside F
 unfoldable pub initial-free : Moves → ℕ
 initial-free d = without (bitAnd (d .starts) (d .inner)) (d .marks)
 
+-- the initial quadruple for a choice of S: N is I in Q1, C is the rest of I in Q2, and B equals C
 unfoldable pub initial-for : Moves → (choice : ℕ) → Quadruple
 initial-for d s =
     let c = without (bitAnd (d .starts) (d .inner)) s in quadruple (without (d .starts) (d .inner)) c s c
 
+-- all of them, by rising S
 unfoldable pub initials : Moves → List Quadruple
 initials d = map (initial-for d) (subsets (d .states) (initial-free d))
 
--- WHAT ONE LETTER ASKS: d1 of N; dt of N; d2 of S; d2 of C without F; d2 of C in F; d2 of B
+-- WHAT ONE LETTER ASKS. Where N lies in Q1, and C and S in Q2, as in every reached quadruple: d1 of N
 unfoldable pub next-N : Moves → Quadruple → (letter : ℕ) → ℕ
 next-N d x c = without (targets d (x .N) c) (d .inner)
 
+-- dt of N
 unfoldable pub entering : Moves → Quadruple → (letter : ℕ) → ℕ
 entering d x c = bitAnd (targets d (x .N) c) (d .inner)
 
+-- d2 of S
 unfoldable pub staying-safe : Moves → Quadruple → (letter : ℕ) → ℕ
 staying-safe d x c = targets d (x .S) c
 
+-- d2 of C without F
 unfoldable pub staying : Moves → Quadruple → (letter : ℕ) → ℕ
 staying d x c = targets d (without (x .C) (d .marks)) c
 
+-- d2 of C in F
 unfoldable pub leaving : Moves → Quadruple → (letter : ℕ) → ℕ
 leaving d x c = targets d (bitAnd (x .C) (d .marks)) c
 
@@ -84,6 +93,7 @@ successor-for d x c f =
     let s = bitOr (staying-safe d x c) f in
     let y = without (tracked d x c) s in quadruple (next-N d x c) y s (next-B d x c y)
 
+-- all of them, by rising S'; none where the step is blocked
 unfoldable pub successors : Moves → Quadruple → (letter : ℕ) → List Quadruple
 successors d x c = cond (blocked d x c) [] (map (successor-for d x c) (subsets (d .states) (free d x c)))
 

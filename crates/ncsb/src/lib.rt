@@ -105,7 +105,7 @@ impl Quadruple {
         false
     }
 
-    // No quadruple follows: a run is not both safe and in C or F, and none in C without F ends.
+    // No quadruple follows: a safe run would meet F or a run that has to stay in C, or one in C without F ends.
     pub fn blocked(self, moves: &TargetSets, marks: u32, letter: usize, asked: Asked) -> bool
         requires { ⌜ Narrow (now moves) ⌝ }
         ensures { λ r. ⌜ r ≡ blocked-by (from-array (now (moves .entry)) 0 marks 0) self letter asked ⌝ }

@@ -19,7 +19,7 @@ impl Draw {
         }.next()
     }
 
-    // A number below the limit, zero where that is zero. It comes from the upper bits: the lower ones repeat soon.
+    // A number below the limit, or zero where that is zero. It comes from the upper bits: the lower ones repeat soon.
     pub(crate) fn below(self, limit: usize) -> usize
         ensures { λ r. ⌜ r ≤ limit ⌝ }
     {

@@ -26,6 +26,7 @@ pub data Piece : Type 0 where
   -- the other way round
   complement-only : (pattern prefix loop : List ℕ) → Piece
 
+-- THE STARRED PIECES, in the rules' order
 unfoldable pub pieces : List Piece
 pieces =
     -- A gives the listing, and its table
@@ -66,6 +67,7 @@ pub record Only-first (a b u v : List ℕ) : Type 0 where
   pub taken : Takes (meaning a) (letter-at u v)
   pub not-taken : Takes (meaning b) (letter-at u v) → ⊥
 
+-- the claim of each kind of piece
 unfoldable pub Right : Piece → Type 0
 Right (lists t text c) = (listing (line t) ≡ ascii text) × (complement-words t ≡ c)
 Right (gives t n m s c) = Gives t n m s c

@@ -52,6 +52,13 @@ fn decide_over_complement(table: &[u16], text: &[u8], at: usize) {
     }
 }
 
+fn is_command(letter: u8) -> bool {
+    match letter {
+        b'p' | b'b' | b'l' | b'c' => true,
+        _ => false,
+    }
+}
+
 fn answer(command: u8, table: &[u16], text: &[u8], at: usize) {
     match command {
         b'p' => print_checked(check_pattern(table)),
@@ -78,10 +85,7 @@ fn ask(text: &[u8], from: usize, table: &[u16]) {
         return;
     }
     let command = text[from];
-    if command < b'b' {
-        return;
-    }
-    if command > b'p' {
+    if !is_command(command) {
         return;
     }
     let name = behind(text, from, b' ');

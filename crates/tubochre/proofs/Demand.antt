@@ -7,7 +7,7 @@ use Prim.Native.Nat.{ℕ}
 use lib.ListN.{length}
 use Rattle.basics.specs.Words.{word-bits}
 use Rattle.basics.proofs.Booleans.{eqb-eq, eq-eqb}
-use Rattle.automata.specs.Automaton.{Run, Takes, Single-run}
+use Rattle.automata.specs.Automaton.{Accepting-run, Takes, Single-run}
 use Rattle.automata.specs.Lasso.{letter-at, Lasso}
 use Rattle.automata.specs.System.{numbered}
 use Rattle.tables.specs.Table.{Limits, Wider, Range-fits, pattern-range, wide-range, k-of, meaning}
@@ -108,7 +108,7 @@ module _
   refusals d w w-now number (inr says) h = says-refused says (words-valid t passed range fits) over-complement number h
 
   no-run : Parted (meaning t) (meaning c) word →
-      (Takes (meaning t) word × ((run : ℕ → ℕ) → Run (meaning c) word run → ⊥))
+      (Takes (meaning t) word × ((run : ℕ → ℕ) → Accepting-run (meaning c) word run → ⊥))
       ⊎ ((Takes (meaning t) word → ⊥) × Single-run (meaning c) word)
   no-run (inl (taken, none)) = inl (taken, λ run r. none (record { run = run; accepting-run = r }))
   no-run (inr other) = inr other

@@ -7,7 +7,7 @@ use mathlib.Core.List.{List}
 use mathlib.Core.Logic.{_⊎_, _↔_}
 use Prim.Native.Nat.{ℕ, _^_, _≤_, _<_}
 use lib.ListN.{length, getD}
-use Rattle.automata.specs.Automaton.{Run, Takes, Single-run, Same}
+use Rattle.automata.specs.Automaton.{Accepting-run, Takes, Single-run, Same}
 use Rattle.automata.specs.Lasso.{letter-at, Lasso}
 use Rattle.automata.specs.System.{Member, Reached, Exactly}
 use Rattle.tables.specs.Table.{Limits, table-words, k-of, meaning, table-refusal}
@@ -112,7 +112,7 @@ pub record Compared (range : Limits) (t c u v : List ℕ) (states : ℕ) : Type 
   -- either the pattern takes the lasso and the complement has no accepting run over it, or the pattern does not and the complement
   -- has exactly one
   pub parted :
-      (Takes (meaning t) (letter-at u v) × ((run : ℕ → ℕ) → Run (meaning c) (letter-at u v) run → ⊥))
+      (Takes (meaning t) (letter-at u v) × ((run : ℕ → ℕ) → Accepting-run (meaning c) (letter-at u v) run → ⊥))
       ⊎ ((Takes (meaning t) (letter-at u v) → ⊥) × Single-run (meaning c) (letter-at u v))
   -- both are valid tables of the range, so a decision refuses neither for its table
   pub tables : (table-refusal range t ≡ 0) × (table-refusal range c ≡ 0)
