@@ -1,4 +1,4 @@
--- Laws of tests over all numbers below a limit, of counting them, and two pigeonholes. Assumes nothing.
+-- Laws of tests over all numbers below a limit, of counting them, and a pigeonhole. Assumes nothing.
 use mathlib.Core.Path.{_≡_, refl, sym, _∙_, ap}
 use mathlib.Core.Bool.{Bool, true, false, _||_, cond}
 use mathlib.Core.Logic.{_⊎_, inl, inr}

@@ -17,7 +17,7 @@ unfolding count
 count-front zero f = omega arith
 count-front (suc k) f = let ih = count-front k f in omega arith
 
--- no hit, no count; and the other way round
+-- no hit, no count
 pub count-none : (k : ℕ) (f : ℕ → Bool) → ((i : ℕ) → i < k → f i ≡ false) → count k f ≡ 0
 unfolding count
 count-none zero f h = refl

@@ -43,7 +43,7 @@ abbrev pub number-bytes : ℕ
 number-bytes = 10
 
 abbrev pub field-bytes : ℕ
-field-bytes = 11
+field-bytes = number-bytes + 1
 
 -- IN A LENT BUFFER: bytes from one place on, so many at most, and the place behind them; all else is as it was. The last field follows
 -- from the one before it: with both, `&buffer[..end]` asks nothing of a caller.

@@ -1,24 +1,19 @@
 -- The step as the code takes it is the step of the construction: choices 0, 1, … give the successors in their order. Assumes nothing.
 use mathlib.Core.Path.{_≡_, refl}
 use Prim.Native.Nat.{ℕ, _^_, _<_}
-use native.Mathlib.Nat.{mod-eq-of-lt}
 use lib.ListN.{getD}
 use Rattle.sets.specs.Sets.{set-states, size, subsets}
-use Rattle.ncsb.specs.Array.{chosen, nth-initial, asks, blocked-by, nth-successor}
+use Rattle.sets.proofs.Subsets.{nth-subset-at}
+use Rattle.ncsb.specs.Array.{nth-initial, asks, blocked-by, nth-successor}
 use Rattle.ncsb.specs.Moves.{Moves}
 use Rattle.ncsb.specs.Successors.{free, initial-free, initial-for, blocked, successor-for, next-B}
 use Rattle.ncsb.specs.declared.Quadruple.{Quadruple}
-
--- a choice below the number of parts is the part with that number
-pub chosen-at : (s i : ℕ) → i < 2 ^ size set-states s → chosen s i ≡ getD (subsets set-states s) i 0
-unfolding chosen
-chosen-at s i l = rw (mod-eq-of-lt l)
 
 module _ (d : Moves) where
   pub nth-initial-at :
       (i : ℕ) → i < 2 ^ size set-states (initial-free d) → nth-initial d i ≡ initial-for d (getD (subsets set-states (initial-free d)) i 0)
   unfolding nth-initial
-  nth-initial-at i l = rw (chosen-at (initial-free d) i l)
+  nth-initial-at i l = rw (nth-subset-at (initial-free d) i l)
 
   pub blocked-asked : (x : Quadruple) (c : ℕ) → blocked-by d x c (asks d x c) ≡ blocked d x c
   unfolding blocked-by asks blocked
@@ -28,4 +23,4 @@ module _ (d : Moves) where
       (x : Quadruple) (c i : ℕ) → i < 2 ^ size set-states (free d x c) →
       nth-successor x (asks d x c) i ≡ successor-for d x c (getD (subsets set-states (free d x c)) i 0)
   unfolding nth-successor asks successor-for next-B
-  nth-successor-at x c i l = rw (chosen-at (free d x c) i l)
+  nth-successor-at x c i l = rw (nth-subset-at (free d x c) i l)

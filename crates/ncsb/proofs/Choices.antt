@@ -18,7 +18,7 @@ use Rattle.ncsb.proofs.Initials.{initials-length}
 use Rattle.ncsb.proofs.Parting.{choices-length, choice-there}
 use Rattle.ncsb.proofs.Successors.{successors-none, successors-some, successors-length}
 
-pub choices-fit : (s : ℕ) → 2 ^ size set-states s ≤ 2 ^ 32
+pub choices-fit : (s : ℕ) → 2 ^ size set-states s ≤ 2 ^ set-states
 choices-fit s = pow-mono (size-le set-states s)
 
 module _ (m : List (List ℕ)) (f q2 : ℕ) (x : Quadruple) (c : ℕ) where

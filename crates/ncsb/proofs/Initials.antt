@@ -13,7 +13,7 @@ use Rattle.automata.specs.System.{Member}
 use Rattle.sets.specs.Sets.{has, size}
 use Rattle.sets.proofs.Members.{has-and, has-without, ext, without-lt}
 use Rattle.ncsb.specs.Moves.{Moves, Spread}
-use Rattle.ncsb.specs.Step.{Small, Start}
+use Rattle.ncsb.specs.Step.{Small, Start, Rising-S}
 use Rattle.ncsb.specs.Successors.{quadruple, initial-free, initial-for, initials}
 use Rattle.ncsb.specs.declared.Quadruple.{Quadruple}
 use Rattle.ncsb.proofs.Parting.{Choice, choices-length, choices-rising, member-choice, choice-member, same-parts, parted-all, parted-apart, rest-of}
@@ -156,9 +156,7 @@ module _ (d : Moves) where
   initials-length = choices-length (d .states) (initial-free d) (initial-for d)
 
   -- initial quadruples come by rising S
-  pub initials-rising :
-      (blank : Quadruple) (i j : ℕ) → i < j → j < length (initials d) →
-      getD (initials d) i blank .S < getD (initials d) j blank .S
+  pub initials-rising : Rising-S (initials d)
   unfolding initials
   initials-rising =
       choices-rising (d .states) (initial-free d) (initial-for d) 0 (λ s _. first-S d s ∙ sym (zero-add s))

@@ -11,6 +11,7 @@ use Rattle.automata.specs.System.{Member}
 use Rattle.automata.proofs.Members.{member-index, index-member}
 use Rattle.sets.specs.Sets.{has, size, subsets}
 use Rattle.sets.proofs.Subsets.{subsets-all, subsets-length, subsets-rises}
+use Rattle.ncsb.specs.Step.{Rising-S}
 use Rattle.ncsb.specs.declared.Quadruple.{Quadruple}
 
 -- a choice among the states of a set
@@ -52,8 +53,7 @@ module _ (k s : ℕ) (f : ℕ → Quadruple) where
 
   -- where S is the choice, and always the same beside it, S rises
   pub choices-rising :
-      (rest : ℕ) → ((c : ℕ) → Choice k s c → f c .S ≡ rest + c) → (blank : Quadruple) (i j : ℕ) → i < j →
-      j < length (map f (subsets k s)) → getD (map f (subsets k s)) i blank .S < getD (map f (subsets k s)) j blank .S
+      (rest : ℕ) → ((c : ℕ) → Choice k s c → f c .S ≡ rest + c) → Rising-S (map f (subsets k s))
   choices-rising rest adds blank i j l m =
       let li : i < length (map f (subsets k s)) = omega arith in
       let up = subsets-rises k s i j l (index-inside j m) in

@@ -17,7 +17,7 @@ use Rattle.automata.proofs.Members.{member-index, index-member}
 use Rattle.sets.specs.Sets.{has, size, without, subsets}
 use Rattle.sets.proofs.Members.{has-and, has-or, has-without, has-lt, has-some, has-nonzero, ext, sum-join, without-lt}
 use Rattle.ncsb.specs.Moves.{Moves, Spread}
-use Rattle.ncsb.specs.Step.{Small, Leads, Step}
+use Rattle.ncsb.specs.Step.{Small, Leads, Step, Rising-S}
 use Rattle.ncsb.specs.Successors.{quadruple, targets, next-N, entering, staying-safe, staying, leaving, tracked, blocked, free, next-B, successor-for, successors}
 use Rattle.ncsb.specs.declared.Quadruple.{Quadruple}
 use Rattle.ncsb.proofs.Free.{free-from, free-unmarked, free-not-safe, free-not-staying, free-make, has-tracked, Unblocked, blocked-no, no-blocked}
@@ -347,9 +347,7 @@ module _ (d : Moves) (x : Quadruple) (c : ℕ) where
       (λ q h. not-both (has f q) (λ g. clash h (free-not-safe d x c q (choice .within q g)))))
 
   -- successors come by rising S'
-  pub successors-rising :
-      (blank : Quadruple) (i j : ℕ) → i < j → j < length (successors d x c) →
-      getD (successors d x c) i blank .S < getD (successors d x c) j blank .S
+  pub successors-rising : Rising-S (successors d x c)
   successors-rising blank i j l m =
       let e = successors-some (some-unblocked (omega arith)) in
       rw e

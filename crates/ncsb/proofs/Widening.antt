@@ -1,5 +1,5 @@
--- The table by state and by letter gives the same quadruples as the pattern: the step over 32 states and the step over the pattern's own agree on
--- sets of its states. Assumes nothing.
+-- The table by state and by letter gives the same quadruples as the pattern: the step over as many states as a set has room for and the step over
+-- the pattern's own agree on sets of its states. Assumes nothing.
 use mathlib.Core.Path.{_≡_, refl, _∙_, ap, fun-ext}
 use mathlib.Core.Bool.{_&&_, cond}
 use mathlib.Core.List.{[], map}

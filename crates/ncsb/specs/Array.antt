@@ -2,11 +2,11 @@
 -- target sets, and serves every choice. Assumes nothing: these are definitions.
 use mathlib.Core.Bool.{Bool, _||_, not, cond}
 use mathlib.Core.List.{List, []}
-use Prim.Native.Nat.{ℕ, _%_, _^_}
+use Prim.Native.Nat.{ℕ}
 use lib.Dec.{eqb}
 use lib.Bits.{bitAnd, bitOr}
 use lib.ListN.{getD}
-use Rattle.sets.specs.Sets.{set-states, row-letters, without, size, subsets}
+use Rattle.sets.specs.Sets.{set-states, row-letters, without, nth-subset}
 use Rattle.ncsb.specs.Moves.{Moves}
 use Rattle.ncsb.specs.Successors.{quadruple, targets, initial-for, initial-free, next-N, staying, staying-safe, tracked, dead-end, free}
 use Rattle.ncsb.specs.declared.Asked.{Asked}
@@ -24,13 +24,9 @@ from-array rows i f q2 =
       inner = q2;
     }
 
--- the part of a set that a choice stands for, by rising number; choices beyond the last begin anew
-unfoldable pub chosen : (set choice : ℕ) → ℕ
-chosen s i = getD (subsets set-states s) (i % 2 ^ size set-states s) 0
-
 -- the initial quadruple for a choice
 unfoldable pub nth-initial : Moves → (choice : ℕ) → Quadruple
-nth-initial d i = initial-for d (chosen (initial-free d) i)
+nth-initial d i = initial-for d (nth-subset (initial-free d) i)
 
 -- what a letter asks of a quadruple
 unfoldable pub asks : Moves → Quadruple → (letter : ℕ) → Asked
@@ -52,5 +48,5 @@ blocked-by d x c a =
 -- the successor for a choice of the free targets that become safe; where the step is blocked, what it would be without the block
 unfoldable pub nth-successor : Quadruple → Asked → (choice : ℕ) → Quadruple
 nth-successor x a i =
-    let s = bitOr (a .safe) (chosen (a .free) i) in
+    let s = bitOr (a .safe) (nth-subset (a .free) i) in
     let y = without (a .tracked) s in quadruple (a .outer) y s (cond (eqb (x .B) 0) y (bitAnd (a .followed) y))

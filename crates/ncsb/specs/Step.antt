@@ -3,8 +3,10 @@
 -- reached quadruple, they are the paper's d1, dt and d2. Assumes nothing: these are definitions.
 use mathlib.Core.Path.{_≡_}
 use mathlib.Core.Bool.{true, false, _&&_, _||_}
+use mathlib.Core.List.{List}
 use mathlib.Core.Logic.{_↔_, _⊎_}
 use Prim.Native.Nat.{ℕ, suc, _≤_, _<_, _^_}
+use lib.ListN.{length, getD}
 use Rattle.automata.specs.Automaton.{Automaton}
 use Rattle.sets.specs.Sets.{has}
 use Rattle.ncsb.specs.Moves.{Moves}
@@ -55,6 +57,11 @@ pub record Step (a : Automaton) (d : Moves) (x : Quadruple) (c : ℕ) (y : Quadr
   pub breakpoint-empty : x .B ≡ 0 → y .B ≡ y .C
   pub breakpoint-kept :
       (x .B ≡ 0 → ⊥) → (q : ℕ) → (has (y .B) q ≡ true) ↔ ((has (y .C) q ≡ true) × Leads a (x .B) c q)
+
+-- a list of quadruples by rising S
+abbrev pub Rising-S : List Quadruple → Type 0
+Rising-S xs =
+    (blank : Quadruple) (i j : ℕ) → i < j → j < length xs → getD xs i blank .S < getD xs j blank .S
 
 -- an accepting run of quadruples over a word: B is empty at infinitely many places
 pub record Accepting-ncsb-run (a : Automaton) (d : Moves) (w : ℕ → ℕ) (run : ℕ → Quadruple) : Type 0 where

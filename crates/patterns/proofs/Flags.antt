@@ -16,8 +16,9 @@ use Rattle.sets.specs.Sets.{set-states, set-of}
 use Rattle.sets.proofs.Members.{set-of-lt}
 use Rattle.tables.specs.Access.{State-asks}
 use Rattle.tables.specs.Table.{pattern-range, table-refusal, n-of, flags-of, is-initial, is-accepting, meaning}
-use Rattle.tables.proofs.Laws.{valid, pattern-few, state-asked}
+use Rattle.tables.proofs.Laws.{valid, state-asked}
 use Rattle.patterns.specs.Pattern.{initial-states, accepting-states}
+use Rattle.patterns.proofs.Masks.{pattern-few}
 
 -- the set so far is that of the states below `state` of which the test holds
 pub record Gathered (f : ℕ → Bool) (n set state : ℕ) : Type 0 where
@@ -32,23 +33,23 @@ module _ (f : ℕ → Bool) (n : ℕ) where
   -- one state more: 1 where the test holds, and 0 where it does not, goes to the state's place
   pub gathered-turn :
       (set state bit : ℕ) → state < n → n ≤ set-states → bit ≡ cond (f state) 1 0 → Gathered f n set state →
-      Gathered f n (bitOr set (bit * 2 ^ state % 2 ^ 32)) (state + 1)
+      Gathered f n (bitOr set (bit * 2 ^ state % 2 ^ set-states)) (state + 1)
   unfolding set-of
   gathered-turn set state bit l few e g = record { inside = omega arith; so-far = go (either (f state)) }
     where
       go :
           (f state ≡ true) ⊎ (f state ≡ false) →
-          bitOr set (bit * 2 ^ state % 2 ^ 32) ≡ set-of (state + 1) f
+          bitOr set (bit * 2 ^ state % 2 ^ set-states) ≡ set-of (state + 1) f
       go (inl h) =
           let one : bit ≡ 1 = cc in
-          let placed = shift-one 32 state (omega arith) in
+          let placed = shift-one set-states state (omega arith) in
           let apart : bitOr (set-of state f) (2 ^ state) ≡ 2 ^ state + set-of state f =
           rw (one-mul (2 ^ state)) at (or-shifted-r 1 state (set-of state f) (set-of-lt state f)) in
           let turned = add-comm (2 ^ state) (set-of state f) in
           let so-far = g .so-far in let more = add-one state in cc
       go (inr h) =
           let none : bit ≡ 0 = cc in
-          let placed : 0 * 2 ^ state % 2 ^ 32 ≡ 0 = rw (zero-mul (2 ^ state)) refl in
+          let placed : 0 * 2 ^ state % 2 ^ set-states ≡ 0 = rw (zero-mul (2 ^ state)) refl in
           let kept = or-zero-r set in
           let same = add-zero (set-of state f) in
           let so-far = g .so-far in let more = add-one state in cc
@@ -60,9 +61,6 @@ module _ (f : ℕ → Bool) (n : ℕ) where
 
 -- the states of a pattern
 module _ (t : List ℕ) (pattern : table-refusal pattern-range t ≡ 0) (states state : ℕ) (counted : states ≡ n-of t) where
-  pub gathered-small : state < states → state < set-states
-  gathered-small l = let n = pattern-few t pattern in omega arith
-
   pub gathered-reads : state < states → State-asks t state
   gathered-reads l = state-asked pattern-range t pattern (omega arith)
 
@@ -73,7 +71,7 @@ module _ (t : List ℕ) (pattern : table-refusal pattern-range t ≡ 0) (states 
     -- the flag of an initial state is the low bit of 1 and 3
     pub initial-turn :
         (set : ℕ) → Gathered (meaning t .initial) (n-of t) set state →
-        Gathered (meaning t .initial) (n-of t) (bitOr set (flags % 2 * 2 ^ state % 2 ^ 32)) (state + 1)
+        Gathered (meaning t .initial) (n-of t) (bitOr set (flags % 2 * 2 ^ state % 2 ^ set-states)) (state + 1)
     unfolding meaning is-initial
     initial-turn set =
         gathered-turn (meaning t .initial) (n-of t) set state (flags % 2) (omega arith) (pattern-few t pattern)
@@ -88,7 +86,7 @@ module _ (t : List ℕ) (pattern : table-refusal pattern-range t ≡ 0) (states 
     -- the flag of an accepting state is the high bit of 2 and 3
     pub accepting-turn :
         (set : ℕ) → Gathered (meaning t .accepting) (n-of t) set state →
-        Gathered (meaning t .accepting) (n-of t) (bitOr set (flags / 2 * 2 ^ state % 2 ^ 32)) (state + 1)
+        Gathered (meaning t .accepting) (n-of t) (bitOr set (flags / 2 * 2 ^ state % 2 ^ set-states)) (state + 1)
     unfolding meaning is-accepting
     accepting-turn set =
         gathered-turn (meaning t .accepting) (n-of t) set state (flags / 2) (omega arith) (pattern-few t pattern)

@@ -27,14 +27,14 @@ use Rattle.patterns.proofs.Masks.{Fits-masks, mask-right, targets-lt, p
 -- the letters of one row: the count of a set's digits is its size
 module _ (row : List ℕ) (letters : ℕ) where
   pub row-hit :
-      (letter : ℕ) → letter < letters → getD row letter 0 < 2 ^ 32 → 1 < ones (getD row letter 0) → row-forked letters row ≡ true
+      (letter : ℕ) → letter < letters → getD row letter 0 < 2 ^ set-states → 1 < ones (getD row letter 0) → row-forked letters row ≡ true
   unfolding row-forked two-targets
   row-hit letter l small h =
       let e = size-ones set-states (getD row letter 0) small in
       any-make letters (two-targets row) letter l (lt-ltb {m = 1} {n = size set-states (getD row letter 0)} (omega arith))
 
   pub row-turn :
-      (letter : ℕ) → letter < letters → getD row letter 0 < 2 ^ 32 → ones (getD row letter 0) ≤ 1 →
+      (letter : ℕ) → letter < letters → getD row letter 0 < 2 ^ set-states → ones (getD row letter 0) ≤ 1 →
       None-below (two-targets row) letters letter → None-below (two-targets row) letters (letter + 1)
   unfolding two-targets
   row-turn letter l small h =

@@ -16,7 +16,7 @@ use Rattle.automata.specs.Decision.{tabulate}
 use Rattle.automata.proofs.Graphs.{tabulate-at, tabulate-length}
 use Rattle.sets.proofs.Members.{empty, set-of-lt}
 use Rattle.tables.specs.Table.{pattern-range, table-refusal, n-of, meaning}
-use Rattle.tables.proofs.Laws.{valid, meaning-closed, pattern-few}
+use Rattle.tables.proofs.Laws.{valid, meaning-closed}
 use Rattle.patterns.specs.Pattern.{targets-of, moves}
 use Rattle.patterns.specs.Masks.{row-of, masks-of, Row-asks}
 use Rattle.patterns.proofs.Split.{has-targets}
@@ -81,6 +81,15 @@ pattern-fits t h =
     let v = valid pattern-range t h in
     record { closed = meaning-closed v; states = v .states-to; letters = v .letters-to }
 
+-- so its states are those of a set
+pub pattern-few : (t : List ℕ) → table-refusal pattern-range t ≡ 0 → n-of t ≤ set-states
+unfolding meaning
+pattern-few t h = pattern-fits t h .states
+
+pub state-small :
+    (t : List ℕ) → table-refusal pattern-range t ≡ 0 → (states state : ℕ) → states ≡ n-of t → state < states → state < set-states
+state-small t h states state e l = let n = pattern-few t h in omega arith
+
 -- FILLING THE TABLE: rows below `state` are filled, the others are empty
 pub record Filled (t : List ℕ) (masks : List (List ℕ)) (state : ℕ) : Type 0 where
   pub whole : length masks ≡ set-states
@@ -105,9 +114,6 @@ module _ (t : List ℕ) (pattern : table-refusal pattern-range t ≡ 0) where
   pub filled-asks :
       (states state : ℕ) → states ≡ n-of t → state < states → Row-asks t states state
   filled-asks states state e l = record { pattern = pattern; counted = e; inside = l }
-
-  pub filled-inside : (states state : ℕ) → states ≡ n-of t → state < states → state < set-states
-  filled-inside states state e l = let n = pattern-few t pattern in omega arith
 
   pub filled-turn :
       (masks : List (List ℕ)) (states state : ℕ) (row : List ℕ) → states ≡ n-of t → state < states →

@@ -20,9 +20,10 @@ use Rattle.sets.proofs.Members.{has-zero, has-or, has-single, ext, set-of-lt}
 use Rattle.tables.specs.Access.{State-asks, Record-asks}
 use Rattle.tables.specs.Table.{pattern-range, n-of, m-of, head-of, letter-of, target-of, next-of, chain-has, edge, meaning}
 use Rattle.tables.proofs.Chains.{left, left-less}
-use Rattle.tables.proofs.Laws.{Valid, valid, pattern-few, state-asked, record-asked, chain-ends, chain-step, meaning-closed}
+use Rattle.tables.proofs.Laws.{Valid, valid, state-asked, record-asked, chain-ends, chain-step, meaning-closed}
 use Rattle.patterns.specs.Pattern.{targets-of, moves}
 use Rattle.patterns.specs.Masks.{row-of, Row-asks}
+use Rattle.patterns.proofs.Masks.{pattern-few}
 use Rattle.patterns.proofs.Split.{has-targets}
 
 -- the sets so far, with what the chain from record `at` on still has, are the state's edges
@@ -65,10 +66,10 @@ module _ (t : List ℕ) (states s : ℕ) (asks : Row-asks t states s) where
   -- one record read: its edge is in the sets, and the rest of the chain is left
   pub walk-turn :
       (row : List ℕ) (at l q x : ℕ) → (at ≡ 0 → ⊥) → Walked t s row at → l ≡ letter-of t at → q ≡ target-of t at →
-      x ≡ next-of t at → Walked t s (set row l (bitOr (getD row l 0) (1 * 2 ^ q % 2 ^ 32))) x
+      x ≡ next-of t at → Walked t s (set row l (bitOr (getD row l 0) (1 * 2 ^ q % 2 ^ set-states))) x
   walk-turn row at l q x some w el eq ex =
       record {
-        whole = length-set row l (bitOr (getD row l 0) (1 * 2 ^ q % 2 ^ 32)) ∙ w .whole;
+        whole = length-set row l (bitOr (getD row l 0) (1 * 2 ^ q % 2 ^ set-states)) ∙ w .whole;
         link = let next = v .next at from (w .link) in omega arith;
         small = λ c. small c (either (eqb c l));
         rest = λ c r below. rest c r below (either (eqb c l));
@@ -83,35 +84,35 @@ module _ (t : List ℕ) (states s : ℕ) (asks : Row-asks t states s) where
       below-n : q < n-of t
       below-n = let a = v .target at from (w .link) in omega arith
 
-      bit : 1 * 2 ^ q % 2 ^ 32 ≡ 2 ^ q
-      bit = shift-one 32 q (walk-target row at q some w eq)
+      bit : 1 * 2 ^ q % 2 ^ set-states ≡ 2 ^ q
+      bit = shift-one set-states q (walk-target row at q some w eq)
 
       -- the set that is written
-      put : getD (set row l (bitOr (getD row l 0) (1 * 2 ^ q % 2 ^ 32))) l 0 ≡ bitOr (getD row l 0) (2 ^ q)
+      put : getD (set row l (bitOr (getD row l 0) (1 * 2 ^ q % 2 ^ set-states))) l 0 ≡ bitOr (getD row l 0) (2 ^ q)
       put =
-          getD-set-same row l (bitOr (getD row l 0) (1 * 2 ^ q % 2 ^ 32)) 0 inside-row
+          getD-set-same row l (bitOr (getD row l 0) (1 * 2 ^ q % 2 ^ set-states)) 0 inside-row
           ∙ ap (λ (b : ℕ). bitOr (getD row l 0) b) bit
 
       others :
-          (c : ℕ) → eqb c l ≡ false → getD (set row l (bitOr (getD row l 0) (1 * 2 ^ q % 2 ^ 32))) c 0 ≡ getD row c 0
-      others c ne = getD-set-other row l c (bitOr (getD row l 0) (1 * 2 ^ q % 2 ^ 32)) 0 (eqb-ne c l ne)
+          (c : ℕ) → eqb c l ≡ false → getD (set row l (bitOr (getD row l 0) (1 * 2 ^ q % 2 ^ set-states))) c 0 ≡ getD row c 0
+      others c ne = getD-set-other row l c (bitOr (getD row l 0) (1 * 2 ^ q % 2 ^ set-states)) 0 (eqb-ne c l ne)
 
       small :
           (c : ℕ) → (eqb c l ≡ true) ⊎ (eqb c l ≡ false) →
-          getD (set row l (bitOr (getD row l 0) (1 * 2 ^ q % 2 ^ 32))) c 0 < 2 ^ n-of t
+          getD (set row l (bitOr (getD row l 0) (1 * 2 ^ q % 2 ^ set-states))) c 0 < 2 ^ n-of t
       small c (inl e) =
           rw (eqb-eq c l e, put) (or-lt (n-of t) (getD row l 0) (2 ^ q) (w .small l) (pow-lt below-n))
       small c (inr e) = rw (others c e) (w .small c)
 
       rest :
           (c r : ℕ) → c < row-letters → (eqb c l ≡ true) ⊎ (eqb c l ≡ false) →
-          (has (getD (set row l (bitOr (getD row l 0) (1 * 2 ^ q % 2 ^ 32))) c 0) r || chain-has (m-of t) t x c r) ≡ edge t s c r
+          (has (getD (set row l (bitOr (getD row l 0) (1 * 2 ^ q % 2 ^ set-states))) c 0) r || chain-has (m-of t) t x c r) ≡ edge t s c r
       rest c r below (inl e) =
           let before = w .rest c r below in
           let step = chain-step v at c r from (w .link) in
           let same = eqb-eq c l e in
           let here : eqb (letter-of t at) c ≡ true = eq-eqb (sym (same ∙ el)) in
-          let written : has (getD (set row l (bitOr (getD row l 0) (1 * 2 ^ q % 2 ^ 32))) c 0) r ≡ (has (getD row c 0) r || eqb q r) =
+          let written : has (getD (set row l (bitOr (getD row l 0) (1 * 2 ^ q % 2 ^ set-states))) c 0) r ≡ (has (getD row c 0) r || eqb q r) =
           rw (same, put, has-or (getD row l 0) (2 ^ q) r, has-single q r) in
           let assoc = or-assoc (has (getD row c 0) r) (eqb q r) (chain-has (m-of t) t x c r) in cc
       rest c r below (inr e) =

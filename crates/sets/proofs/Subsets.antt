@@ -6,7 +6,7 @@ use mathlib.Core.List.{map}
 use mathlib.Core.Logic.{_⊎_, inl, inr, _↔_}
 use Prim.Native.Nat.{ℕ, zero, suc, _+_, _-_, _/_, _%_, _^_, _≤_, _<_}
 use native.Mathlib.Omega.{arith}
-use native.Mathlib.Nat.{pow-suc, add-zero, lt-of-lt-of-le}
+use native.Mathlib.Nat.{pow-suc, add-zero, lt-of-lt-of-le, mod-eq-of-lt}
 use native.Mathlib.Numerals.{add-one}
 use lib.Dec.{eqb, ltb}
 use lib.ListN.{length, getD, length-append, length-map, List·getD-append}
@@ -15,7 +15,7 @@ use lib.Seq.{getD-append-add}
 use Rattle.basics.proofs.Booleans.{either, clash, and-l, and-r, and-false-l, and-false-r, eqb-eq, eqb-ne, eqb-self, ne-eqb, lt-ltb, ltb-lt, ltb-ge, not-true, or-l, or-r, below-or}
 use Rattle.basics.proofs.Lists.{getD-map}
 use Rattle.basics.proofs.Upward.{upward}
-use Rattle.sets.specs.Sets.{has, size, set-of, subsets}
+use Rattle.sets.specs.Sets.{set-states, has, size, set-of, subsets, nth-subset}
 use Rattle.sets.proofs.Lowest.{Lowest, lowest-size, lowest-none}
 use Rattle.sets.proofs.Members.{ext-all, has-half, has-lt, has-mod, has-out, has-put, has-set-of, has-top, has-zero, set-of-lt, set-of-same}
 use Rattle.sets.proofs.Size.{size-grows, size-stays, size-hit, size-longer}
@@ -302,3 +302,8 @@ spread-mod k s i =
       | inl h ↦ let m = has-mod (size k s) i (size q s) (size-hit q k s l h) in cc
       | inr h ↦ cc
     ])
+
+-- a choice below the number of parts is the part with that number
+pub nth-subset-at : (s i : ℕ) → i < 2 ^ size set-states s → nth-subset s i ≡ getD (subsets set-states s) i 0
+unfolding nth-subset
+nth-subset-at s i l = rw (mod-eq-of-lt l)

@@ -1,5 +1,5 @@
 -- Laws for walking the members of a set from the lowest one up, to find one, to join their rows or to choose among them, and for the
--- operations of 32-bit words. Assumes nothing.
+-- operations of words of k bits. Assumes nothing.
 use mathlib.Core.Path.{_≡_, refl, sym, _∙_, ap}
 use mathlib.Core.Bool.{Bool, true, false, _&&_, _||_, not}
 use mathlib.Core.Logic.{inl, inr}

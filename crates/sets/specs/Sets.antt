@@ -43,6 +43,10 @@ unfoldable pub subsets : (limit set : ℕ) → List ℕ
 subsets zero s = 0 ∷ []
 subsets (suc q) s = let r = subsets q s in cond (has s q) (r ++ map (λ x. 2 ^ q + x) r) r
 
+-- the part of a set that a choice names, by rising number; choices beyond the last begin anew
+unfoldable pub nth-subset : (set choice : ℕ) → ℕ
+nth-subset s i = getD (subsets set-states s) (i % 2 ^ size set-states s) 0
+
 -- no row of a table by state and by letter is longer than its letters
 pub record Narrow (table : List (List ℕ)) : Type 0 where
   pub width : (q : ℕ) → length (getD table q []) ≤ row-letters

@@ -2,9 +2,9 @@
 
 ghost use mathlib.Core.Path.{_≡_};
 ghost use mathlib.Core.List.{[]};
-ghost use Prim.Native.Nat.{_%_, _^_};
+ghost use Prim.Native.Nat.{_^_};
 ghost use lib.ListN.{length, getD};
-ghost use Rattle.sets.specs.Sets.{set-states, size, subsets, union, without, Narrow};
+ghost use Rattle.sets.specs.Sets.{set-states, size, subsets, nth-subset, union, without, Narrow};
 
 // A set holds states 0 to 31.
 pub const SET_STATES: usize = 32;
@@ -51,10 +51,10 @@ pub fn choices(set: u32) -> u64
     1 << u32::count_ones(set)
 }
 
-// The part of a set that a choice names, by rising number; choices go round after the last part.
+// The part of a set that a choice names, by rising number; choices beyond the last begin anew.
 // The lowest digit of the choice says whether the lowest member is taken, the next digit says it of the next member.
 pub fn nth_subset(set: u32, choice: u32) -> u32
-    ensures { λ r. ⌜ r ≡ getD (subsets set-states set) (choice % 2 ^ size set-states set) 0 ⌝ }
+    ensures { λ r. ⌜ r ≡ nth-subset set choice ⌝ }
 {
     let mut members = set;
     let mut digits = choice;

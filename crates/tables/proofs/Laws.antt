@@ -182,11 +182,6 @@ valid-wider r s t w v =
 pub passes-wider : (r s : Limits) (t : List ℕ) → Wider r s → table-refusal r t ≡ 0 → table-refusal s t ≡ 0
 passes-wider r s t w h = valid-passes s t (valid-wider r s t w (valid r t h))
 
--- a pattern's states are few
-pub pattern-few : (t : List ℕ) → table-refusal pattern-range t ≡ 0 → n-of t ≤ 32
-unfolding pattern-range
-pattern-few t h = valid pattern-range t h .states-to
-
 -- every valid pattern is a valid wide table
 pub wide-patterns : Wider pattern-range wide-range
 unfolding pattern-range wide-range

@@ -25,8 +25,10 @@ pub const WIDE_STATES: usize = WORD_MOST;
 
 pub const WIDE_RECORDS: usize = WORD_MOST;
 
-// The words that hold a bit for each record.
-const MARK_WORDS: usize = (WORD_MOST + 1) / 32;
+// The bits of a word of marks, and the words that hold a bit for each record.
+const MARK_BITS: usize = 32;
+
+const MARK_WORDS: usize = (WORD_MOST + 1) / MARK_BITS;
 
 // How many words a table of so many states and records has.
 pub fn table_words(states: usize, records: usize) -> usize

@@ -1,9 +1,10 @@
 -- The second and the third demand are met, and refused builds are as they are stated, whatever the calls answer: for tables of every range
 -- whose numbers fit their words and that allows what a pattern may have. Assumes nothing.
-use mathlib.Core.Path.{_≡_}
+use mathlib.Core.Path.{_≡_, refl, _∙_, ap}
 use mathlib.Core.List.{List}
 use mathlib.Core.Logic.{_⊎_, inl, inr}
 use Prim.Native.Nat.{ℕ}
+use native.Mathlib.Omega.{arith}
 use lib.ListN.{length}
 use Rattle.basics.specs.Words.{word-bits}
 use Rattle.basics.proofs.Booleans.{eqb-eq, eq-eqb}
@@ -13,9 +14,9 @@ use Rattle.automata.specs.System.{numbered}
 use Rattle.tables.specs.Table.{Limits, Wider, Range-fits, pattern-range, wide-range, k-of, meaning}
 use Rattle.tables.proofs.Laws.{valid, words-fit, wide-fits, wide-patterns}
 use Rattle.ncsb.specs.Successors.{ncsb, accepting}
-use Rattle.ncsb.proofs.Initials.{initials-right}
+use Rattle.ncsb.proofs.Initials.{initials-right, initials-rising}
 use Rattle.ncsb.proofs.Reached.{reached-fine}
-use Rattle.ncsb.proofs.Successors.{successors-right}
+use Rattle.ncsb.proofs.Successors.{successors-right, successors-rising}
 use Rattle.patterns.specs.Check.{check-refusal}
 use Rattle.patterns.specs.Pattern.{moves}
 use Rattle.patterns.proofs.Passed.{checked-split, checked-wider}
@@ -23,10 +24,12 @@ use Rattle.complement.specs.Build.{room-of}
 use Rattle.complement.specs.Complement.{system-of, complement, complement-automaton, complement-words}
 use Rattle.complement.proofs.Second.{Fits, pattern-exactly, few-states, words-mean, words-valid, build-number, build-passed, build-fits, build-states, build-edges, build-used, build-sets}
 use Rattle.complement.proofs.Third.{Parted, parted-words}
-use Rattle.lassos.specs.Decision.{Lasso-says}
+use Rattle.lassos.specs.Decision.{decision, Lasso-says}
 use Rattle.lassos.specs.declared.Decision.{Decision}
 use Rattle.lassos.specs.declared.Decision.the-variants.{Taken, NotTaken, Refused}
-use Rattle.tubochre.specs.Demand.{Reached-exactly, Second-demand, Refused-builds, Not-refused, Compared, Third-demand, Demands}
+use Rattle.tubochre.specs.Calls.{as-answer, Lasso-answers}
+use Rattle.tubochre.specs.declared.Answer.{Answer}
+use Rattle.tubochre.specs.Demand.{Reached-exactly, Second-demand, Refused-builds, Lasso-demand, Not-refused, Compared, Third-demand, Demands}
 use Rattle.tubochre.proofs.Answers.{says-taken, says-not, says-refused, lasso-demand}
 use Rattle.tubochre.proofs.Refusals.{Met, which-refusal, refused-checked, checked-refused, refused-states, states-refused, refused-words, words-refused, refused-none, none-refused, refused-most}
 
@@ -39,6 +42,8 @@ reached-exactly t passed =
       starts = λ x. initials-right sp;
       steps = λ x reached c y. successors-right sp (reached-fine sp sl reached .small) c;
       accepting = λ x. (eqb-eq (x .B) 0, eq-eqb);
+      starts-rise = initials-rising (moves (meaning t));
+      steps-rise = successors-rising (moves (meaning t));
       exactly = pattern-exactly t passed;
     }
 
@@ -74,6 +79,32 @@ refused-builds range t r before after says =
       reached = reached-exactly t;
     }
 
+-- AN ANSWER IN NUMBERS stands for a decision
+module _
+    {range : Limits} {t u v : List ℕ} {r : Answer} {w w-now : List ℕ} (answers : Lasso-answers range t u v r w w-now) where
+  abbrev decided : Decision
+  decided = decision range t u v (length w)
+
+  stands-for : Lasso-says range t u v decided w w-now
+  stands-for = record { answer = refl; work = answers .work }
+
+  -- which refuses only by a number other than 0
+  accepts : r .number ≡ 0 → Not-refused decided
+  unfolding Not-refused as-answer Lasso-demand
+  accepts zero number refused =
+      let (met, from) = lasso-demand range t u v decided w w-now stands-for .refused number .0 refused in
+      let same : r .number ≡ number = ap (λ (x : Answer). x .number) (answers .answer ∙ ap as-answer refused) in
+      omega arith
+
+-- `taken` is 1 for a decision that says so, and 0 for one that does not
+numbers-taken : {r : Answer} {d : Decision} → r ≡ as-answer d → d ≡ Taken → r .taken ≡ 1
+unfolding as-answer
+numbers-taken e h = ap (λ (x : Answer). x .taken) (e ∙ ap as-answer h)
+
+numbers-not : {r : Answer} {d : Decision} → r ≡ as-answer d → d ≡ NotTaken → r .taken ≡ 0
+unfolding as-answer
+numbers-not e h = ap (λ (x : Answer). x .taken) (e ∙ ap as-answer h)
+
 -- the pattern and the words of its complement
 module _
     {range : Limits} (wider : Wider pattern-range range) (t : List ℕ) (passed : check-refusal t ≡ 0) (fits : Fits range t)
@@ -101,6 +132,16 @@ module _
       inr
       (taken, says-not says h none, says-taken other k taken)
 
+  answers :
+      Parted (meaning t) (meaning c) word → (d e : Answer) (w w-now z z-now : List ℕ) → Lasso-answers range t u v d w w-now →
+      Lasso-answers range c u v e z z-now → d .number ≡ 0 → e .number ≡ 0 →
+      (Takes (meaning t) word × (d .taken ≡ 1) × (e .taken ≡ 0)) ⊎ (Takes (meaning c) word × (d .taken ≡ 0) × (e .taken ≡ 1))
+  answers both d e w w-now z z-now says other h k =
+      elim (decisions both (decided says) (decided other) w w-now z z-now (stands-for says) (stands-for other) (accepts says h) (accepts other k)) [
+        | inl (taken, p, q) ↦ inl (taken, numbers-taken (says .answer) p, numbers-not (other .answer) q)
+        | inr (taken, p, q) ↦ inr (taken, numbers-not (says .answer) p, numbers-taken (other .answer) q)
+      ]
+
   refusals :
       (d : Decision) (w w-now : List ℕ) (number : ℕ) → Lasso-says range t u v d w w-now ⊎ Lasso-says range c u v d w w-now →
       d ≡ Refused number → (number ≡ 14) ⊎ (number ≡ 16)
@@ -121,6 +162,7 @@ module _
         tables = (checked-wider t passed wider, words-valid t passed range fits);
         refusals = refusals;
         decisions = decisions both;
+        answers = answers both;
         few = few-states t passed;
       }
 

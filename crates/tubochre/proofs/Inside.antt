@@ -11,7 +11,7 @@ use Rattle.complement.specs.Build.{Lent, Build-says, used}
 use Rattle.complement.specs.Complement.{complement, complement-automaton, complement-words}
 use Rattle.complement.specs.declared.Counts.{Counts}
 use Rattle.complement.proofs.Second.{build-used, build-states, build-edges}
-use Rattle.tubochre.specs.Calls.{Used-inside}
+use Rattle.tubochre.specs.Trying.{Used-inside}
 
 module _ {range : Limits} {t : List ℕ} {r : Counts} {before after : Lent} (says : Build-says range t r before after) where
   used-whole : r .number ≡ 0 → min (table-words (r .states) (r .edges)) (length (after .words)) ≡ table-words (r .states) (r .edges)

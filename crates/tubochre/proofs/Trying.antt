@@ -14,7 +14,7 @@ use Rattle.complement.specs.Build.{Lent, Build-says}
 use Rattle.complement.proofs.Second.{build-passed}
 use Rattle.tables.specs.Table.{wide-range}
 use Rattle.lassos.specs.Decision.{Lasso-says}
-use Rattle.tubochre.specs.Calls.{Decided-built, Trial-says}
+use Rattle.tubochre.specs.Trying.{Decided-built, Trial-says}
 use Rattle.tubochre.specs.Demand.{Third-demand}
 use Rattle.tubochre.specs.declared.Trial.{Trial}
 use Rattle.tubochre.proofs.Demand.{wide-demands}

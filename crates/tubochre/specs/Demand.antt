@@ -12,7 +12,7 @@ use Rattle.automata.specs.Lasso.{letter-at, Lasso}
 use Rattle.automata.specs.System.{Member, Reached, Exactly}
 use Rattle.tables.specs.Table.{Limits, table-words, k-of, meaning, table-refusal}
 use Rattle.ncsb.specs.Bound.{bound}
-use Rattle.ncsb.specs.Step.{Start, Step}
+use Rattle.ncsb.specs.Step.{Start, Step, Rising-S}
 use Rattle.ncsb.specs.declared.Quadruple.{Quadruple}
 use Rattle.patterns.specs.Check.{check-refusal, as-checked}
 use Rattle.patterns.specs.Pattern.{moves}
@@ -25,6 +25,8 @@ use Rattle.lassos.specs.Decision.{Lasso-says}
 use Rattle.lassos.specs.Refusals.{lasso-refusal}
 use Rattle.lassos.specs.declared.Decision.{Decision}
 use Rattle.lassos.specs.declared.Decision.the-variants.{Taken, NotTaken, Refused}
+use Rattle.tubochre.specs.Calls.{Lasso-answers}
+use Rattle.tubochre.specs.declared.Answer.{Answer}
 
 -- THE COMPLEMENT of a pattern that passes the check: exactly what is reached of the paper's quadruples
 pub record Reached-exactly (t : List ℕ) : Type 0 where
@@ -34,6 +36,9 @@ pub record Reached-exactly (t : List ℕ) : Type 0 where
       (x : Quadruple) → Reached (system-of t) x → (c : ℕ) (y : Quadruple) →
       Member y (system-of t .nexts x c) ↔ Step (meaning t) (moves (meaning t)) x c y
   pub accepting : (x : Quadruple) → (system-of t .accepting x ≡ true) ↔ (x .B ≡ 0)
+  -- in which order: by rising S, and on each letter by rising S'
+  pub starts-rise : Rising-S (system-of t .starts)
+  pub steps-rise : (x : Quadruple) (c : ℕ) → Rising-S (system-of t .nexts x c)
   -- every reachable state and every edge and no other, once, numbered in order of discovery
   pub exactly : Exactly (system-of t) (complement t)
 
@@ -53,6 +58,7 @@ pub record Built-exactly (bits : ℕ) (range : Limits) (t : List ℕ) (r : Count
   -- the used records are its states
   pub records : used-sets r (left .sets) ≡ sets-words t
 
+-- whatever an accepted build answers and leaves is that
 unfoldable pub Second-demand : (bits : ℕ) → Limits → Type 0
 Second-demand bits range =
     (t : List ℕ) (r : Counts) (before after : Lent) → Build-says range t r before after → r .number ≡ 0 →
@@ -83,6 +89,7 @@ pub record Refused-exactly (range : Limits) (t : List ℕ) (room : Room) (number
   -- what is counted is the whole reachable complement
   pub reached : check-refusal t ≡ 0 → Reached-exactly t
 
+-- whatever a build answers
 unfoldable pub Refused-builds : Limits → Type 0
 Refused-builds range =
     (t : List ℕ) (r : Counts) (before after : Lent) → Build-says range t r before after →
@@ -99,6 +106,7 @@ pub record Decided-exactly (range : Limits) (t u v : List ℕ) (d : Decision) (w
   pub taken : (d ≡ Taken) ↔ ((lasso-refusal range t u v work ≡ 0) × Takes (meaning t) (letter-at u v))
   pub not-taken : (d ≡ NotTaken) ↔ ((lasso-refusal range t u v work ≡ 0) × (Takes (meaning t) (letter-at u v) → ⊥))
 
+-- whatever a lasso decision answers
 unfoldable pub Lasso-demand : Limits → Type 0
 Lasso-demand range =
     (t u v : List ℕ) (d : Decision) (w w-now : List ℕ) → Lasso-says range t u v d w w-now → Decided-exactly range t u v d (length w)
@@ -126,6 +134,12 @@ pub record Compared (range : Limits) (t c u v : List ℕ) (states : ℕ) : Type 
       Not-refused d → Not-refused e →
       (Takes (meaning t) (letter-at u v) × (d ≡ Taken) × (e ≡ NotTaken))
       ⊎ (Takes (meaning c) (letter-at u v) × (d ≡ NotTaken) × (e ≡ Taken))
+  -- and so do two answers in numbers: where neither has a refusal's number, `taken` is 1 for exactly the one that takes it
+  pub answers :
+      (d e : Answer) (w w-now z z-now : List ℕ) → Lasso-answers range t u v d w w-now → Lasso-answers range c u v e z z-now →
+      d .number ≡ 0 → e .number ≡ 0 →
+      (Takes (meaning t) (letter-at u v) × (d .taken ≡ 1) × (e .taken ≡ 0))
+      ⊎ (Takes (meaning c) (letter-at u v) × (d .taken ≡ 0) × (e .taken ≡ 1))
   -- and the states are few: 2^p·3^a·4^r
   pub few : states ≤ bound (moves (meaning t))
 

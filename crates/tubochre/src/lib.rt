@@ -7,7 +7,8 @@ ghost use mathlib.Core.Path.{_≡_};
 ghost use Rattle.patterns.specs.Check.{check-refusal};
 ghost use Rattle.tables.specs.Table.{wide-range};
 ghost use Rattle.complement.specs.Build.{lent, Build-says};
-ghost use Rattle.tubochre.specs.Calls.{as-answer, Lasso-answers, Used-inside, Decided-built, Trial-says};
+ghost use Rattle.tubochre.specs.Calls.{as-answer, Lasso-answers};
+ghost use Rattle.tubochre.specs.Trying.{Used-inside, Decided-built, Trial-says};
 
 // A lasso decision in numbers: 0 and 1 taken, 0 and 0 not taken, or the refusal's number and 0. Only `number` tells a refusal.
 #[repr(C)]
@@ -50,7 +51,7 @@ pub extern "C" fn tubochre_lasso(
     cycle: &[u8],
     work: &mut [u32],
 ) -> Answer
-    ensures { λ r. ⌜ Lasso-answers (now (table .entry)) (now (prefix .entry)) (now (cycle .entry)) r (now (work .entry)) (now (work .exit)) ⌝ }
+    ensures { λ r. ⌜ Lasso-answers wide-range (now (table .entry)) (now (prefix .entry)) (now (cycle .entry)) r (now (work .entry)) (now (work .exit)) ⌝ }
 {
     in_numbers(lassos::decide_lasso(table, prefix, cycle, work))
 }

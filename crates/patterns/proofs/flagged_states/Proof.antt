@@ -4,7 +4,8 @@ use Prim.Native.Nat.{_-_, _<_}
 use native.Mathlib.Omega.{arith}
 use Rattle.sets.specs.Sets.{set-states}
 use Rattle.tables.specs.Table.{meaning, n-of}
-use Rattle.patterns.proofs.Flags.{Gathered, gathered-start, gathered-small, gathered-reads, initial-turn, accepting-turn, initial-end, accepting-end}
+use Rattle.patterns.proofs.Flags.{Gathered, gathered-start, gathered-reads, initial-turn, accepting-turn, initial-end, accepting-end}
+use Rattle.patterns.proofs.Masks.{state-small}
 use Rattle.patterns.proofs.flagged_states.Statement.{statement}
 use Rattle.patterns.proofs.flagged_states.Tie as tie
 
@@ -26,7 +27,7 @@ module _ (c : tie.In-loop Inv-loop μ-loop) where
   small : turn .loop .state < set-states
   small =
       let begun : tie.Start Inv-loop μ-loop = search in
-      gathered-small _ (begun .pre) _ _ (counted .states-of .ensures .is) (c .loop-test .taken)
+      state-small _ (begun .pre) _ _ (counted .states-of .ensures .is) (c .loop-test .taken)
 
 states-of-requires : tie.Need-states-of-requires Inv-loop μ-loop
 states-of-requires c κs = tt

@@ -2,7 +2,7 @@
 use Prim.Native.Nat.{_-_, _<_}
 use native.Mathlib.Omega.{arith}
 use Rattle.sets.specs.Sets.{set-states}
-use Rattle.patterns.proofs.Masks.{Filled, filled-start, filled-asks, filled-inside, filled-turn, filled-end}
+use Rattle.patterns.proofs.Masks.{Filled, filled-start, filled-asks, state-small, filled-turn, filled-end}
 use Rattle.patterns.proofs.spread_out.Statement.{statement}
 use Rattle.patterns.proofs.spread_out.Tie as tie
 
@@ -24,7 +24,7 @@ module _ (c : tie.In-loop Inv-loop μ-loop) where
   turn = search
 
   inside : turn .loop .state < set-states
-  inside = filled-inside _ (start .pre) _ _ (counted .states-of .ensures .is) (c .loop-test .taken)
+  inside = state-small _ (start .pre) _ _ (counted .states-of .ensures .is) (c .loop-test .taken)
 
 states-of-requires : tie.Need-states-of-requires Inv-loop μ-loop
 states-of-requires c κs = tt

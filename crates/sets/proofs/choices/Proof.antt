@@ -11,7 +11,7 @@ use Rattle.sets.proofs.choices.Statement.{statement}
 use Rattle.sets.proofs.choices.Tie as tie
 
 -- 1 << count in a word of 64 digits
-power : (s : ℕ) → s < 2 ^ 32 → 1 * 2 ^ ones s % 2 ^ 64 ≡ 2 ^ size set-states s
+power : (s : ℕ) → s < 2 ^ set-states → 1 * 2 ^ ones s % 2 ^ 64 ≡ 2 ^ size set-states s
 power s l =
     let b = ones-le set-states s l in shift-one 64 (ones s) (omega arith) ∙ ap (λ (n : ℕ). 2 ^ n) (sym (size-ones set-states s l))
 

@@ -4,7 +4,7 @@ use mathlib.Core.Path.{_≡_}
 use mathlib.Core.Logic.{⊎-elim}
 use Prim.Native.Nat.{_+_, _^_, _<_}
 use native.Mathlib.Omega.{arith}
-use Rattle.sets.specs.Sets.{set-states}
+use Rattle.sets.specs.Sets.{set-states, nth-subset}
 use Rattle.sets.proofs.Lowest.{lowest-lt}
 use Rattle.sets.proofs.Subsets.{spread}
 use Rattle.sets.proofs.Walk.{clear-less, clear-lt, leave-turn, take-fits, take-turn, choose-end}
@@ -13,7 +13,7 @@ use Rattle.sets.proofs.nth_subset.Tie as tie
 
 abbrev Inv-loop : tie.InvT-loop
 Inv-loop set choice members₀ digits₀ part₀ members digits part =
-    (members < 2 ^ 32) × (part + spread set-states members digits ≡ spread set-states set choice)
+    (members < 2 ^ set-states) × (part + spread set-states members digits ≡ spread set-states set choice)
 
 abbrev μ-loop : tie.MeasureT-loop
 μ-loop set choice members₀ digits₀ part₀ members digits part = members
@@ -69,6 +69,7 @@ loop-again c =
     )
 
 returns : tie.Need-returns Inv-loop μ-loop
+unfolding nth-subset
 returns c =
     let turn : tie.At-loop Inv-loop μ-loop = search in
     let start : tie.Start Inv-loop μ-loop = search in

@@ -16,7 +16,7 @@ use Rattle.sets.proofs.targets.Tie as tie
 
 abbrev Inv-loop : tie.InvT-loop
 Inv-loop moves letter set left₀ all₀ left all =
-    (left < 2 ^ 32)
+    (left < 2 ^ set-states)
     × (bitOr all (union set-states left (λ q. getD (getD moves q []) letter 0))
     ≡ union set-states set (λ q. getD (getD moves q []) letter 0))
 

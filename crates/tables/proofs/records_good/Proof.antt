@@ -15,9 +15,6 @@ Inv-loop table n k m i₀ i = Scan (record-good table) (m-of table) i
 abbrev μ-loop : tie.MeasureT-loop
 μ-loop table n k m i₀ i = m - i
 
-abbrev counted : tie.At-loop Inv-loop μ-loop → tie.After-letters-of Inv-loop μ-loop
-counted c = search
-
 states-of-requires : tie.Need-states-of-requires Inv-loop μ-loop
 states-of-requires c κs = search needs
 

@@ -31,7 +31,7 @@ dead moves marks letter x = refl
 
 abbrev Inv-loop : tie.InvT-loop
 Inv-loop moves marks letter left₀ left =
-    (left < 2 ^ 32) × (some-member set-states left (idle moves letter) ≡ some-member set-states left₀ (idle moves letter))
+    (left < 2 ^ set-states) × (some-member set-states left (idle moves letter) ≡ some-member set-states left₀ (idle moves letter))
 
 abbrev μ-loop : tie.MeasureT-loop
 μ-loop moves marks letter left₀ left = left

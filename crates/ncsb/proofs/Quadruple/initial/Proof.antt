@@ -4,15 +4,15 @@ use mathlib.Core.List.{[]}
 use Prim.Native.Nat.{ℕ}
 use borrow.Author.Needs.{needs}
 use lib.Bits.{bitAnd}
-use Rattle.sets.specs.Sets.{without}
-use Rattle.ncsb.specs.Array.{chosen, from-array, nth-initial}
+use Rattle.sets.specs.Sets.{without, nth-subset}
+use Rattle.ncsb.specs.Array.{from-array, nth-initial}
 use Rattle.ncsb.specs.Successors.{initial-for, initial-free, quadruple}
 use Rattle.ncsb.proofs.Quadruple.initial.Statement.{statement}
 use Rattle.ncsb.proofs.Quadruple.initial.Tie as tie
 
 -- the sets that the code works out, put together, are the initial quadruple for the choice
 parted :
-    (starts marks inner i : ℕ) {loose safe rest outer : ℕ} → loose ≡ without (bitAnd starts inner) marks → safe ≡ chosen loose i →
+    (starts marks inner i : ℕ) {loose safe rest outer : ℕ} → loose ≡ without (bitAnd starts inner) marks → safe ≡ nth-subset loose i →
     rest ≡ without (bitAnd starts inner) safe → outer ≡ without starts inner →
     quadruple outer rest safe rest ≡ nth-initial (from-array [] starts marks inner) i
 unfolding nth-initial initial-for initial-free from-array
@@ -31,7 +31,7 @@ without-requires-3 : tie.Need-without-requires-3
 without-requires-3 c κs = search needs
 
 returns : tie.Need-returns
-unfolding quadruple chosen
+unfolding quadruple
 returns c =
     let rested : tie.After-without2 = search in
     let picked : tie.After-nth-subset = search in

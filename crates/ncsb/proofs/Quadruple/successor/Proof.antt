@@ -4,8 +4,8 @@ use Prim.Native.Nat.{ℕ}
 use lib.Bits.{bitAnd, bitOr}
 use borrow.Author.Needs.{needs}
 use Rattle.basics.proofs.Booleans.{eq-eqb, ne-eqb}
-use Rattle.sets.specs.Sets.{without}
-use Rattle.ncsb.specs.Array.{chosen, nth-successor}
+use Rattle.sets.specs.Sets.{without, nth-subset}
+use Rattle.ncsb.specs.Array.{nth-successor}
 use Rattle.ncsb.specs.Successors.{quadruple}
 use Rattle.ncsb.specs.declared.Asked.{Asked}
 use Rattle.ncsb.specs.declared.Quadruple.{Quadruple}
@@ -17,7 +17,7 @@ module _
     (x : Quadruple)
     (a : Asked)
     (i part rest : ℕ)
-    (picked : part ≡ chosen (a .free) i)
+    (picked : part ≡ nth-subset (a .free) i)
     (left : rest ≡ without (a .tracked) (bitOr (a .safe) part))
   where
     anew : x .B ≡ 0 → quadruple (a .outer) rest (bitOr (a .safe) part) rest ≡ nth-successor x a i
@@ -36,7 +36,7 @@ without-requires : tie.Need-without-requires
 without-requires c κs = search needs
 
 returns : tie.Need-returns
-unfolding quadruple chosen
+unfolding quadruple
 returns c =
     let parted : tie.After-without = search in
     let picked : tie.After-nth-subset = search in
@@ -46,7 +46,7 @@ returns c =
     (picked .nth-subset .ensures) (parted .without .ensures) (c .if1 .taken)
 
 returns-2 : tie.Need-returns-2
-unfolding quadruple chosen
+unfolding quadruple
 returns-2 c =
     let left-1 : tie.Else1 = search in
     let parted : tie.After-without = search in
