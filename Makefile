@@ -28,6 +28,9 @@ TESTS = $(CALLS) $(addprefix $(OUT)/,test_header test_header_cxx test_records te
 
 .PHONY: run test test-c tests lib host bench install clean
 
+# rt keeps what it has proved in target/, so one rule works at a time; rt uses all cores by itself.
+.NOTPARALLEL:
+
 run:
 	$(RT) check listing
 	$(LISTING) < examples/pattern-a.txt
@@ -55,9 +58,11 @@ SOURCES = crates.txt $(shell find crates -name '*.rt' -o -name '*.antt')
 
 target/staticlib/lib%.a: $(SOURCES)
 	$(RT) staticlib $*
+	@touch $@
 
 target/bin/listing: $(SOURCES)
 	$(RT) check listing
+	@touch $@
 
 $(OUT)/tubochre-bench: programs/tubochre_bench.c $(PARTS) $(ARCHIVE)
 $(OUT)/test_header: tests/calls/test_header.c
@@ -75,15 +80,19 @@ $(OUT)/test_header_cxx: tests/calls/test_header.c $(HEADERS)
 	@mkdir -p $(OUT)
 	$(CXX) -std=c++11 $(WARNINGS) $(CFLAGS) -Iinclude -x c++ $< -o $@
 
+# Where it is installed: as one word, for pkg-config has no other.
+PLACE = $(DESTDIR)$(abspath $(PREFIX))
+
 install: $(ARCHIVE) $(RECORDS) $(LISTING) $(OUT)/tubochre-bench
-	install -d $(addprefix $(DESTDIR)$(PREFIX)/,bin include lib/pkgconfig share/doc/tubochre)
-	install -m 755 $(OUT)/tubochre-bench $(DESTDIR)$(PREFIX)/bin/tubochre-bench
-	install -m 755 $(LISTING) $(DESTDIR)$(PREFIX)/bin/tubochre-listing
-	install -m 644 $(ARCHIVE) $(DESTDIR)$(PREFIX)/lib/libtubochre.a
-	install -m 644 $(RECORDS) $(DESTDIR)$(PREFIX)/lib/libtubochre_records.a
-	install -m 644 include/tubochre.h $(DESTDIR)$(PREFIX)/include/tubochre.h
-	install -m 644 docs/RULES.md $(DESTDIR)$(PREFIX)/share/doc/tubochre/RULES.md
-	sed -e 's|@PREFIX@|$(abspath $(PREFIX))|' -e 's|@VERSION@|$(VERSION)|' include/tubochre.pc.in > $(DESTDIR)$(PREFIX)/lib/pkgconfig/tubochre.pc
+	$(if $(filter 1,$(words $(PLACE))),,$(error PREFIX and DESTDIR have to name one folder, without blanks: '$(DESTDIR)' '$(PREFIX)'))
+	install -d $(addprefix $(PLACE)/,bin include lib/pkgconfig share/doc/tubochre)
+	install -m 755 $(OUT)/tubochre-bench $(PLACE)/bin/tubochre-bench
+	install -m 755 $(LISTING) $(PLACE)/bin/tubochre-listing
+	install -m 644 $(ARCHIVE) $(PLACE)/lib/libtubochre.a
+	install -m 644 $(RECORDS) $(PLACE)/lib/libtubochre_records.a
+	install -m 644 include/tubochre.h $(PLACE)/include/tubochre.h
+	install -m 644 docs/RULES.md $(PLACE)/share/doc/tubochre/RULES.md
+	sed -e 's|@PREFIX@|$(abspath $(PREFIX))|' -e 's|@VERSION@|$(VERSION)|' include/tubochre.pc.in > $(PLACE)/lib/pkgconfig/tubochre.pc
 
 clean:
 	rm -rf target

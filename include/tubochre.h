@@ -146,7 +146,8 @@ struct tubochre_decision tubochre_lasso(const uint16_t *table, size_t table_len,
                                         size_t prefix_len, const uint8_t *loop, size_t loop_len, uint32_t *work,
                                         size_t work_len);
 
-/* One state of a complement: its four sets of pattern states, in which state q adds 2^q. */
+/* One state of a complement: its four sets of pattern states, in which state q adds 2^q. They have the paper's names:
+ * include this header before any macro of such a name. */
 struct tubochre_quadruple {
     uint32_t N, C, S, B;
 };

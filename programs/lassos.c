@@ -100,9 +100,17 @@ void free_lassos(struct lasso *all, size_t count)
 
 /* ---- Deciding. */
 
+/* Enough work words, so that 16 never comes; none for a lasso that 13 or 14 refuses before any are counted. */
+static size_t work_words(const uint16_t *words, const struct lasso *l)
+{
+    if (l->loop.len == 0 || l->prefix.len > TUBOCHRE_LASSO_PART_MOST || l->loop.len > TUBOCHRE_LASSO_PART_MOST)
+        return 0;
+    return tubochre_work_words(words[0], l->prefix.len, l->loop.len);
+}
+
 struct tubochre_decision decide(const uint16_t *words, size_t len, const struct lasso *l)
 {
-    const size_t work_len = tubochre_work_words(words[0], l->prefix.len, l->loop.len);
+    const size_t work_len = work_words(words, l);
     uint32_t *const work = memory(work_len, sizeof *work, "a lasso's work words");
     struct tubochre_decision d;
     progress_begin("deciding a lasso");

@@ -1,4 +1,5 @@
-/* Where a refusal lies. The library answers its number; these look for the place again, in the order of the rules. */
+/* Where a refusal lies. The library answers its number; these look for the place again: the first refusal by the
+ * rules, and of one refusal the first place in the table. */
 #ifndef PLACES_H
 #define PLACES_H
 

@@ -79,6 +79,19 @@ try_install() {
     echo 'ok: an installed copy, the example compiled with it, its programs, and what the README shows of them'
 }
 
+# A copy laid down elsewhere than where it will stand; and a place that pkg-config could not name.
+try_places() {
+    rm -rf "$out/staged"
+    make -s install OUT="$out" DESTDIR="$out/staged" PREFIX=some/place "${made[@]}"
+    [ -x "$out/staged$PWD/some/place/bin/tubochre-bench" ] || fail 'DESTDIR and a PREFIX that is relative go elsewhere'
+    if make -s install OUT="$out" PREFIX="$out/two words" "${made[@]}" 2>"$out/make.txt"; then
+        fail 'a PREFIX with a blank is taken'
+    fi
+    grep -q 'without blanks' "$out/make.txt" || fail "a PREFIX with a blank is refused without a reason: $(cat "$out/make.txt")"
+    [ ! -e "$out/two" ] && [ ! -e words ] || fail 'a PREFIX with a blank leaves something behind'
+    echo 'ok: where an installed copy goes'
+}
+
 if [ -z "${ARCHIVE:-}" ]; then
     say 'the archives, from the proved crates'
     make -s lib
@@ -93,6 +106,7 @@ build "$out" -O2 -g
 run_tests "$out"
 try_header
 try_install
+try_places
 tests/programs/test_listing.sh "$listing"
 if command -v python3 >/dev/null; then
     tests/programs/test_draw.sh

@@ -10,15 +10,26 @@ wrong() {
     failed=1
 }
 
-# Sections, cited by their titles: the page, a comma, then one quoted title or several.
+# some LIST WHAT: a list of which nothing was found is a fault of this test
+some() {
+    [ -n "$1" ] || wrong "$2: none is found"
+}
+
+# Sections, cited by their titles: the page, a comma, then one quoted title or several. A citation may go on in the next line of a
+# comment, so lines are joined first.
+titles=$(find "${places[@]}" -type f ! -name test_citations.sh -print0 | xargs -0 cat | sed 's,^ *\(--\|//\|[*]\|#\) ,,' | tr '\n' ' ' |
+    grep -oE 'docs/RULES\.md,? *"[^"]+"( and "[^"]+")*' | grep -oE '"[^"]+"' | tr -d '"' | sort -u)
+some "$titles" 'titles of sections'
 while IFS= read -r title; do
     grep -qxF "## $title" docs/RULES.md || wrong "docs/RULES.md has no section \"$title\""
-done < <(grep -rhoE 'docs/RULES\.md, "[^"]+"( and "[^"]+")*' "${places[@]}" | grep -oE '"[^"]+"' | tr -d '"' | sort -u)
+done <<<"$titles"
 
 # Sentences, quoted in a table of docs/THEORY.md.
+sentences=$(sed -n '/^## The rules$/,$s/^| "\([^"]*\)".*/\1/p' docs/THEORY.md | sed 's/^… //; s/ …$//')
+some "$sentences" 'sentences in docs/THEORY.md'
 while IFS= read -r sentence; do
     grep -qF -- "$sentence" docs/RULES.md || wrong "docs/RULES.md does not say: $sentence"
-done < <(sed -n '/^## The rules$/,$s/^| "\([^"]*\)".*/\1/p' docs/THEORY.md | sed 's/^… //; s/ …$//')
+done <<<"$sentences"
 
 # Papers and pages that are not here.
 if grep -rnE '[Dd]ocument 0[0-9]+' "${places[@]}" --exclude=test_citations.sh; then

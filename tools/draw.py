@@ -1,15 +1,17 @@
 #!/usr/bin/env python3
-"""Draws a pattern and its complement, from the pattern's words and what the listing program prints of it.
+# Draws a pattern and its complement; USAGE says how.
+import os
+import re
+import sys
+from collections import defaultdict
+
+USAGE = """Draws a pattern and its complement, from the pattern's words and what the listing program prints of it.
 
     target/bin/listing < PATTERN | tools/draw.py PATTERN > picture.svg
 
 States stand in a row. A double ring accepts, an arrow from the left marks an initial state; an edge's label lists its letters.
 For larger automata let `tubochre-bench --dot` write a graph, and any viewer of DOT lay it out.
 """
-import os
-import re
-import sys
-from collections import defaultdict
 
 STEP, RADIUS, LEFT = 150, 26, 70
 MOST_BYTES = 4000000  # no listing, and no pattern without needless zeros, is as long
@@ -22,13 +24,18 @@ def stop(sentence):
     sys.exit("draw.py: " + sentence)
 
 
+def shown(word):
+    """A word of the command line as it is, if it is one that cannot steer a terminal; else quoted."""
+    return word if word.isprintable() and word else repr(word)
+
+
 def read_text(place, name):
     """The text of a file, or of standard input, of which no more is read than can be right."""
     try:
         with open(place, "rb") as file:
             data = file.read(MOST_BYTES + 1)
     except OSError as error:
-        stop("%s: %s" % ("standard input" if place == STANDARD_INPUT else place or "''", error.strerror))
+        stop("%s: %s" % ("standard input" if place == STANDARD_INPUT else shown(place), error.strerror))
     if len(data) > MOST_BYTES:
         stop("%s is longer than %d bytes" % (name, MOST_BYTES))
     try:
@@ -49,10 +56,10 @@ def numbers(words, name):
 
 def read_listing(text):
     """The names of the states, their flags, and the edges."""
-    lines = text.split("\n")
-    if lines[-1] == "":
-        lines.pop()
-    refused = re.fullmatch("refused ([0-9]{1,2})", text.rstrip("\n"))
+    if text and not text.endswith("\n"):
+        stop("the listing is cut off: its last line has no end")
+    lines = text.split("\n")[:-1]
+    refused = re.fullmatch("refused ([0-9]{1,2})", lines[0]) if len(lines) == 1 else None
     if refused:
         stop("the pattern is refused by %s, so there is nothing to draw" % refused.group(1))
     head = re.fullmatch("states ([0-9]{1,5}) edges ([0-9]{1,5})", lines[0]) if lines else None
@@ -162,12 +169,14 @@ def write(text):
 
 
 def main():
-    if sys.stdin is None or sys.stdout is None:
-        stop("standard input or standard output is closed")
+    if sys.stdout is None:
+        stop("standard output is closed")
     if sys.argv[1:] in (["-h"], ["--help"]):
-        write(__doc__)
+        write(USAGE)
     elif len(sys.argv) != 2:
-        sys.exit(__doc__)
+        sys.exit(USAGE)
+    elif sys.stdin is None:
+        stop("standard input is closed")
     else:
         complement = read_listing(read_text(STANDARD_INPUT, "the listing"))
         write(picture(read_pattern(read_text(sys.argv[1], "the pattern")), complement))

@@ -77,25 +77,27 @@ static void try_most_records(void)
     free(words);
 }
 
-/* ---- All three calls on one pattern, in memory of one's own. */
+/* ---- All calls on one pattern, in memory of one's own. */
 
 enum { P = 7, R = 8, K = 2, PATTERN_LEN = 3 + (2 + 3 * K) * (P + R + 1) };
-enum { SETS_LEN = TUBOCHRE_RECORD_WORDS * (P << R) + 100 };
+enum { SETS_LEN = TUBOCHRE_RECORD_WORDS * (P << R) + 100, LOOP_LEN = 5 };
 
 struct job {
+    uint8_t loop[LOOP_LEN];
     uint16_t pattern[PATTERN_LEN];
     uint16_t words[20000];
     uint32_t sets[SETS_LEN], work[400000];
     uint32_t check;
     struct tubochre_counts counts;
     struct tubochre_decision by_pattern, by_complement;
+    struct tubochre_quadruple records[P << R];
 };
 
-static const uint8_t job_prefix[] = {0, 1, 1}, job_loop[] = {1, 0, 0, 1, 0};
+static const uint8_t job_prefix[] = {0, 1, 1};
 
 static struct tubochre_decision decide_in(struct job *j, const uint16_t *table, size_t len)
 {
-    return tubochre_lasso(table, len, job_prefix, sizeof job_prefix, job_loop, sizeof job_loop, j->work,
+    return tubochre_lasso(table, len, job_prefix, sizeof job_prefix, j->loop, LOOP_LEN, j->work,
                           sizeof j->work / sizeof j->work[0]);
 }
 
@@ -107,14 +109,22 @@ static void *all_calls(void *data)
                                j->sets, SETS_LEN);
     j->by_pattern = decide_in(j, j->pattern, PATTERN_LEN);
     j->by_complement = decide_in(j, j->words, tubochre_table_words(j->counts.states, j->counts.edges));
+    tubochre_records(j->records, P << R, j->sets, SETS_LEN);
     return NULL;
 }
 
-static struct job *new_job(void)
+/* Each kind of job has a pattern and a loop of its own: of the outer states `kind` is the initial one, and the loop's
+ * letters are the digits of `kind`. */
+static struct job *new_job(unsigned kind)
 {
     struct job *const j = room_for(1, sizeof *j);
+    size_t i;
     memset(j, 0xa5, sizeof *j);
     ring_pattern(j->pattern, P, R, K);
+    j->pattern[3] = 0;
+    j->pattern[3 + 2 * kind] = 1;
+    for (i = 0; i < LOOP_LEN; i++)
+        j->loop[i] = kind >> i & 1;
     return j;
 }
 
@@ -122,7 +132,7 @@ static struct job *new_job(void)
 
 static void try_stack(void)
 {
-    struct job *const j = new_job();
+    struct job *const j = new_job(0);
     const size_t used = stack_used(all_calls, j);
     expect(j->check == 0 && j->counts.number == 0 && j->by_pattern.number == 0, "the calls on a stack of their own");
     expect(used < STACK_PROMISED, "the calls use %zu bytes of stack", used);
@@ -146,27 +156,35 @@ static int same_results(const struct job *a, const struct job *b)
            memcmp(&a->by_pattern, &b->by_pattern, sizeof a->by_pattern) == 0 &&
            memcmp(&a->by_complement, &b->by_complement, sizeof a->by_complement) == 0 &&
            memcmp(a->words, b->words, sizeof a->words) == 0 && memcmp(a->sets, b->sets, sizeof a->sets) == 0 &&
-           memcmp(a->work, b->work, sizeof a->work) == 0;
+           memcmp(a->work, b->work, sizeof a->work) == 0 && memcmp(a->records, b->records, sizeof a->records) == 0;
 }
 
 static void try_threads(void)
 {
-    struct job *const alone = new_job(), *each[THREADS];
+    struct job *alone[THREADS], *each[THREADS];
     pthread_t thread[THREADS];
-    int i;
-    all_calls(alone);
+    unsigned i;
     for (i = 0; i < THREADS; i++) {
-        each[i] = new_job();
+        alone[i] = new_job(i);
+        all_calls(alone[i]);
+    }
+    for (i = 0; i < THREADS; i++) {
+        each[i] = new_job(i);
         expect(pthread_create(&thread[i], NULL, many_calls, each[i]) == 0, "a thread begins");
     }
     for (i = 0; i < THREADS; i++) {
         expect(pthread_join(thread[i], NULL) == 0, "a thread ends");
-        expect(same_results(alone, each[i]), "thread %d has every word of the call made alone", i);
+        expect(same_results(alone[i], each[i]), "thread %u has every word of the calls made alone", i);
+        expect(alone[i]->by_pattern.number == TUBOCHRE_OK && alone[i]->by_complement.number == TUBOCHRE_OK,
+               "neither is refused");
+        expect(alone[i]->by_pattern.taken != alone[i]->by_complement.taken, "exactly one takes the lasso");
+    }
+    for (i = 0; i < THREADS; i++) {
+        expect(i == 0 || !same_results(alone[0], alone[i]), "thread %u has a job of its own", i);
         free(each[i]);
     }
-    expect(alone->by_pattern.number == TUBOCHRE_OK && alone->by_complement.number == TUBOCHRE_OK, "neither is refused");
-    expect(alone->by_pattern.taken != alone->by_complement.taken, "exactly one takes the lasso");
-    free(alone);
+    for (i = 0; i < THREADS; i++)
+        free(alone[i]);
 }
 
 int main(void)

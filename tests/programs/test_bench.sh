@@ -103,6 +103,7 @@ text 'half a byte order mark' 1 1 'the byte 0xef is no digit, space or newline' 
 text 'a byte order mark later' 1 3 'the byte 0xef is no digit, space or newline' $'2 \xef\xbb\xbf'
 text 'UTF-16, little end first' 1 1 'the file begins with a byte order mark of UTF-16' $'\xff\xfe2'
 text 'UTF-16, big end first' 1 1 'the file begins with a byte order mark of UTF-16' $'\xfe\xff2'
+text 'a byte order mark of UTF-16 later' 1 3 'the byte 0xff is no digit, space or newline' $'2 \xff\xfe'
 minus='a minus sign stands here, and a word is a number from 0 to 65535'
 text 'a minus sign' 1 3 "$minus" '2 -2'
 text 'a minus sign behind a number' 1 2 "$minus" '2-'
@@ -163,6 +164,17 @@ fork1="the pattern is not semi-deterministic: state 1 $fork 0"
 fork2="the pattern is not semi-deterministic: state 2 $fork 1"
 table 10 0 "$fork1" '2 1 2 1 0 2 1 0 0 2 0 1 0'
 table 10 0 "$fork2" '3 2 5 1 1 2 3 0 4 0 0 2 1 1 0 0 2 0 1 0 5 1 2 0'
+
+# Of several faults the first is named: by the rules, and of one refusal by its place in the table.
+table 7 7 'state 0 has flags 4, and flags are 0 to 3' '2 1 0 4 0 5 0'
+table 8 11 'record 1 has letter 3, and the letters are 0 to 0' '1 1 1 0 1 3 4 0'
+table 8 13 'record 1 has target 2, and the states are 0 to 0' '1 1 2 0 1 0 2 2 1 0 0'
+table 9 9 'state 0 has head 3, and the number of records is 2' '2 1 2 0 3 0 4 0 0 2 0 0 1'
+table 9 15 "record 1 has next 1, $forward" '1 1 2 0 1 0 0 1 0 0 9'
+table 9 0 'record 1 is in no chain: no head and no next names it' '1 1 2 0 0 0 0 0 0 0 0'
+table 10 0 "the pattern is not semi-deterministic: state 1 $fork 1" '3 2 4 1 0 2 1 2 3 1 1 2 1 2 0 0 1 4 0 2 0'
+table 10 0 "$fork1" '2 2 4 1 0 2 1 1 0 2 1 1 3 0 0 4 0 1 0'
+table 4 3 'the number of letters is 0, and a table has 1 to 16' '1 0 5000 9'
 expect 'a place in a later line' 1 'pattern: refused (8) in line 4, column 3: record 1 has target 7, and the states are 0 to 1' \
     '' "$program" - <<<$'2 1 1\n0 1\n0 0\n0 7 0'
 expect 'a forking pattern is drawn all the same' 1 'digraph pattern {
@@ -197,6 +209,21 @@ complement: states 1024, edges 2048
 rings 7 10 1 >"$folder/rings"
 count=$("$program" --dot complement "$folder/rings" | grep -c -- '-> s.*label')
 [ "$count" -eq 7168 ] || wrong 'all edges are drawn' 'arrows' "$count"
+# The program lends room for as many states and edges as a table can have.
+rings 15 12 1 >"$folder/large"
+expect 'a complement of 61,440 states' 0 'pattern: passes the check (states 28, letters 1, records 28)
+complement: states 61440, edges 61440' '' "$program" "$folder/large"
+expect 'state 31 in a set' 0 'digraph complement {
+    rankdir=LR;
+    node [shape=ellipse];
+    label="below each number its sets N C S B";
+    s0 [label="0\n{31} {} {} {}", peripheries=2];
+    i0 [shape=none, label=""];
+    i0 -> s0;
+    s1 [label="1\n{} {} {} {}", peripheries=2];
+    s0 -> s1 [label="0"];
+    s1 -> s1 [label="0"];
+}' '' "$program" --dot complement - <<<"32 1 0 $(zeros 62 | sed 's/0/0 /g') 1 0"
 # A limit on memory, where the program bears one (its sanitizers do not).
 limited() { (ulimit -v 100000 && exec "$program" "$@"); }
 if limited --version >/dev/null 2>&1; then
@@ -204,6 +231,10 @@ if limited --version >/dev/null 2>&1; then
 complement: states 7168, edges 7168' \
         "tubochre-bench: a lasso's work words: there is not enough memory: it takes 117440512 times 4 bytes" \
         limited "$folder/rings" - "$(zeros 4096)"
+    expect 'no memory is asked for where a part is too long' 1 'pattern: passes the check (states 18, letters 1, records 18)
+complement: states 7168, edges 7168
+lasso 1 (- '"$(zeros 9999)"'): refused (14): the loop has 9999 letters, and a part has at most 4096' '' \
+        limited "$folder/rings" - "$(zeros 9999)"
 fi
 rings 1 17 1 >"$folder/rings"
 many='complement: refused (11): it has more than 65535 states, the most that a table has'
@@ -222,6 +253,15 @@ lasso 2 (- 12,): refused (15): letter 12 stands at place 1 of the loop, and the 
 lasso 3 (- 1): the complement takes it
 lasso 4 (0102 3): refused (15): letter 2 stands at place 4 of the prefix, and the letters are 0 to 1" '' \
     "$program" "$folder/a" 1 '' - 12, - 1 0102 3
+expect 'a refused lasso before a good one' 1 "$passes
+lasso 1 (1 -): refused (13): the loop is empty
+lasso 2 (- 1): the complement takes it" '' "$program" "$folder/a" 1 '' - 1
+expect 'the largest number that can be a letter' 1 "$passes
+lasso 1 (- 255,): refused (15): letter 255 stands at place 1 of the loop, and the letters are 0 to 1" '' \
+    "$program" "$folder/a" - 255,
+expect 'both parts too long' 1 "$passes
+lasso 1 ($(zeros 4097) $(zeros 4098)): refused (14): the prefix has 4097 letters, and a part has at most 4096" '' \
+    "$program" "$folder/a" "$(zeros 4097)" "$(zeros 4098)"
 expect 'a loop of 4,097' 1 "$passes
 lasso 1 (- $(zeros 4097)): refused (14): the loop has 4097 letters, and a part has at most 4096" '' \
     "$program" "$folder/a" - "$(zeros 4097)"
@@ -283,6 +323,7 @@ trouble "$folder: Is a directory" "$folder"
 trouble "$folder/a/: Not a directory" "$folder/a/"
 trouble "'': No such file or directory" ''
 trouble "$folder/\\x1b[31m\\x0a: No such file or directory" "$folder/"$'\x1b[31m\n'
+trouble "$folder/ü€\\xc2\\x9b31m\\xff\\xe2\\x82x: No such file or directory" "$folder/"$'\xc3\xbc\xe2\x82\xac\xc2\x9b31m\xff\xe2\x82x'
 touch "$folder/closed"
 chmod 000 "$folder/closed"
 [ -r "$folder/closed" ] || trouble "$folder/closed: Permission denied" "$folder/closed"
@@ -303,12 +344,30 @@ trouble "lasso 1 (0 99999999999999999999,), byte 1 of its loop: a letter is a nu
 
 expect '--version' 0 "tubochre-bench $(sed -n 's/^.define TUBOCHRE_VERSION_[A-Z]* //p' "$here/../../include/tubochre.h" | paste -sd. -)" \
     '' "$program" --version
-help=$("$program" --help)
+help="usage: tubochre-bench [OPTION]... PATTERN [PREFIX LOOP]...
+
+Checks a pattern, builds its complement, and says of each lasso which of the two takes it.
+
+PATTERN is a file that holds a pattern's words as decimal numbers divided by spaces and newlines,
+or - for standard input.
+
+Each PREFIX and LOOP is a lasso: the word that reads PREFIX once and then LOOP for ever. Either is
+written as digits, one for each letter (0110), or as numbers divided by commas (10,3,15; a single
+letter above 9 is written with a comma behind it: 12,). The empty prefix is - or ''.
+
+Options:
+  --states         also prints each state of the complement: number, N, C, S, B, flags
+  --dot GRAPH      writes the graph of the pattern or of the complement in DOT, and nothing else;
+                   GRAPH is pattern or complement
+  -h, --help       prints this, and ends
+  --version        prints the version, and ends
+  --               ends the options: all words behind it are PATTERN, PREFIX and LOOP
+
+Exit status: 0 all was answered; 1 the pattern, its complement or a lasso was refused;
+2 wrong use, or a file, memory or output that failed."
+expect '--help' 0 "$help" '' "$program" --help
 expect '-h' 0 "$help" '' "$program" -h
 expect '--help before all else' 0 "$help" '' "$program" "$folder/none" --help 0
-for word in 'usage: tubochre-bench' --states --dot --help --version 'Exit status'; do
-    grep -q -- "$word" <<<"$help" || wrong '--help' 'it does not say' "$word"
-done
 
 # ---- Outputs that cannot be written.
 
@@ -322,11 +381,13 @@ for arguments in --help --version "$folder/a" "--states $folder/a" "--dot patter
     expect "a closed output: $arguments" 2 '' 'tubochre-bench: standard output: Bad file descriptor' \
         sh -c "exec \"\$0\" \"\$@\" >&-" "$program" $arguments
 done
+echo '2 1 2 1 0 2 1 0 0 2 0 1 0' >"$folder/fork"
+expect 'a closed output, and nothing for it' 1 '' "pattern: refused (10): $fork1" \
+    sh -c "exec \"\$0\" --dot complement \"\$1\" >&-" "$program" "$folder/fork"
 # A pipe whose reader has ended; the signal of it ends the program, unless it is ignored.
 expect 'a reader that is gone' 2 '' 'tubochre-bench: standard output: Broken pipe' \
     bash -c "trap '' PIPE; exec 3> >(:); wait \$!; exec \"\$0\" \"\$@\" >&3" "$program" --states "$folder/a"
 # Why there is no graph is told on standard error.
-echo '2 1 2 1 0 2 1 0 0 2 0 1 0' >"$folder/fork"
 for errors in '/dev/full' '&-'; do
     expect "a refusal that cannot be told: $errors" 2 '' '' \
         sh -c "exec \"\$0\" --dot complement \"\$1\" 2>$errors" "$program" "$folder/fork"

@@ -22,7 +22,10 @@ draw() {
 }
 good=$(cat "$a")
 draw 'the pattern is refused by 10, so there is nothing to draw' 'x' <<<'refused 10'
-draw 'the pattern is refused by 1, so there is nothing to draw' 'x' < <(printf 'refused 1')
+draw 'the pattern is refused by 1, so there is nothing to draw' 'x' <<<'refused 1'
+cut='the listing is cut off: its last line has no end'
+draw "$cut" 'x' < <(printf 'refused 1')
+draw "$cut" "$good" < <(printf '%s' "$listed")
 draw 'standard input is no listing: pass on what the listing program prints' "$good" </dev/null
 draw 'standard input is no listing: pass on what the listing program prints' "$good" <<<'hello'
 draw 'standard input is no listing: pass on what the listing program prints' "$good" <<<'states 9999999999 edges 4'
@@ -53,10 +56,19 @@ expect 'a pattern that is a folder' 1 '' 'draw.py: docs: Is a directory' tools/d
 expect 'a pattern that cannot be read' 1 '' 'draw.py: /proc/self/mem: Input/output error' tools/draw.py /proc/self/mem <<<"$listed"
 expect 'an endless pattern' 1 '' 'draw.py: the pattern is longer than 4000000 bytes' timeout 20 tools/draw.py /dev/zero <<<"$listed"
 expect 'a full disk' 1 '' 'draw.py: standard output: No space left on device' sh -c "exec tools/draw.py $a >/dev/full" <<<"$listed"
-expect 'a closed output' 1 '' 'draw.py: standard input or standard output is closed' \
-    sh -c "exec tools/draw.py $a >&-" <<<"$listed"
-help=$(sed -n '2,/^"""/p' tools/draw.py | sed 's/^"""//')
+expect 'a name that could steer a terminal' 1 '' "draw.py: 'a\\nb\\x1b[31m': No such file or directory" \
+    tools/draw.py $'a\nb\x1b[31m' <<<"$listed"
+expect 'a closed output' 1 '' 'draw.py: standard output is closed' sh -c "exec tools/draw.py $a >&-" <<<"$listed"
+expect 'a closed input' 1 '' 'draw.py: standard input is closed' sh -c "exec tools/draw.py $a <&-"
+help="Draws a pattern and its complement, from the pattern's words and what the listing program prints of it.
+
+    target/bin/listing < PATTERN | tools/draw.py PATTERN > picture.svg
+
+States stand in a row. A double ring accepts, an arrow from the left marks an initial state; an edge's label lists its letters.
+For larger automata let \`tubochre-bench --dot\` write a graph, and any viewer of DOT lay it out."
 expect 'no argument' 1 '' "$help" tools/draw.py
 expect 'two arguments' 1 '' "$help" tools/draw.py "$a" "$a" <<<"$listed"
 expect '--help' 0 "$help" '' tools/draw.py --help </dev/null
+expect '--help, without an input' 0 "$help" '' sh -c 'exec tools/draw.py --help <&-'
+expect '--help, without texts in the code' 0 "$help" '' env PYTHONOPTIMIZE=2 tools/draw.py --help </dev/null
 end_trials tools/draw.py

@@ -409,6 +409,22 @@ static void print_summary(uint64_t seed, uint64_t trials)
            tally.lassos, tally.decisions, tally.taken, tally.runs_checked, tally.damaged);
 }
 
+/* A whole run has met every refusal of the calls and every kind of answer: one that compares nothing is no success. */
+static int all_kinds_met(void)
+{
+    int number;
+    for (number = 2; number <= 16; number++)
+        if (tally.refused[number] == 0) {
+            printf("compare: FAILED: no call was refused by %d\n", number);
+            return 0;
+        }
+    if (tally.built == 0 || tally.taken == 0 || tally.taken == tally.decisions || tally.runs_checked == 0) {
+        printf("compare: FAILED: a kind of answer did not occur\n");
+        return 0;
+    }
+    return 1;
+}
+
 int main(int argc, char **argv)
 {
     static const char usage[] = "usage: compare [--seed N] [--trials N]\n";
@@ -421,6 +437,8 @@ int main(int argc, char **argv)
     printf("compare: %" PRIu64 " trials from seed %" PRIu64 "\n", trials, seed);
     for (i = 0; i < trials; i++)
         run_trial(seed + i);
+    if (trials >= TRIALS && !all_kinds_met())
+        return 1;
     print_summary(seed, trials);
     return 0;
 }

@@ -346,6 +346,10 @@ int main(int argc, char **argv)
         draw_text(&r, &t);
         compare_text(&r, &t, seed + i);
     }
+    if (trials >= TRIALS && (tally.listed == 0 || tally.text_refused == 0 || tally.refused == tally.text_refused)) {
+        printf("compare_listing: FAILED: a kind of answer did not occur\n");
+        return 1;
+    }
     printf("compare_listing: ok: seeds %" PRIu64 " to %" PRIu64 ": %" PRIu64 " listed, %" PRIu64 " refused (%" PRIu64
            " for the text), 0 differences\n",
            seed, seed + trials - 1, tally.listed, tally.refused, tally.text_refused);
