@@ -82,9 +82,10 @@ fn takes(table: &[u16], prefix: &[u8], cycle: &[u8], work: &mut [u32]) -> bool
     search(table, prefix, cycle, work, states, size)
 }
 
-// Decides whether a table takes a lasso, where the table has passed its check already: many lassos on one table need one check. Nothing is
-// asked of the work words, and they are not cleared afterwards.
-pub fn decide_checked(table: &[u16], prefix: &[u8], cycle: &[u8], work: &mut [u32]) -> Decision
+// Decides whether a table takes a lasso, where the table has passed its check already. A caller in the crate that has a tray of many lassos
+// gets each answer from it after one check of the table: nothing is asked of the work words, and nothing is said of what is left in them, so
+// that one clearing behind the last lasso is enough.
+fn decide_checked(table: &[u16], prefix: &[u8], cycle: &[u8], work: &mut [u32]) -> Decision
     requires { ⌜ table-refusal wide-range (now table) ≡ 0 ⌝ }
     ensures { λ d. ⌜ d ≡ decision wide-range (now (table .entry)) (now (prefix .entry)) (now (cycle .entry)) (length (now (work .entry))) ⌝ }
 {
