@@ -7,10 +7,10 @@ use mathlib.Core.Logic.{_⊎_, inl, inr}
 use Prim.Native.Nat.{ℕ, _≤_, _<_}
 use native.Mathlib.Omega.{arith}
 use lib.Dec.{eqb}
-use Rattle.basics.proofs.Booleans.{clash, eqb-eq, eq-eqb, ne-eqb}
+use Rattle.basics.proofs.Booleans.{clash, eqb-eq, eq-eqb, ne-eqb, same-or}
 use Rattle.basics.proofs.Bounded.{count-le, count-mono, count-less}
 use Rattle.basics.proofs.Packed.{packed-lt}
-use Rattle.lassos.specs.Search.{colour, coloured, Grows, Redder}
+use Rattle.lassos.specs.Search.{colour, coloured, whites, Grows, Redder}
 
 -- white, grey, black or red
 pub colour-to : (w : List ℕ) (x : ℕ) → colour w x ≤ 3
@@ -51,6 +51,12 @@ grows-grows p q = record { stays = λ x l o. q .stays x l (p .stays x l o) }
 
 pub grows-same : {n : ℕ} {w : List ℕ} → Grows n w w
 grows-same = record { stays = λ x l o. o }
+
+-- then no node turns white
+pub grows-whites : {n : ℕ} {w w′ : List ℕ} → Grows n w w′ → whites n w′ ≤ whites n w
+grows-whites {n} {w} {w′} p =
+    coloured-mono 0 n w w′
+    (λ x l z. elim (same-or (colour w x) 0) [ inl e ↦ e | inr ne ↦ absurd (let k = p .stays x l (omega arith) in omega arith) ])
 
 -- TURNING RED
 pub redder-same : {n : ℕ} {w : List ℕ} → Redder n w w

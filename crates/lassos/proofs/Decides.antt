@@ -37,17 +37,17 @@ fresh g w long white =
     record {
       long = long;
       room = let k = coloured-le 0 (g .size) w in omega arith;
-      inside = λ i l. absurd (omega arith);
+      stack =
+          record {
+            places = λ i l. absurd (omega arith);
+            distinct = λ i j l m. absurd (omega arith);
+            linked = λ i l. absurd (omega arith);
+          };
       grey = λ i l. absurd (omega arith);
-      distinct = λ i j l m. absurd (omega arith);
       on-stack = λ x l k. absurd (unmet x l (omega arith));
-      linked = λ i l. absurd (omega arith);
       reached = λ x l o. absurd (unmet x l o);
-      cursors = λ i l. absurd (omega arith);
-      on-chain = λ i y l. absurd (omega arith);
-      ahead = λ i y l. absurd (omega arith);
       finished = λ x y l o. absurd (unmet x l (omega arith));
-      red = λ x y l o. absurd (unmet x l (omega arith));
+      closed = record { edges = λ x y l o. absurd (unmet x l (omega arith)) };
       fruitless = λ x l o. absurd (unmet x l (omega arith));
     }
 

@@ -10,12 +10,12 @@ use Rattle.tables.specs.Access.{State-asks, Record-asks}
 use Rattle.tables.specs.Table.{n-of, m-of, head-of, target-of, next-of}
 use Rattle.lassos.specs.Graph.{Arc, onward, Node-reached}
 use Rattle.lassos.specs.Product.{Chain-to, node-letter, node-base, product-graph}
-use Rattle.lassos.specs.Search.{colour, stacked, cursor, risen, entered, advanced, Search}
+use Rattle.lassos.specs.Search.{colour, stacked, cursor, risen, entered, advanced, Place, Search}
 use Rattle.lassos.specs.Steps.{Width, Raise-asks, Node-asks, Chain-asks, Next-white, White-at, no-white, white-at, Enter-asks, Top-asks, Descended, deeper, all-visited}
 use Rattle.lassos.proofs.Chains.{reads-record, chain-inside}
-use Rattle.lassos.proofs.Colours.{grows-grows, coloured-one}
+use Rattle.lassos.proofs.Colours.{coloured-one, grows-grows, grows-whites}
 use Rattle.lassos.proofs.Given.{given-valid, given-bounded, given-reads, given-small, given-node, given-chain, given-head, given-first}
-use Rattle.lassos.proofs.Outer.{enter-grows, enter-whites, enter-keeps, advance-grows, advance-whites, advance-keeps}
+use Rattle.lassos.proofs.Outer.{enter-grows, enter-whites, enter-keeps, advance-grows, advance-keeps}
 use Rattle.lassos.proofs.Stores.{Enters, enters, Advances, advances}
 
 -- ENTERING, as it is written
@@ -39,8 +39,16 @@ module _ {wd : Width} {t u v w : List ℕ} {states size x depth : ℕ} (a : Top-
   top-index : depth - 1 < depth
   top-index = let o = a .from-one in omega arith
 
+  cursor-is : getD w (2 * size + (depth - 1)) 0 ≡ cursor (product-graph t u v .size) w (depth - 1)
+  unfolding cursor
+  cursor-is = rw (a .given .sized)
+
+  -- its place: its node, and what its cursor holds
+  top-place : Place (product-graph t u v) w x (getD w (2 * size + (depth - 1)) 0)
+  top-place = rw (a .top, cursor-is) (a .search .stack .places (depth - 1) top-index)
+
   pub top-inside : x < product-graph t u v .size
-  top-inside = rw (a .top) (a .search .inside (depth - 1) top-index)
+  top-inside = top-place .inside
 
   pub top-grey : colour w x ≡ 1
   top-grey = rw (a .top) (a .search .grey (depth - 1) top-index)
@@ -48,36 +56,18 @@ module _ {wd : Width} {t u v w : List ℕ} {states size x depth : ℕ} (a : Top-
   pub top-node : Node-asks u v states x
   top-node = given-node (a .given) top-inside
 
-  top-place : depth - 1 < product-graph t u v .size
-  top-place = let k = a .search .room in let o = top-index in omega arith
+  top-fits : depth - 1 < product-graph t u v .size
+  top-fits = let k = a .search .room in let o = top-index in omega arith
 
   pub top-cursor : 2 * size + (depth - 1) < length w
-  top-cursor = let k = top-place in let q = a .given .sized in let l = a .search .long in omega arith
+  top-cursor = let k = top-fits in let q = a .given .sized in let l = a .search .long in omega arith
 
   pub top-small : 2 * size + (depth - 1) < 2 ^ wd .bits
-  top-small = let k = top-place in let q = a .given .sized in let l = given-small (a .given) in omega arith
-
-  cursor-is : getD w (2 * size + (depth - 1)) 0 ≡ cursor (product-graph t u v .size) w (depth - 1)
-  unfolding cursor
-  cursor-is = rw (a .given .sized)
+  top-small = let k = top-fits in let q = a .given .sized in let l = given-small (a .given) in omega arith
 
   cursor-to : getD w (2 * size + (depth - 1)) 0 ≤ m-of t
   unfolding product-graph
-  cursor-to = rw cursor-is (a .search .cursors (depth - 1) top-index)
-
-  -- its targets are visited or still ahead, and what is ahead are its targets
-  top-ahead :
-      (y : ℕ) → Arc (product-graph t u v) x y →
-      (1 ≤ colour w y) ⊎ product-graph t u v .Ahead x (getD w (2 * size + (depth - 1)) 0) y
-  top-ahead y h =
-      let e = a .top in
-      let k : Arc (product-graph t u v) (stacked (product-graph t u v .size) w (depth - 1)) y = rw e at h in
-      rw (cursor-is, e) (a .search .ahead (depth - 1) y top-index k)
-
-  top-chained : (y : ℕ) → product-graph t u v .Ahead x (getD w (2 * size + (depth - 1)) 0) y → Arc (product-graph t u v) x y
-  top-chained y h =
-      let e = a .top in
-      rw e (a .search .on-chain (depth - 1) y top-index (rw (cursor-is, e) at h))
+  cursor-to = top-place .number-to
 
   module _ {letter base : ℕ} (is-letter : letter ≡ node-letter states u v x) (is-base : base ≡ node-base states u v x) where
     -- the chain of its edges, from its cursor on
@@ -108,7 +98,7 @@ module _ {wd : Width} {t u v w : List ℕ} {states size x depth : ℕ} (a : Top-
     none-white (no-white e f) z =
         all-visited refl
         (λ y h.
-        elim (top-ahead y h) [ inl o ↦ o | inr o ↦ f y (to-chain o) ])
+        elim (top-place .ahead y h) [ inl o ↦ o | inr o ↦ f y (to-chain o) ])
     none-white (white-at h) z = absurd (let o = h .from-one in omega arith)
 
     -- the next white target enters
@@ -166,7 +156,7 @@ module _ {wd : Width} {t u v w : List ℕ} {states size x depth : ℕ} (a : Top-
               (enters (product-graph t u v .size) w (base + to) (product-graph t u v .first (base + to)) depth (a .search .long) to-inside to-room to-white)
 
           to-edge : Arc (product-graph t u v) x (base + to)
-          to-edge = top-chained (base + to) (from-chain (rw target-is at (h .edge)))
+          to-edge = top-place .on-chain (base + to) (from-chain (rw target-is at (h .edge)))
 
           to-reached : Node-reached (product-graph t u v) (base + to)
           to-reached =
@@ -196,7 +186,7 @@ module _ {wd : Width} {t u v w : List ℕ} {states size x depth : ℕ} (a : Top-
           next-advances : Advances (product-graph t u v .size) w1 (set w1 (2 * size + (depth - 1)) next) (depth - 1) next
           unfolding advanced
           next-advances =
-              rw (a .given .sized) (advances (product-graph t u v .size) w1 (depth - 1) next (deeper-search .long) top-place)
+              rw (a .given .sized) (advances (product-graph t u v .size) w1 (depth - 1) next (deeper-search .long) top-fits)
 
           next-to : next ≤ product-graph t u v .last
           unfolding product-graph
@@ -230,4 +220,4 @@ module _ {wd : Width} {t u v w : List ℕ} {states size x depth : ℕ} (a : Top-
               (grows-grows (enter-grows bounded (a .search) to-inside to-white to-enters)
               (advance-grows bounded deeper-search next-advances))
               (let p = enter-whites bounded (a .search) to-inside to-white to-enters in
-              let q = advance-whites bounded deeper-search next-advances in omega arith)
+              let q = grows-whites (advance-grows bounded deeper-search next-advances) in omega arith)

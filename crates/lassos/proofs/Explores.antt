@@ -20,7 +20,7 @@ use Rattle.lassos.specs.Graph.{Graph, Arc, Bounded, stay}
 use Rattle.lassos.specs.Product.{product-graph}
 use Rattle.lassos.specs.Search.{colour, stacked, whites, risen, entered, Search, Grows, Inner-says, met, none}
 use Rattle.lassos.specs.Steps.{Width, Few, Raise-asks, Given, Meets-asks, Top-asks, Descended, deeper, all-visited, Finished, closes, black, red, Enter-asks, Search-asks, Explored, found, exhausted, Try-asks, Try-says, tried, Searched, nothing}
-use Rattle.lassos.proofs.Colours.{grows-grows, grows-same, stays-grey}
+use Rattle.lassos.proofs.Colours.{grows-grows, grows-same, grows-whites, stays-grey}
 use Rattle.lassos.proofs.Given.{size-is, given-bounded, given-reads, given-some, given-small, given-first, given-state}
 use Rattle.lassos.proofs.Outer.{enter-grows, enter-keeps, none-found, Left-off, black-leaves, red-leaves, grey-cycle}
 use Rattle.lassos.proofs.Stores.{recolours, Enters, enters}
@@ -147,7 +147,7 @@ module _ {wd : Width} {t u v w : List ℕ} {states size : ℕ} {w1 : List ℕ} {
   search-top = rw from-top at (h .exploring .search)
 
   inside-top : x < product-graph t u v .size
-  inside-top = rw (h .top) (search-top .inside (depth - 1) (omega arith))
+  inside-top = rw (h .top) (search-top .stack .places (depth - 1) (omega arith) .inside)
 
   grey-top : colour w1 x ≡ 1
   grey-top = rw (h .top) (search-top .grey (depth - 1) (omega arith))
@@ -164,7 +164,7 @@ module _ {wd : Width} {t u v w : List ℕ} {states size : ℕ} {w1 : List ℕ} {
               grey = grey-top;
               begun = h .done;
               finished = s .finished;
-              closed = record { edges = s .red };
+              closed = s .closed;
             };
       }
 
@@ -205,7 +205,7 @@ module _ {wd : Width} {t u v w : List ℕ} {states size : ℕ} {w1 : List ℕ} {
       {w0 w2 : List ℕ} {r : Bool} → w1 ≡ w0 → Finished (product-graph t u v) x w1 w2 r → r ≡ false →
       2 * whites size w2 + (depth - 1) < 2 * whites size w0 + depth
   finishing-less s f e =
-      let k = finishing-off f e .fewer in
+      let k = grows-whites (finishing-off f e .grows) in
       let o = h .from-one in rw (h .exploring .given .sized, ← s) (omega arith)
 
 -- ONE STATE at the first position

@@ -4,14 +4,15 @@ use mathlib.Core.Path.{_≡_, sym, _∙_, ap}
 use mathlib.Core.Bool.{true, false}
 use mathlib.Core.List.{List}
 use mathlib.Core.Logic.{_⊎_, inl, inr}
-use Prim.Native.Nat.{ℕ, zero, suc, _≤_, _<_}
+use Prim.Native.Nat.{ℕ, suc, _≤_, _<_}
 use native.Mathlib.Omega.{arith}
 use lib.ListN.{length}
 use Rattle.basics.proofs.Booleans.{clash, same-or}
 use Rattle.basics.proofs.Bounded.{one-entry-more}
+use Rattle.basics.proofs.Upward.{upward}
 use Rattle.lassos.specs.Graph.{Graph, Arc, Bounded, Way, stay, onward, Node-reached, Cycle, Found}
-use Rattle.lassos.specs.Search.{colour, stacked, cursor, whites, Search, Grows, Redder, Red-closed}
-use Rattle.lassos.proofs.Colours.{grows-grows, coloured-mono, coloured-less, stays-visited, stays-grey, was-grey, was-white, was-visited, was-finished}
+use Rattle.lassos.specs.Search.{colour, stacked, cursor, whites, Place, Stack, Red-closed, Search, Grows, Redder}
+use Rattle.lassos.proofs.Colours.{coloured-less, grows-grows, grows-whites, stays-visited, stays-grey, was-grey, was-visited, was-finished}
 use Rattle.lassos.proofs.Stores.{Recolours, Enters, Advances}
 
 -- WAYS
@@ -23,9 +24,38 @@ way-way p (onward z q e) = onward z (way-way p q) e
 pub record Left-off (g : Graph) (w w′ : List ℕ) (d : ℕ) : Type 0 where
   pub search : Search g w′ d
   pub grows : Grows (g .size) w w′
-  pub fewer : whites (g .size) w′ ≤ whites (g .size) w
+
+-- THE STACK, or the lower part of it: the same nodes, each at a place again
+stack-same :
+    {g : Graph} {w w′ : List ℕ} {d d′ : ℕ} → Stack g w d → d′ ≤ d → ((i : ℕ) → i < d′ → stacked (g .size) w′ i ≡ stacked (g .size) w i) →
+    ((i : ℕ) → i < d′ → Place g w′ (stacked (g .size) w i) (cursor (g .size) w′ i)) → Stack g w′ d′
+stack-same h l same place =
+    record {
+      places = λ i b. rw (same i b) (place i b);
+      distinct = λ i j lt b s. h .distinct i j lt (omega arith) (sym (same i (omega arith)) ∙ s ∙ same j b);
+      linked = λ i b. rw (same i (omega arith), same (suc i) b) (h .linked i (omega arith));
+    }
 
 module _ {g : Graph} (closed : Bounded g) where
+  -- a place stays one where visited nodes stay visited
+  place-grows : {w w′ : List ℕ} {x r : ℕ} → Grows (g .size) w w′ → Place g w x r → Place g w′ x r
+  place-grows {x = x} e p =
+      record {
+        inside = p .inside;
+        number-to = p .number-to;
+        on-chain = p .on-chain;
+        ahead =
+            λ y t. elim (p .ahead y t) [ inl v ↦ inl (e .stays y (closed .edge x y (p .inside) t) v) | inr v ↦ inr v ];
+      }
+
+  -- what every edge hands on, every way does
+  way-keeps :
+      (P : ℕ → Type 0) → ((x y : ℕ) → x < g .size → P x → Arc g x y → P y) → {x y : ℕ} → x < g .size → P x → Way g x y →
+      (y < g .size) × P y
+  way-keeps P f l k stay = (l, k)
+  way-keeps P f l k (onward {y} z p t) =
+      let q = way-keeps P f l k p in (closed .edge y z (q .0) t, f y z (q .0) (q .1) t)
+
   -- A NODE ENTERS: a white node that is reached, with an edge from the top of the stack
   module _ {w w′ : List ℕ} {d x : ℕ} (h : Search g w d) (l : x < g .size) (white : colour w x ≡ 0) (e : Enters (g .size) w w′ x (g .first x) d) where
     enter-colour : (y : ℕ) → y < g .size → (y ≡ x) ⊎ (colour w′ y ≡ colour w y)
@@ -52,27 +82,38 @@ module _ {g : Graph} (closed : Bounded g) where
       other-stacked i b s = let k = h .grey i b in let z : colour w x ≡ 1 = rw s at k in omega arith
 
       kept-colour : (i : ℕ) → i < d → colour w′ (stacked (g .size) w i) ≡ 1
-      kept-colour i b = e .others (stacked (g .size) w i) (h .inside i b) (other-stacked i b) ∙ h .grey i b
+      kept-colour i b = e .others (stacked (g .size) w i) (h .stack .places i b .inside) (other-stacked i b) ∙ h .grey i b
 
-      enter-stack : (i : ℕ) → i < suc d → ((i ≡ d) × (stacked (g .size) w′ i ≡ x)) ⊎ ((i < d) × (stacked (g .size) w′ i ≡ stacked (g .size) w i))
-      enter-stack = one-entry-more (e .top) (e .below)
+      enter-place : (i : ℕ) → i < suc d → ((i ≡ d) × (stacked (g .size) w′ i ≡ x)) ⊎ ((i < d) × (stacked (g .size) w′ i ≡ stacked (g .size) w i))
+      enter-place = one-entry-more (e .top) (e .below)
 
-      enter-linked : (i : ℕ) → suc i < suc d → Arc g (stacked (g .size) w′ i) (stacked (g .size) w′ (suc i))
-      enter-linked i b =
-          let lt : i < d = omega arith in
-          elim (enter-stack (suc i) b) [
-            | inl s ↦ rw (s .1, e .below i lt) (link i (s .0))
-            | inr s ↦ rw (s .1, e .below i lt) (h .linked i (s .0))
-          ]
-
-      enter-distinct : (i j : ℕ) → i < j → j < suc d → stacked (g .size) w′ i ≡ stacked (g .size) w′ j → ⊥
-      enter-distinct i j lt b s =
-          let li : i < d = omega arith in
-          let below = e .below i li in
-          elim (enter-stack j b) [
-            | inl t ↦ other-stacked i li (sym below ∙ s ∙ t .1)
-            | inr t ↦ h .distinct i j lt (t .0) (sym below ∙ s ∙ t .1)
-          ]
+      enter-stack : Stack g w′ (suc d)
+      enter-stack =
+          record {
+            places =
+                λ i b.
+                elim (enter-place i b) [
+                  | inl s ↦
+                      let first : cursor (g .size) w′ i ≡ g .first x = rw (s .0) (e .at-first) in
+                      rw (s .1, first) (record { inside = l; number-to = small; on-chain = λ y t. t; ahead = λ y t. inr t })
+                  | inr s ↦ rw (s .1, e .cursors i (s .0)) (place-grows enter-grows (h .stack .places i (s .0)))
+                ];
+            distinct =
+                λ i j lt b s.
+                let li : i < d = omega arith in
+                let below = e .below i li in
+                elim (enter-place j b) [
+                  | inl t ↦ other-stacked i li (sym below ∙ s ∙ t .1)
+                  | inr t ↦ h .stack .distinct i j lt (t .0) (sym below ∙ s ∙ t .1)
+                ];
+            linked =
+                λ i b.
+                let lt : i < d = omega arith in
+                elim (enter-place (suc i) b) [
+                  | inl s ↦ rw (s .1, e .below i lt) (link i (s .0))
+                  | inr s ↦ rw (s .1, e .below i lt) (h .stack .linked i (s .0))
+                ];
+          }
 
       enter-found : (y : ℕ) → y < g .size → colour w′ y ≡ 1 → (i : ℕ) × (i < suc d) × (stacked (g .size) w′ i ≡ y)
       enter-found y b k =
@@ -81,26 +122,12 @@ module _ {g : Graph} (closed : Bounded g) where
             | inr s ↦ let r = h .on-stack y b (sym s ∙ k) in (r .0, (let t = r .1 in omega arith), e .below (r .0) (r .1) ∙ r .2)
           ]
 
-      enter-ahead :
-          (i z : ℕ) → i < suc d → Arc g (stacked (g .size) w′ i) z →
-          (1 ≤ colour w′ z) ⊎ g .Ahead (stacked (g .size) w′ i) (cursor (g .size) w′ i) z
-      enter-ahead i z b t =
-          elim (enter-stack i b) [
-            | inl s ↦ let first : cursor (g .size) w′ i ≡ g .first x = rw (s .0) (e .at-first) in inr (rw (s .1, first) (rw (s .1) at t))
-            | inr s ↦
-                let old : Arc g (stacked (g .size) w i) z = rw (s .1) at t in
-                elim (h .ahead i z (s .0) old) [
-                  | inl v ↦ inl (enter-grows .stays z (closed .edge (stacked (g .size) w i) z (h .inside i (s .0)) old) v)
-                  | inr v ↦ inr (rw (s .1, e .cursors i (s .0)) v)
-                ]
-          ]
-
       enter-old : (y : ℕ) → y < g .size → 2 ≤ colour w′ y → colour w′ y ≡ colour w y
       enter-old y b o = e .others y b (λ s. let k = e .here in let z : 2 ≤ colour w′ x = rw s at o in omega arith)
 
       enter-red : (y z : ℕ) → y < g .size → colour w′ y ≡ 3 → Arc g y z → colour w′ z ≡ 3
       enter-red y z b o t =
-          let k = h .red y z b (sym (enter-old y b (omega arith)) ∙ o) t in
+          let k = h .closed .edges y z b (sym (enter-old y b (omega arith)) ∙ o) t in
           e .others z (closed .edge y z b t) (λ s. let q : colour w x ≡ 3 = rw s at k in omega arith) ∙ k
 
       pub enter-keeps : Search g w′ (suc d)
@@ -108,30 +135,15 @@ module _ {g : Graph} (closed : Bounded g) where
           record {
             long = let k = e .size in let j = h .long in omega arith;
             room = let k = h .room in let j = enter-whites in omega arith;
-            inside = λ i b. elim (enter-stack i b) [ inl s ↦ rw (s .1) l | inr s ↦ rw (s .1) (h .inside i (s .0)) ];
-            grey = λ i b. elim (enter-stack i b) [ inl s ↦ rw (s .1) (e .here) | inr s ↦ rw (s .1) (kept-colour i (s .0)) ];
-            distinct = enter-distinct;
+            stack = enter-stack;
+            grey = λ i b. elim (enter-place i b) [ inl s ↦ rw (s .1) (e .here) | inr s ↦ rw (s .1) (kept-colour i (s .0)) ];
             on-stack = enter-found;
-            linked = enter-linked;
             reached =
                 λ y b o. elim (enter-colour y b) [ inl s ↦ rw s found | inr s ↦ h .reached y b (omega arith) ];
-            cursors =
-                λ i b.
-                elim (enter-stack i b) [
-                  | inl s ↦ rw (s .0, e .at-first) small
-                  | inr s ↦ rw (e .cursors i (s .0)) (h .cursors i (s .0))
-                ];
-            on-chain =
-                λ i z b k.
-                elim (enter-stack i b) [
-                  | inl s ↦ let first : cursor (g .size) w′ i ≡ g .first x = rw (s .0) (e .at-first) in rw (s .1) (rw (s .1, first) at k)
-                  | inr s ↦ rw (s .1) (h .on-chain i z (s .0) (rw (s .1, e .cursors i (s .0)) at k))
-                ];
-            ahead = enter-ahead;
             finished =
                 λ y z b o t.
                 enter-grows .stays z (closed .edge y z b t) (h .finished y z b (let k = enter-old y b o in omega arith) t);
-            red = enter-red;
+            closed = record { edges = enter-red };
             fruitless = λ y b o. h .fruitless y b (let k = enter-old y b o in omega arith);
           }
 
@@ -140,59 +152,45 @@ module _ {g : Graph} (closed : Bounded g) where
     pub advance-grows : Grows (g .size) w w′
     advance-grows = record { stays = λ y b o. let k = e .colours y b in omega arith }
 
-    pub advance-whites : whites (g .size) w′ ≤ whites (g .size) w
-    advance-whites = coloured-mono 0 (g .size) w w′ (λ y b z. sym (e .colours y b) ∙ z)
-
     pub advance-keeps :
         {x : ℕ} → stacked (g .size) w p ≡ x → r ≤ g .last →
         ((y : ℕ) → g .Ahead x r y → g .Ahead x (cursor (g .size) w p) y) →
         ((y : ℕ) → g .Ahead x (cursor (g .size) w p) y → (1 ≤ colour w y) ⊎ g .Ahead x r y) → Search g w′ d
     advance-keeps {x} at-x small fewer passed =
         let fits : d ≤ g .size = (let k = h .room in omega arith) in
+        let moved : Place g w x (cursor (g .size) w p) → Place g w x r =
+        λ q.
+        (record {
+          inside = q .inside;
+          number-to = small;
+          on-chain = λ y k. q .on-chain y (fewer y k);
+          ahead = λ y t. elim (q .ahead y t) [ inl v ↦ inl v | inr v ↦ passed y v ];
+        }) in
         record {
           long = let k = e .size in let j = h .long in omega arith;
-          room = let k = h .room in let j = advance-whites in omega arith;
-          inside = λ i b. rw (e .stack i (omega arith)) (h .inside i b);
-          grey = λ i b. rw (e .stack i (omega arith)) (e .colours (stacked (g .size) w i) (h .inside i b) ∙ h .grey i b);
-          distinct = λ i j lt b s. h .distinct i j lt b (sym (e .stack i (omega arith)) ∙ s ∙ e .stack j (omega arith));
+          room = let k = h .room in let j = grows-whites advance-grows in omega arith;
+          stack =
+              stack-same (h .stack) (omega arith) (λ i b. e .stack i (omega arith))
+              (λ i b.
+              let q = h .stack .places i b in
+              place-grows advance-grows
+              (elim (same-or i p) [
+                | inl s ↦ rw (s, at-x, e .here) (moved (rw (s, at-x) at q))
+                | inr ne ↦ rw (e .others i ne) q
+              ]));
+          grey = λ i b. rw (e .stack i (omega arith)) (e .colours (stacked (g .size) w i) (h .stack .places i b .inside) ∙ h .grey i b);
           on-stack =
               λ y b k.
               let s = h .on-stack y b (sym (e .colours y b) ∙ k) in
               (s .0, s .1, e .stack (s .0) (let t = s .1 in omega arith) ∙ s .2);
-          linked = λ i b. rw (e .stack i (omega arith), e .stack (suc i) (omega arith)) (h .linked i b);
           reached = λ y b o. h .reached y b (let k = e .colours y b in omega arith);
-          cursors =
-              λ i b. elim (same-or i p) [ inl s ↦ rw (s, e .here) small | inr ne ↦ rw (e .others i ne) (h .cursors i b) ];
-          on-chain =
-              λ i z b k.
-              let k′ : g .Ahead (stacked (g .size) w i) (cursor (g .size) w′ i) z = rw (e .stack i (omega arith)) at k in
-              rw (e .stack i (omega arith))
-              (h .on-chain i z b
-              (elim (same-or i p) [
-                | inl s ↦
-                    let f = e .here in rw (s, at-x) (fewer z (rw (s, at-x, f) at k′))
-                | inr ne ↦ rw (e .others i ne) at k′
-              ]));
-          ahead =
-              λ i z b t.
-              let t′ : Arc g (stacked (g .size) w i) z = rw (e .stack i (omega arith)) at t in
-              let lift : 1 ≤ colour w z → 1 ≤ colour w′ z =
-              advance-grows .stays z (closed .edge (stacked (g .size) w i) z (h .inside i b) t′) in
-              rw (e .stack i (omega arith))
-              (elim (h .ahead i z b t′) [
-                | inl v ↦ inl (lift v)
-                | inr v ↦
-                    elim (same-or i p) [
-                      | inl s ↦
-                          elim (passed z (rw (s, at-x) at v)) [ inl q ↦ inl (lift q) | inr q ↦ inr (rw (s, at-x, e .here) q) ]
-                      | inr ne ↦ inr (rw (e .others i ne) v)
-                    ]
-              ]);
           finished =
               λ y z b o t.
               advance-grows .stays z (closed .edge y z b t) (h .finished y z b (let k = e .colours y b in omega arith) t);
-          red =
-              λ y z b o t. e .colours z (closed .edge y z b t) ∙ h .red y z b (sym (e .colours y b) ∙ o) t;
+          closed =
+              record {
+                edges = λ y z b o t. e .colours z (closed .edge y z b t) ∙ h .closed .edges y z b (sym (e .colours y b) ∙ o) t;
+              };
           fruitless = λ y b o. h .fruitless y b (let k = e .colours y b in omega arith);
         }
 
@@ -209,17 +207,8 @@ module _ {g : Graph} (closed : Bounded g) where
               λ y b o. elim (leave-colour y) [ inl s ↦ (let k = e .here in rw s (omega arith)) | inr s ↦ omega arith ];
         }
 
-    pub leave-whites : whites (g .size) w′ ≤ whites (g .size) w
-    leave-whites =
-        coloured-mono 0 (g .size) w w′
-        (λ y b z.
-        elim (leave-colour y) [
-          | inl s ↦ absurd (let k = e .here in let q : colour w′ (stacked (g .size) w d) ≡ 0 = rw s at z in omega arith)
-          | inr s ↦ sym s ∙ z
-        ])
-
     leave-other : (i : ℕ) → i < d → stacked (g .size) w i ≡ stacked (g .size) w d → ⊥
-    leave-other i b = h .distinct i d b (omega arith)
+    leave-other i b = h .stack .distinct i d b (omega arith)
 
     module _ (done : (y : ℕ) → Arc g (stacked (g .size) w d) y → 1 ≤ colour w y)
         (reds : c ≡ 3 → (y : ℕ) → Arc g (stacked (g .size) w d) y → colour w y ≡ 3)
@@ -240,7 +229,7 @@ module _ {g : Graph} (closed : Bounded g) where
           λ k. e .others z (λ s. let q : colour w (stacked (g .size) w d) ≡ 3 = rw s at k in omega arith) ∙ k in
           elim (leave-colour y) [
             | inl s ↦ keep (reds (sym (e .here) ∙ rw s at o) z (rw s at t))
-            | inr s ↦ keep (h .red y z b (sym s ∙ o) t)
+            | inr s ↦ keep (h .closed .edges y z b (sym s ∙ o) t)
           ]
 
       pub leave-keeps : Search g w′ d
@@ -248,37 +237,24 @@ module _ {g : Graph} (closed : Bounded g) where
           let fits : suc d ≤ g .size = (let k = h .room in omega arith) in
           record {
             long = let k = e .size in let j = h .long in omega arith;
-            room = let k = h .room in let j = leave-whites in omega arith;
-            inside = λ i b. rw (e .stack i (omega arith)) (h .inside i (omega arith));
+            room = let k = h .room in let j = grows-whites leave-grows in omega arith;
+            stack =
+                stack-same (h .stack) (omega arith) (λ i b. e .stack i (omega arith))
+                (λ i b. rw (e .cursors i (omega arith)) (place-grows leave-grows (h .stack .places i (omega arith))));
             grey =
                 λ i b. rw (e .stack i (omega arith)) (e .others (stacked (g .size) w i) (leave-other i b) ∙ h .grey i (omega arith));
-            distinct = λ i j lt b s. h .distinct i j lt (omega arith) (sym (e .stack i (omega arith)) ∙ s ∙ e .stack j (omega arith));
             on-stack = leave-found;
-            linked = λ i b. rw (e .stack i (omega arith), e .stack (suc i) (omega arith)) (h .linked i (omega arith));
             reached =
                 λ y b o.
                 elim (leave-colour y) [
-                  | inl s ↦ rw s (h .reached (stacked (g .size) w d) (h .inside d (omega arith)) (let k = h .grey d (omega arith) in omega arith))
+                  | inl s ↦ rw s (h .reached (stacked (g .size) w d) (h .stack .places d (omega arith) .inside) (let k = h .grey d (omega arith) in omega arith))
                   | inr s ↦ h .reached y b (omega arith)
-                ];
-            cursors = λ i b. rw (e .cursors i (omega arith)) (h .cursors i (omega arith));
-            on-chain =
-                λ i z b k.
-                rw (e .stack i (omega arith))
-                (h .on-chain i z (omega arith) (rw (e .stack i (omega arith), e .cursors i (omega arith)) at k));
-            ahead =
-                λ i z b t.
-                let t′ : Arc g (stacked (g .size) w i) z = rw (e .stack i (omega arith)) at t in
-                elim (h .ahead i z (omega arith) t′) [
-                  | inl v ↦
-                      inl (leave-grows .stays z (closed .edge (stacked (g .size) w i) z (h .inside i (omega arith)) t′) v)
-                  | inr v ↦ inr (rw (e .stack i (omega arith), e .cursors i (omega arith)) v)
                 ];
             finished =
                 λ y z b o t.
                 leave-grows .stays z (closed .edge y z b t)
                 (elim (leave-colour y) [ inl s ↦ done z (rw s at t) | inr s ↦ h .finished y z b (omega arith) t ]);
-            red = leave-red;
+            closed = record { edges = leave-red };
             fruitless =
                 λ y b o a q.
                 elim (leave-colour y) [
@@ -292,54 +268,34 @@ module _ {g : Graph} (closed : Bounded g) where
     pub redder-grows : Grows (g .size) w w′
     redder-grows = record { stays = stays-visited r }
 
-    pub redder-whites : whites (g .size) w′ ≤ whites (g .size) w
-    redder-whites = coloured-mono 0 (g .size) w w′ (was-white r)
-
     pub redder-keeps : length w′ ≡ length w → Red-closed g w′ → Search g w′ d
     redder-keeps same reds =
         let fits : d ≤ g .size = (let k = h .room in omega arith) in
         record {
           long = let j = h .long in omega arith;
-          room = let k = h .room in let j = redder-whites in omega arith;
-          inside = λ i b. rw (r .stack i (omega arith)) (h .inside i b);
-          grey = λ i b. rw (r .stack i (omega arith)) (stays-grey r (stacked (g .size) w i) (h .inside i b) (h .grey i b));
-          distinct = λ i j lt b s. h .distinct i j lt b (sym (r .stack i (omega arith)) ∙ s ∙ r .stack j (omega arith));
+          room = let k = h .room in let j = grows-whites redder-grows in omega arith;
+          stack =
+              stack-same (h .stack) (omega arith) (λ i b. r .stack i (omega arith))
+              (λ i b. rw (r .cursors i (omega arith)) (place-grows redder-grows (h .stack .places i b)));
+          grey = λ i b. rw (r .stack i (omega arith)) (stays-grey r (stacked (g .size) w i) (h .stack .places i b .inside) (h .grey i b));
           on-stack =
               λ y b k.
               let s = h .on-stack y b (was-grey r y b k) in
               (s .0, s .1, r .stack (s .0) (let t = s .1 in omega arith) ∙ s .2);
-          linked = λ i b. rw (r .stack i (omega arith), r .stack (suc i) (omega arith)) (h .linked i b);
           reached = λ y b o. h .reached y b (was-visited r y b o);
-          cursors = λ i b. rw (r .cursors i (omega arith)) (h .cursors i b);
-          on-chain =
-              λ i z b k.
-              rw (r .stack i (omega arith))
-              (h .on-chain i z b (rw (r .stack i (omega arith), r .cursors i (omega arith)) at k));
-          ahead =
-              λ i z b t.
-              let t′ : Arc g (stacked (g .size) w i) z = rw (r .stack i (omega arith)) at t in
-              elim (h .ahead i z b t′) [
-                | inl v ↦ inl (redder-grows .stays z (closed .edge (stacked (g .size) w i) z (h .inside i b) t′) v)
-                | inr v ↦ inr (rw (r .stack i (omega arith), r .cursors i (omega arith)) v)
-              ];
           finished =
               λ y z b o t. redder-grows .stays z (closed .edge y z b t) (h .finished y z b (was-finished r y b o) t);
-          red = reds .edges;
+          closed = reds;
           fruitless = λ y b o. h .fruitless y b (was-finished r y b o);
         }
 
-  -- a way from a red node leads to red nodes
-  red-way : {w : List ℕ} {x y : ℕ} → Red-closed g w → x < g .size → colour w x ≡ 3 → Way g x y → (y < g .size) × (colour w y ≡ 3)
-  red-way c l k stay = (l, k)
-  red-way c l k (onward {y} z p t) =
-      let q = red-way c l k p in (closed .edge y z (q .0) t, c .edges y z (q .0) (q .1) t)
-
-  -- so a node that is not red, and whose targets are red, lies on no cycle
+  -- a way from a red node leads to red nodes, so a node that is not red, and whose targets are red, lies on no cycle
   pub red-no-cycle :
       {w : List ℕ} {x : ℕ} → Red-closed g w → x < g .size → colour w x ≡ 1 → ((y : ℕ) → Arc g x y → colour w y ≡ 3) →
       Cycle g x → ⊥
   red-no-cycle {w} {x} c l k reds q =
-      let s = red-way c (closed .edge x (q .behind) l (q .leaves)) (reds (q .behind) (q .leaves)) (q .returns) in
+      let s =
+      way-keeps (λ y. colour w y ≡ 3) (c .edges) (closed .edge x (q .behind) l (q .leaves)) (reds (q .behind) (q .leaves)) (q .returns) in
       let z = s .1 in omega arith
 
   -- THE TOP, FINISHED: black where it does not accept
@@ -353,7 +309,6 @@ module _ {g : Graph} (closed : Bounded g) where
             leave-keeps h e′ (omega arith) (rw top at done) (λ z. absurd (omega arith))
             (λ accepts cycle. clash accepts (rw top at rejects));
         grows = leave-grows h e′ (omega arith);
-        fewer = leave-whites h e′ (omega arith);
       }
 
   -- red after an inner search that met no grey node: then all its targets are red, and it lies on no cycle
@@ -366,7 +321,7 @@ module _ {g : Graph} (closed : Bounded g) where
       let h1 = redder-keeps h r same c in
       let e′ : Recolours (g .size) w1 w′ (stacked (g .size) w1 d) 3 = rw top1 at e in
       let grey : colour w1 x ≡ 1 = rw top1 (h1 .grey d (omega arith)) in
-      let inside : x < g .size = rw top1 (h1 .inside d (omega arith)) in
+      let inside : x < g .size = rw top1 (h1 .stack .places d (omega arith) .inside) in
       let no-cycle : Cycle g x → ⊥ = red-no-cycle c inside grey reds in
       let visited : (y : ℕ) → Arc g x y → 1 ≤ colour w1 y = λ y t. (let k = reds y t in omega arith) in
       record {
@@ -374,18 +329,13 @@ module _ {g : Graph} (closed : Bounded g) where
             leave-keeps h1 e′ (omega arith) (rw top1 at visited) (λ z. rw top1 at reds)
             (λ accepts. rw top1 at no-cycle);
         grows = grows-grows (redder-grows h r) (leave-grows h1 e′ (omega arith));
-        fewer =
-            let p = redder-whites h r in let q = leave-whites h1 e′ (omega arith) in omega arith;
       }
 
   -- A GREY NODE that the inner search meets: from it the stack leads on to the top
   stack-way : {w : List ℕ} {d : ℕ} → Search g w d → (i j : ℕ) → i ≤ j → j < d → Way g (stacked (g .size) w i) (stacked (g .size) w j)
-  stack-way h i zero l b = let z : i ≡ 0 = omega arith in rw z stay
-  stack-way {w} h i (suc j) l b =
-      elim (same-or i (suc j)) [
-        | inl e ↦ rw e stay
-        | inr ne ↦ onward (stacked (g .size) w (suc j)) (stack-way h i j (omega arith) (omega arith)) (h .linked j b)
-      ]
+  stack-way {w} {d} h i =
+      upward (λ j. j < d → Way g (stacked (g .size) w i) (stacked (g .size) w j)) i (λ b. stay)
+      (λ j l p b. onward (stacked (g .size) w (suc j)) (p (omega arith)) (h .stack .linked j b))
 
   pub grey-cycle :
       {w : List ℕ} {d : ℕ} → Search g w (suc d) → (y z : ℕ) → Arc g (stacked (g .size) w d) z → Way g z y → y < g .size →
@@ -396,7 +346,7 @@ module _ {g : Graph} (closed : Bounded g) where
       rw (s .2) at (stack-way h (s .0) d (let m = s .1 in omega arith) (omega arith)) in
       record {
         node = stacked (g .size) w d;
-        reached = h .reached (stacked (g .size) w d) (h .inside d (omega arith)) (let j = h .grey d (omega arith) in omega arith);
+        reached = h .reached (stacked (g .size) w d) (h .stack .places d (omega arith) .inside) (let j = h .grey d (omega arith) in omega arith);
         accepts = a;
         cycle = record { behind = z; leaves = t; returns = way-way p back };
       }
@@ -410,15 +360,11 @@ module _ {g : Graph} (closed : Bounded g) where
           | inr ne ↦ omega arith
         ]
 
-    visited-way : {x y : ℕ} → x < g .size → 1 ≤ colour w x → Way g x y → (y < g .size) × (1 ≤ colour w y)
-    visited-way l o stay = (l, o)
-    visited-way l o (onward {y} z p t) =
-        let q = visited-way l o p in
-        (closed .edge y z (q .0) t, h .finished y z (q .0) (not-grey y (q .0) (q .1)) t)
-
     -- no accepting node that is reached lies on a cycle
     pub none-found : Found g → ⊥
     none-found f =
         let s = f .reached in
-        let q = visited-way (closed .start (s .start) (s .begins)) (all (s .start) (s .begins)) (s .way) in
+        let q =
+        way-keeps (λ x. 1 ≤ colour w x) (λ x y l o. h .finished x y l (not-grey x l o)) (closed .start (s .start) (s .begins))
+        (all (s .start) (s .begins)) (s .way) in
         h .fruitless (f .node) (q .0) (not-grey (f .node) (q .0) (q .1)) (f .accepts) (f .cycle)

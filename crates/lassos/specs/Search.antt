@@ -56,29 +56,36 @@ advanced n w i r = set w (2 * n + i) r
 unfoldable pub reddened : (size : ℕ) → (words : List ℕ) → (node wait : ℕ) → List ℕ
 reddened n w x i = set (risen w x 1) (3 * n + i) x
 
+-- a place of the stack: a node, and the record of its chain that its cursor stands at; its targets are visited or still ahead
+pub record Place (g : Graph) (w : List ℕ) (node number : ℕ) : Type 0 where
+  pub inside : node < g .size
+  pub number-to : number ≤ g .last
+  pub on-chain : (y : ℕ) → g .Ahead node number y → Arc g node y
+  pub ahead : (y : ℕ) → Arc g node y → (1 ≤ colour w y) ⊎ g .Ahead node number y
+
+-- the stack: so many places, their nodes distinct, each with an edge to the next
+pub record Stack (g : Graph) (w : List ℕ) (depth : ℕ) : Type 0 where
+  pub places : (i : ℕ) → i < depth → Place g w (stacked (g .size) w i) (cursor (g .size) w i)
+  pub distinct : (i j : ℕ) → i < j → j < depth → stacked (g .size) w i ≡ stacked (g .size) w j → ⊥
+  pub linked : (i : ℕ) → suc i < depth → Arc g (stacked (g .size) w i) (stacked (g .size) w (suc i))
+
+-- all edges of red nodes lead to red nodes
+pub record Red-closed (g : Graph) (w : List ℕ) : Type 0 where
+  pub edges : (x y : ℕ) → x < g .size → colour w x ≡ 3 → Arc g x y → colour w y ≡ 3
+
 -- THE INVARIANT of the outer search, depth first: so many nodes are on the stack
 pub record Search (g : Graph) (w : List ℕ) (depth : ℕ) : Type 0 where
   pub long : 4 * g .size ≤ length w
   pub room : depth + whites (g .size) w ≤ g .size
-  -- the stack: nodes, grey, distinct, all the grey ones, each with an edge to the next
-  pub inside : (i : ℕ) → i < depth → stacked (g .size) w i < g .size
+  -- the grey nodes are those of the stack
+  pub stack : Stack g w depth
   pub grey : (i : ℕ) → i < depth → colour w (stacked (g .size) w i) ≡ 1
-  pub distinct : (i j : ℕ) → i < j → j < depth → stacked (g .size) w i ≡ stacked (g .size) w j → ⊥
   pub on-stack : (x : ℕ) → x < g .size → colour w x ≡ 1 → (i : ℕ) × (i < depth) × (stacked (g .size) w i ≡ x)
-  pub linked : (i : ℕ) → suc i < depth → Arc g (stacked (g .size) w i) (stacked (g .size) w (suc i))
-  -- their cursors are on their chains; their targets are visited or still ahead
-  pub cursors : (i : ℕ) → i < depth → cursor (g .size) w i ≤ g .last
-  pub on-chain :
-      (i y : ℕ) → i < depth → g .Ahead (stacked (g .size) w i) (cursor (g .size) w i) y →
-      Arc g (stacked (g .size) w i) y
-  pub ahead :
-      (i y : ℕ) → i < depth → Arc g (stacked (g .size) w i) y →
-      (1 ≤ colour w y) ⊎ g .Ahead (stacked (g .size) w i) (cursor (g .size) w i) y
   -- visited nodes are reached
   pub reached : (x : ℕ) → x < g .size → 1 ≤ colour w x → Node-reached g x
   -- finished nodes: their targets are visited, those of red ones red, and no accepting one lies on a cycle
   pub finished : (x y : ℕ) → x < g .size → 2 ≤ colour w x → Arc g x y → 1 ≤ colour w y
-  pub red : (x y : ℕ) → x < g .size → colour w x ≡ 3 → Arc g x y → colour w y ≡ 3
+  pub closed : Red-closed g w
   pub fruitless : (x : ℕ) → x < g .size → 2 ≤ colour w x → g .accepts x ≡ true → Cycle g x → ⊥
 
 -- what was visited stays visited
@@ -91,10 +98,6 @@ pub record Redder (size : ℕ) (w w-now : List ℕ) : Type 0 where
       (x : ℕ) → x < size → (colour w-now x ≡ colour w x) ⊎ ((colour w x ≡ 2) × (colour w-now x ≡ 3))
   pub stack : (i : ℕ) → i < size → stacked size w-now i ≡ stacked size w i
   pub cursors : (i : ℕ) → i < size → cursor size w-now i ≡ cursor size w i
-
--- all edges of red nodes lead to red nodes
-pub record Red-closed (g : Graph) (w : List ℕ) : Type 0 where
-  pub edges : (x y : ℕ) → x < g .size → colour w x ≡ 3 → Arc g x y → colour w y ≡ 3
 
 -- what the inner search asks: its node is grey, its targets are visited, and so are those of finished nodes
 pub record Inner-asks (g : Graph) (s : ℕ) (w : List ℕ) : Type 0 where
