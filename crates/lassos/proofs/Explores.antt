@@ -21,6 +21,7 @@ use Rattle.lassos.specs.Product.{product-graph}
 use Rattle.lassos.specs.Search.{colour, stacked, whites, risen, entered, Search, Grows, Inner-says, met, none}
 use Rattle.lassos.specs.Steps.{Width, Few, Raise-asks, Given, Meets-asks, Top-asks, Descended, deeper, all-visited, Finished, closes, black, red, Enter-asks, Search-asks, Explored, found, exhausted, Try-asks, Try-says, tried, Searched, nothing}
 use Rattle.lassos.proofs.Colours.{grows-grows, grows-same, grows-whites, stays-grey}
+use Rattle.lassos.proofs.Descends.{top-inside, top-grey}
 use Rattle.lassos.proofs.Given.{size-is, given-bounded, given-reads, given-some, given-small, given-first, given-state}
 use Rattle.lassos.proofs.Outer.{enter-grows, enter-keeps, none-found, Left-off, black-leaves, red-leaves, grey-cycle}
 use Rattle.lassos.proofs.Stores.{recolours, Enters, enters}
@@ -116,20 +117,21 @@ module _ {wd : Width} {t u v w : List ℕ} {states size : ℕ} {w1 w2 : List ℕ
   deeper-less (deeper s g l) e = rw (h .given .sized) (omega arith)
   deeper-less (all-visited s f) e = absurd (clash e refl)
 
--- FINISHED: all targets of the top are visited
+-- FINISHED: the top, all of whose targets are visited, in a search that has gone on since the words w
 pub record Finishing (wd : Width) (t u v w : List ℕ) (states size : ℕ) (w-now : List ℕ) (x depth : ℕ) : Type 0 where
-  pub exploring : Exploring wd t u v w states size w-now depth
-  pub from-one : 0 < depth
-  pub top : x ≡ stacked (product-graph t u v .size) w-now (depth - 1)
+  pub top : Top-asks wd t u v w-now states size x depth
   pub done : (y : ℕ) → Arc (product-graph t u v) x y → 1 ≤ colour w-now y
+  pub same : length w-now ≡ length w
+  pub grows : Grows (product-graph t u v .size) w w-now
 
 pub finishing-start :
-    {wd : Width} {t u v w : List ℕ} {states size : ℕ} {w1 w2 : List ℕ} {x depth : ℕ} {r : Bool} →
-    Exploring wd t u v w states size w1 depth → 0 < depth → x ≡ getD w1 (size + (depth - 1)) 0 →
-    Descended (product-graph t u v) w1 w2 x depth r → r ≡ false → Finishing wd t u v w states size w2 x depth
-finishing-start h o n (deeper s g l) e = absurd (clash refl e)
-finishing-start h o n (all-visited s f) e =
-    rw s (record { exploring = h; from-one = o; top = n ∙ top-is h o; done = f })
+    {wd : Width} {t u v w : List ℕ} {states size : ℕ} {w1 w2 : List ℕ} {depth : ℕ} {r : Bool} →
+    Exploring wd t u v w states size w1 depth → 0 < depth →
+    Descended (product-graph t u v) w1 w2 (getD w1 (size + (depth - 1)) 0) depth r → r ≡ false →
+    Finishing wd t u v w states size w2 (getD w1 (size + (depth - 1)) 0) depth
+finishing-start h o (deeper s g l) e = absurd (clash refl e)
+finishing-start h o (all-visited s f) e =
+    rw s (record { top = exploring-top h o; done = f; same = h .same; grows = h .grows })
 
 pub finishing-same :
     {g : Graph} {w1 w2 : List ℕ} {x depth : ℕ} {r : Bool} → Descended g w1 w2 x depth r → r ≡ false → w2 ≡ w1
@@ -138,30 +140,22 @@ finishing-same (all-visited s f) e = s
 
 module _ {wd : Width} {t u v w : List ℕ} {states size : ℕ} {w1 : List ℕ} {x depth : ℕ} (h : Finishing wd t u v w states size w1 x depth) where
   bounded : Bounded (product-graph t u v)
-  bounded = given-bounded (h .exploring .given)
-
-  from-top : depth ≡ suc (depth - 1)
-  from-top = let o = h .from-one in omega arith
+  bounded = given-bounded (h .top .given)
 
   search-top : Search (product-graph t u v) w1 (suc (depth - 1))
-  search-top = rw from-top at (h .exploring .search)
-
-  inside-top : x < product-graph t u v .size
-  inside-top = rw (h .top) (search-top .stack .places (depth - 1) (omega arith) .inside)
-
-  grey-top : colour w1 x ≡ 1
-  grey-top = rw (h .top) (search-top .grey (depth - 1) (omega arith))
+  search-top =
+      let above : depth ≡ suc (depth - 1) = (let o = h .top .from-one in omega arith) in rw above at (h .top .search)
 
   pub finishing-asks : Meets-asks wd t u v w1 states size x
   finishing-asks =
-      let s = h .exploring .search in
+      let s = h .top .search in
       record {
-        given = h .exploring .given;
+        given = h .top .given;
         asks =
             record {
               long = s .long;
-              inside = inside-top;
-              grey = grey-top;
+              inside = top-inside (h .top);
+              grey = top-grey (h .top);
               begun = h .done;
               finished = s .finished;
               closed = s .closed;
@@ -172,7 +166,7 @@ module _ {wd : Width} {t u v w : List ℕ} {states size : ℕ} {w1 : List ℕ} {
   pub finishing-found :
       {w2 : List ℕ} {r : Bool} → Finished (product-graph t u v) x w1 w2 r → r ≡ true → Explored (product-graph t u v) w w2 true
   finishing-found (closes a (met y z t p b c)) e =
-      found (grey-cycle bounded search-top y z (rw (h .top) at t) p b c (rw (h .top) at a))
+      found (grey-cycle bounded search-top y z (rw (h .top .top) at t) p b c (rw (h .top .top) at a))
   finishing-found (black a s) e = absurd (clash e refl)
   finishing-found (red w′ l i s) e = absurd (clash e refl)
 
@@ -180,13 +174,13 @@ module _ {wd : Width} {t u v w : List ℕ} {states size : ℕ} {w1 : List ℕ} {
   finishing-off : {w2 : List ℕ} {r : Bool} → Finished (product-graph t u v) x w1 w2 r → r ≡ false → Left-off (product-graph t u v) w1 w2 (depth - 1)
   finishing-off (closes a i) e = absurd (clash refl e)
   finishing-off (black a s) e =
-      black-leaves bounded search-top (h .top) (h .done) a
-      (rw s (recolours (product-graph t u v .size) w1 x 1 (search-top .long) inside-top grey-top (omega arith)))
+      black-leaves bounded search-top (h .top .top) (h .done) a
+      (rw s (recolours (product-graph t u v .size) w1 x 1 (search-top .long) (top-inside (h .top)) (top-grey (h .top)) (omega arith)))
   finishing-off (red w′ l (none r c f) s) e =
-      red-leaves bounded search-top (h .top) l r c f
+      red-leaves bounded search-top (h .top .top) l r c f
       (rw s
-      (recolours (product-graph t u v .size) w′ x 2 (let k = search-top .long in omega arith) inside-top
-      (stays-grey r x inside-top grey-top)
+      (recolours (product-graph t u v .size) w′ x 2 (let k = search-top .long in omega arith) (top-inside (h .top))
+      (stays-grey r x (top-inside (h .top)) (top-grey (h .top)))
       (omega arith)))
 
   pub finishing-left :
@@ -195,10 +189,10 @@ module _ {wd : Width} {t u v w : List ℕ} {states size : ℕ} {w1 : List ℕ} {
   finishing-left same f e =
       let k = finishing-off f e in
       record {
-        given = h .exploring .given;
-        same = same ∙ h .exploring .same;
+        given = h .top .given;
+        same = same ∙ h .same;
         search = k .search;
-        grows = grows-grows (h .exploring .grows) (k .grows);
+        grows = grows-grows (h .grows) (k .grows);
       }
 
   pub finishing-less :
@@ -206,7 +200,7 @@ module _ {wd : Width} {t u v w : List ℕ} {states size : ℕ} {w1 : List ℕ} {
       2 * whites size w2 + (depth - 1) < 2 * whites size w0 + depth
   finishing-less s f e =
       let k = grows-whites (finishing-off f e .grows) in
-      let o = h .from-one in rw (h .exploring .given .sized, ← s) (omega arith)
+      let o = h .top .from-one in rw (h .top .given .sized, ← s) (omega arith)
 
 -- ONE STATE at the first position
 module _ {wd : Width} {t u v w : List ℕ} {states size q : ℕ} (a : Try-asks wd t u v w states size q) where

@@ -1,6 +1,6 @@
 -- `lassos::outer_search::explore` meets its contract. The invariant is that of the search. The measure falls: a node that enters
 -- the stack is no longer white, and one that leaves it makes it shorter. Assumes nothing.
-use mathlib.Core.Path.{refl, _∙_}
+use mathlib.Core.Path.{_∙_}
 use Prim.Native.Nat.{_+_, _*_, _-_}
 use native.Mathlib.Omega.{arith}
 use denote.Ref.{now}
@@ -88,8 +88,7 @@ module _ (c : tie.Else1 Inv-loop μ-loop) where
       (at .loop .depth)
   finishing =
       let turn : tie.In-loop Inv-loop μ-loop = search in
-      finishing-start (at .loop .inv) (turn .loop-test .taken) refl (after .descend .ensures)
-      (c .if1 .left)
+      finishing-start (at .loop .inv) (turn .loop-test .taken) (after .descend .ensures) (c .if1 .left)
 
 finish-requires : tie.Need-finish-requires Inv-loop μ-loop
 finish-requires c κs = let left-1 : tie.Else1 Inv-loop μ-loop = search in finishing-asks (finishing left-1)
