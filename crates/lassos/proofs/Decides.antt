@@ -16,18 +16,18 @@ use Rattle.automata.specs.Decision.{takes?}
 use Rattle.automata.specs.Lasso.{positions}
 use Rattle.automata.proofs.Cycles.{takes-cycle, cycle-takes}
 use Rattle.automata.proofs.Decision.{takes-right}
-use Rattle.tables.specs.Table.{Limits, wide-range, n-of, k-of, meaning, table-refusal}
+use Rattle.tables.specs.Table.{Limits, wide-range, n-of, meaning}
 use Rattle.tables.proofs.Laws.{Valid, valid, meaning-closed}
 use Rattle.lassos.specs.Decision.{as-decision, decision, Takes-asks}
 use Rattle.lassos.specs.Graph.{Graph}
 use Rattle.lassos.specs.Product.{product-graph}
-use Rattle.lassos.specs.Refusals.{longest-part, parts-refusal, lasso-refusal}
+use Rattle.lassos.specs.Refusals.{longest-part, lasso-refusal}
 use Rattle.lassos.specs.Search.{colour, Search}
 use Rattle.lassos.specs.Steps.{Width, width-16, Width-fits, Given, Search-asks, Searched, found, nothing}
 use Rattle.lassos.specs.declared.Decision.the-variants.{Taken, NotTaken, Refused}
 use Rattle.lassos.proofs.Colours.{coloured-le}
 use Rattle.lassos.proofs.Given.{size-is}
-use Rattle.lassos.proofs.Parts.{Accepted, accepted, table-first, parts-then}
+use Rattle.lassos.proofs.Parts.{Accepted, accepted}
 use Rattle.lassos.proofs.Product.{found-cycle, cycle-found}
 
 -- THE BEGINNING: all nodes are white, and the stack is empty
@@ -153,29 +153,17 @@ as-not-taken : (r : ℕ) (b : Bool) → r ≡ 0 → b ≡ false → NotTaken ≡
 unfolding as-decision
 as-not-taken r b z e = rw (z, e)
 
--- A TABLE THAT PASSED the check: the lasso's refusals, or whether it is taken
-module _ (range : Limits) (t u v : List ℕ) (work : ℕ) (passed : table-refusal range t ≡ 0) {n k x : ℕ} (is-n : n ≡ n-of t) (is-k : k ≡ k-of t)
-    (is-refusal : x ≡ parts-refusal n k u v work) where
-  pub checked-none : x ≡ 0 → lasso-refusal range t u v work ≡ 0
-  checked-none z = sym (parts-then range t u v work passed is-n is-k is-refusal) ∙ z
-
-  pub checked-refused : (x ≡ 0 → ⊥) → Refused x ≡ decision range t u v work
+-- A REFUSAL'S NUMBER that is the definition's, and whether the lasso is taken: the answer
+module _ (range : Limits) (t u v : List ℕ) (work : ℕ) {x : ℕ} (is-refusal : x ≡ lasso-refusal range t u v work) where
+  pub decided-refused : (x ≡ 0 → ⊥) → Refused x ≡ decision range t u v work
   unfolding decision
-  checked-refused ne =
-      rw (← parts-then range t u v work passed is-n is-k is-refusal) (as-refused x (takes? (meaning t) u v) ne)
+  decided-refused ne = rw (← is-refusal) (as-refused x (takes? (meaning t) u v) ne)
 
   module _ (z : x ≡ 0) {b : Bool} (is-taken : b ≡ takes? (meaning t) u v) where
-    pub checked-taken : b ≡ true → Taken ≡ decision range t u v work
+    pub decided-taken : b ≡ true → Taken ≡ decision range t u v work
     unfolding decision
-    checked-taken e = as-taken (lasso-refusal range t u v work) (takes? (meaning t) u v) (checked-none z) (sym is-taken ∙ e)
+    decided-taken e = as-taken (lasso-refusal range t u v work) (takes? (meaning t) u v) (sym is-refusal ∙ z) (sym is-taken ∙ e)
 
-    pub checked-not-taken : b ≡ false → NotTaken ≡ decision range t u v work
+    pub decided-not-taken : b ≡ false → NotTaken ≡ decision range t u v work
     unfolding decision
-    checked-not-taken e = as-not-taken (lasso-refusal range t u v work) (takes? (meaning t) u v) (checked-none z) (sym is-taken ∙ e)
-
--- ANY TABLE: its own refusals first
-pub table-refused :
-    (range : Limits) (t u v : List ℕ) (work : ℕ) {x : ℕ} → x ≡ table-refusal range t → (x ≡ 0 → ⊥) → Refused x ≡ decision range t u v work
-unfolding decision
-table-refused range t u v work {x} e ne =
-    rw (← table-first range t u v work e ne) (as-refused x (takes? (meaning t) u v) ne)
+    decided-not-taken e = as-not-taken (lasso-refusal range t u v work) (takes? (meaning t) u v) (sym is-refusal ∙ z) (sym is-taken ∙ e)

@@ -67,7 +67,7 @@ module _ {wd : Width} {t u v w : List ℕ} {states size wait : ℕ} {w1 : List �
       pub last-below : 3 * size + (count - 1) < length w1
       last-below = let k = h .waiting .room in let j = h .waiting .long in let q = h .given .sized in omega arith
 
-      -- four blocks of 2^30 words have indices of 32 bits
+      -- its place among the four blocks is a number of a work word
       pub last-small : 3 * size + (count - 1) < 2 ^ wd .bits
       last-small = let k = h .waiting .room in let j = given-small (h .given) in let q = h .given .sized in omega arith
 

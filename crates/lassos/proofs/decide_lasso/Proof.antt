@@ -4,7 +4,8 @@ use borrow.Author.Needs.{needs}
 use mathlib.Core.Path.{sym, _∙_}
 use Rattle.basics.proofs.Clears.{zeros-same}
 use Rattle.tables.specs.Table.{wide-range}
-use Rattle.lassos.proofs.Decides.{table-refused}
+use Rattle.lassos.proofs.Decides.{decided-refused}
+use Rattle.lassos.proofs.Parts.{table-first}
 use Rattle.lassos.proofs.decide_lasso.Statement.{statement}
 use Rattle.lassos.proofs.decide_lasso.Tie as tie
 
@@ -24,7 +25,10 @@ returns c =
     let refused : tie.Then1 = search in
     let after-table-refusal : tie.After-table-refusal = search in
     record {
-      answer = table-refused wide-range _ _ _ _ (after-table-refusal .table-refusal .ensures) (refused .if1 .taken);
+      answer =
+          decided-refused wide-range _ _ _ _
+          (table-first wide-range _ _ _ _ (after-table-refusal .table-refusal .ensures) (refused .if1 .taken))
+          (refused .if1 .taken);
       work = clean .clear32 .ensures;
     }
 
