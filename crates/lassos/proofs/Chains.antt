@@ -15,8 +15,10 @@ use Rattle.tables.proofs.Chains.{left, left-less}
 use Rattle.tables.proofs.Laws.{Valid, valid, record-asked}
 use Rattle.lassos.specs.Product.{Chain-to, here, later}
 use Rattle.lassos.specs.Search.{colour}
-use Rattle.lassos.specs.Steps.{Width, Chain-asks, Edge-asks, white-edge, Next-white, no-white, white-at}
+use Rattle.lassos.specs.Steps.{Chain-asks, Edge-asks, white-edge, Next-white, no-white, white-at}
+use Rattle.lassos.specs.Width.{Width, white, grey, word-colours}
 use Rattle.lassos.proofs.Product.{chain-zero, chain-parts, chain-edge}
+use Rattle.lassos.proofs.Width.{colour-word}
 
 module _ {wd : Width} {t : List ℕ} {states nodes base r : ℕ} (a : Chain-asks wd t states nodes base r) where
   pub sound : Valid (wd .range) t
@@ -52,7 +54,7 @@ module _ {wd : Width} {t : List ℕ} {states nodes base r : ℕ} (a : Chain-asks
 pub record Walked (wd : Width) (t w : List ℕ) (states letter base first r : ℕ) : Type 0 where
   pub asks : Chain-asks wd t states (length w) base r
   pub within : (y : ℕ) → Chain-to t letter base y r → Chain-to t letter base y first
-  pub passed : (y : ℕ) → Chain-to t letter base y first → (1 ≤ colour w y) ⊎ Chain-to t letter base y r
+  pub passed : (y : ℕ) → Chain-to t letter base y first → (grey ≤ colour wd w y) ⊎ Chain-to t letter base y r
 
 pub walked-start :
     {wd : Width} (t w : List ℕ) (states letter base first : ℕ) → Chain-asks wd t states (length w) base first →
@@ -68,7 +70,7 @@ module _ {wd : Width} {t w : List ℕ} {states letter base first r : ℕ} (h : W
 
   -- a record on another letter, or to a visited node
   pub walked-turn :
-      {b : Bool} → (r ≡ 0 → ⊥) → b ≡ white-edge t w letter base r → b ≡ false → (next : ℕ) → next ≡ next-of t r →
+      {b : Bool} → (r ≡ 0 → ⊥) → b ≡ white-edge wd t w letter base r → b ≡ false → (next : ℕ) → next ≡ next-of t r →
       Walked wd t w states letter base first next
   unfolding white-edge
   walked-turn ne is f next n =
@@ -83,12 +85,12 @@ module _ {wd : Width} {t w : List ℕ} {states letter base first r : ℕ} (h : W
               | inr v ↦
                   elim (chain-parts v) [
                     | inl p ↦
-                        elim (and-false (eqb (letter-of t r) letter) (eqb (colour w (base + target-of t r)) 0) e) [
+                        elim (and-false (eqb (letter-of t r) letter) (eqb (colour wd w (base + target-of t r)) white) e) [
                           | inl q ↦ absurd (eqb-ne (letter-of t r) letter q (p .0))
                           | inr q ↦
-                              let nz = eqb-ne (colour w (base + target-of t r)) 0 q in
+                              let nz = eqb-ne (colour wd w (base + target-of t r)) white q in
                               let s = p .1 in
-                              let nz′ : (colour w y ≡ 0 → ⊥) = rw s at nz in inl (omega arith)
+                              let nz′ : (colour wd w y ≡ white → ⊥) = rw s at nz in inl (omega arith)
                         ]
                     | inr p ↦ inr (rw n p)
                   ]
@@ -96,18 +98,18 @@ module _ {wd : Width} {t w : List ℕ} {states letter base first r : ℕ} (h : W
       }
 
   pub walked-found :
-      {b : Bool} → (r ≡ 0 → ⊥) → b ≡ white-edge t w letter base r → b ≡ true → Next-white t w letter base first r
+      {b : Bool} → (r ≡ 0 → ⊥) → b ≡ white-edge wd t w letter base r → b ≡ true → Next-white wd t w letter base first r
   unfolding white-edge
   walked-found ne is f =
       let e = sym is ∙ f in
       let o : 1 ≤ r = omega arith in
-      let p = eqb-eq (letter-of t r) letter (and-l (eqb (colour w (base + target-of t r)) 0) e) in
-      let q = eqb-eq (colour w (base + target-of t r)) 0 (and-r (eqb (letter-of t r) letter) e) in
+      let p = eqb-eq (letter-of t r) letter (and-l (eqb (colour wd w (base + target-of t r)) white) e) in
+      let q = eqb-eq (colour wd w (base + target-of t r)) white (and-r (eqb (letter-of t r) letter) e) in
       white-at
       (record {
         from-one = o;
         number-to = h .asks .number-to;
-        white = q;
+        to-white = q;
         edge = h .within (base + target-of t r) (here o p refl);
         rest = λ y k. h .within y (later o k);
         passed =
@@ -118,7 +120,7 @@ module _ {wd : Width} {t w : List ℕ} {states letter base first r : ℕ} (h : W
             ];
       })
 
-  pub walked-none : r ≡ 0 → Next-white t w letter base first 0
+  pub walked-none : r ≡ 0 → Next-white wd t w letter base first 0
   walked-none e =
       no-white refl
       (λ y k. elim (h .passed y k) [ inl v ↦ v | inr v ↦ absurd (chain-zero (rw e at v)) ])
@@ -132,15 +134,15 @@ module _ {wd : Width} {t : List ℕ} {states nodes base r : ℕ} (a : Edge-asks 
   edge-target e = let k = target-inside (a .chain) (a .from-one) in omega arith
 
   -- so the word of its colour is one of the nodes' words
-  pub edge-word : {y : ℕ} → y ≡ target-of t r → (base + y) / 16 < nodes
-  edge-word e = let k = edge-target e in omega arith
+  pub edge-word : {y : ℕ} → y ≡ target-of t r → (base + y) / word-colours wd < nodes
+  edge-word e = colour-word wd (edge-target e)
 
-module _ (t w : List ℕ) (c b r : ℕ) {x : ℕ} (e : x ≡ letter-of t r) where
-  pub white-other : (x ≡ c → ⊥) → false ≡ white-edge t w c b r
+module _ (wd : Width) (t w : List ℕ) (c b r : ℕ) {x : ℕ} (e : x ≡ letter-of t r) where
+  pub white-other : (x ≡ c → ⊥) → false ≡ white-edge wd t w c b r
   unfolding white-edge
   white-other ne =
-      sym (and-false-l (eqb (colour w (b + target-of t r)) 0) (ne-eqb (letter-of t r) c (λ s. ne (e ∙ s))))
+      sym (and-false-l (eqb (colour wd w (b + target-of t r)) white) (ne-eqb (letter-of t r) c (λ s. ne (e ∙ s))))
 
-  pub white-same : {y z : ℕ} → x ≡ c → y ≡ target-of t r → z ≡ colour w (b + y) → eqb z 0 ≡ white-edge t w c b r
+  pub white-same : {y z : ℕ} → x ≡ c → y ≡ target-of t r → z ≡ colour wd w (b + y) → eqb z white ≡ white-edge wd t w c b r
   unfolding white-edge
   white-same s k z = let q : eqb (letter-of t r) c ≡ true = eq-eqb (sym e ∙ s) in rw (q, z, k)

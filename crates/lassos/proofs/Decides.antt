@@ -5,7 +5,7 @@ use mathlib.Core.Bool.{Bool, true, false}
 use mathlib.Core.List.{List, _++_}
 use Prim.Native.Nat.{ℕ, zero, suc, _+_, _*_, _/_, _^_, _≤_, _<_}
 use native.Mathlib.Omega.{arith}
-use native.Mathlib.Nat.{mul-le-mul, mul-comm, mul-assoc}
+use native.Mathlib.Nat.{div-mul-le-self, le-div-iff-mul-le, mul-le-mul, mul-comm, mul-assoc}
 use lib.ListN.{length, take, drop}
 use lib.Seq.{length-front}
 use Rattle.basics.specs.Buffers.{zeros}
@@ -16,45 +16,42 @@ use Rattle.automata.specs.Decision.{takes?}
 use Rattle.automata.specs.Lasso.{positions}
 use Rattle.automata.proofs.Cycles.{takes-cycle, cycle-takes}
 use Rattle.automata.proofs.Decision.{takes-right}
-use Rattle.tables.specs.Table.{Limits, wide-range, n-of, meaning}
+use Rattle.tables.specs.Table.{Limits, n-of, meaning}
 use Rattle.tables.proofs.Laws.{Valid, valid, meaning-closed}
 use Rattle.lassos.specs.Decision.{as-decision, decision, Takes-asks}
 use Rattle.lassos.specs.Graph.{Graph}
 use Rattle.lassos.specs.Product.{product-graph}
 use Rattle.lassos.specs.Refusals.{longest-part, lasso-refusal}
 use Rattle.lassos.specs.Search.{colour, Search}
-use Rattle.lassos.specs.Steps.{Width, width-16, Width-fits, Given, Search-asks, Searched, found, nothing}
+use Rattle.lassos.specs.Steps.{Given, Search-asks, Searched, found, nothing}
+use Rattle.lassos.specs.Width.{Width, machine-bits, white, grey, colours, word-colours, Width-fits}
 use Rattle.lassos.specs.declared.Decision.the-variants.{Taken, NotTaken, Refused}
 use Rattle.lassos.proofs.Colours.{coloured-le}
 use Rattle.lassos.proofs.Given.{size-is}
 use Rattle.lassos.proofs.Parts.{Accepted, accepted}
 use Rattle.lassos.proofs.Product.{found-cycle, cycle-found}
+use Rattle.lassos.proofs.Width.{colour-word}
 
 -- THE BEGINNING: all nodes are white, and the stack is empty
-pub fresh : (g : Graph) (w : List ℕ) → 4 * g .size ≤ length w → ((x : ℕ) → x < g .size → colour w x ≡ 0) → Search g w 0
-fresh g w long white =
-    let unmet : (x : ℕ) → x < g .size → 1 ≤ colour w x → ⊥ = λ x l o. (let k = white x l in omega arith) in
+pub fresh : (wd : Width) (g : Graph) (w : List ℕ) → 4 * g .size ≤ length w → ((x : ℕ) → x < g .size → colour wd w x ≡ white) → Search wd g w 0
+fresh wd g w long unseen =
+    let unmet : (x : ℕ) → x < g .size → grey ≤ colour wd w x → ⊥ = λ x l o. (let k = unseen x l in omega arith) in
     record {
       long = long;
-      room = let k = coloured-le 0 (g .size) w in omega arith;
+      room = let k = coloured-le wd white (g .size) w in omega arith;
       stack =
           record {
             places = λ i l. absurd (omega arith);
             distinct = λ i j l m. absurd (omega arith);
             linked = λ i l. absurd (omega arith);
           };
-      grey = λ i l. absurd (omega arith);
+      greys = λ i l. absurd (omega arith);
       on-stack = λ x l k. absurd (unmet x l (omega arith));
       reached = λ x l o. absurd (unmet x l o);
       finished = λ x y l o. absurd (unmet x l (omega arith));
       closed = record { edges = λ x y l o. absurd (unmet x l (omega arith)) };
       fruitless = λ x l o. absurd (unmet x l (omega arith));
     }
-
--- the widest product of a wide table has fewer than 2^29 nodes
-pub width-16-fits : Width-fits width-16
-unfolding wide-range
-width-16-fits = record { work = omega arith; machine = omega arith; records = omega arith }
 
 -- A TABLE AND A LASSO that are not refused
 module _ {wd : Width} (fits : Width-fits wd) {t u v w : List ℕ} (a : Takes-asks (wd .range) t u v w) where
@@ -80,7 +77,7 @@ module _ {wd : Width} (fits : Width-fits wd) {t u v w : List ℕ} (a : Takes-ask
         (let i = not-refused .prefix-short in let j = not-refused .loop-short in omega arith) in
         let q : states ≤ wd .range .states = (let k = sound .states-to in omega arith) in mul-le-mul p q
 
-    pub size-fits : (length u + length v) * states < 2 ^ 64
+    pub size-fits : (length u + length v) * states < 2 ^ machine-bits
     size-fits = let m = size-to in let k = fits .machine in omega arith
 
     takes-sized : (length u + length v) * states ≡ product-graph t u v .size
@@ -101,29 +98,33 @@ module _ {wd : Width} (fits : Width-fits wd) {t u v w : List ℕ} (a : Takes-ask
         }
 
     -- the words of the colours are among the work words
-    pub colours-inside : (length u + length v) * states / 16 + 1 ≤ length w
+    pub colours-inside : (length u + length v) * states / word-colours wd + 1 ≤ length w
     colours-inside =
         let p : 1 ≤ length u + length v = (let o = not-refused .lasso .endless in omega arith) in
         let q : 1 ≤ states = (let k = sound .states-from in omega arith) in
         let some : 1 ≤ (length u + length v) * states = mul-le-mul p q in
+        let d : (length u + length v) * states / word-colours wd < (length u + length v) * states + 1 = colour-word wd (omega arith) in
         let s = takes-sized in
         let k = enough in omega arith
 
     pub takes-explore :
-        {colours : List ℕ} → colours ≡ zeros (take ((length u + length v) * states / 16 + 1) w) →
-        Search-asks wd t u v (colours ++ drop ((length u + length v) * states / 16 + 1) w) states ((length u + length v) * states) 0
+        {cleared : List ℕ} → cleared ≡ zeros (take ((length u + length v) * states / word-colours wd + 1) w) →
+        Search-asks wd t u v (cleared ++ drop ((length u + length v) * states / word-colours wd + 1) w) states ((length u + length v) * states) 0
     unfolding colour
-    takes-explore {colours} clear =
+    takes-explore {cleared} clear =
         let s = takes-sized in
-        let k = (length u + length v) * states / 16 + 1 in
-        let w1 = colours ++ drop k w in
-        let same : length w1 ≡ length w = length-front w colours k (rw clear (zeros-length (take k w))) in
+        let k = (length u + length v) * states / word-colours wd + 1 in
+        let w1 = cleared ++ drop k w in
+        let same : length w1 ≡ length w = length-front w cleared k (rw clear (zeros-length (take k w))) in
         record {
           given = takes-given;
           search =
-              fresh (product-graph t u v) w1 (let k = enough in omega arith)
+              fresh wd (product-graph t u v) w1 (let k = enough in omega arith)
               (λ x l.
-              packed-zero 4 (omega arith) 16 w1 x (front-cleared k w colours colours-inside clear (x / 16) (omega arith)));
+              let front : x / word-colours wd ≤ (length u + length v) * states / word-colours wd =
+              le-div-iff-mul-le (fits .some) .1 (let m = div-mul-le-self x (word-colours wd) in omega arith) in
+              packed-zero colours (omega arith) (word-colours wd) w1 x
+              (front-cleared k w cleared colours-inside clear (x / word-colours wd) (omega arith)));
         }
 
   -- what the search finds is what the automaton takes

@@ -11,26 +11,28 @@ use Rattle.tables.specs.Table.{n-of, m-of, head-of, target-of, next-of}
 use Rattle.lassos.specs.Graph.{Arc, onward, Node-reached}
 use Rattle.lassos.specs.Product.{Chain-to, node-letter, node-base, product-graph}
 use Rattle.lassos.specs.Search.{colour, stacked, cursor, risen, entered, advanced, Place, Search}
-use Rattle.lassos.specs.Steps.{Width, Raise-asks, Node-asks, Chain-asks, Next-white, White-at, no-white, white-at, Enter-asks, Top-asks, Descended, deeper, all-visited}
+use Rattle.lassos.specs.Steps.{Raise-asks, Node-asks, Chain-asks, Next-white, White-at, no-white, white-at, Enter-asks, Top-asks, Descended, deeper, all-visited}
+use Rattle.lassos.specs.Width.{Width, white, grey}
 use Rattle.lassos.proofs.Chains.{reads-record, chain-inside}
 use Rattle.lassos.proofs.Colours.{coloured-one, grows-grows, grows-whites}
 use Rattle.lassos.proofs.Given.{given-valid, given-bounded, given-reads, given-small, given-node, given-chain, given-head, given-first}
 use Rattle.lassos.proofs.Outer.{enter-grows, enter-whites, enter-keeps, advance-grows, advance-keeps}
 use Rattle.lassos.proofs.Stores.{Enters, enters, Advances, advances}
+use Rattle.lassos.proofs.Width.{colour-word}
 
 -- ENTERING, as it is written
-module _ {bits : ℕ} {w : List ℕ} {n x r d : ℕ} (a : Enter-asks bits w n x r d) where
-  pub enter-raise : Raise-asks w x 1
+module _ {wd : Width} {w : List ℕ} {n x r d : ℕ} (a : Enter-asks wd w n x r d) where
+  pub enter-raise : Raise-asks wd w x 1
   enter-raise =
-      let z = a .white in
-      record { inside = let l = a .inside in let k = a .long in omega arith; within = omega arith }
+      let z = a .is-white in
+      record { inside = colour-word wd (let l = a .inside in let k = a .long in omega arith); within = omega arith }
 
-  pub entered-is : {w1 : List ℕ} → w1 ≡ risen w x 1 → set (set w1 (n + d) x) (2 * n + d) r ≡ entered n w x r d
+  pub entered-is : {w1 : List ℕ} → w1 ≡ risen wd w x 1 → set (set w1 (n + d) x) (2 * n + d) r ≡ entered wd n w x r d
   unfolding entered
   entered-is up = rw up
 
 -- a record that is not zero is one with a white target
-pub is-white : {t w : List ℕ} {letter base first r : ℕ} → Next-white t w letter base first r → (r ≡ 0 → ⊥) → White-at t w letter base first r
+pub is-white : {wd : Width} {t w : List ℕ} {letter base first r : ℕ} → Next-white wd t w letter base first r → (r ≡ 0 → ⊥) → White-at wd t w letter base first r
 is-white (no-white e f) ne = absurd (ne e)
 is-white (white-at h) ne = h
 
@@ -44,14 +46,14 @@ module _ {wd : Width} {t u v w : List ℕ} {states size x depth : ℕ} (a : Top-
   cursor-is = rw (a .given .sized)
 
   -- its place: its node, and what its cursor holds
-  top-place : Place (product-graph t u v) w x (getD w (2 * size + (depth - 1)) 0)
+  top-place : Place wd (product-graph t u v) w x (getD w (2 * size + (depth - 1)) 0)
   top-place = rw (a .top, cursor-is) (a .search .stack .places (depth - 1) top-index)
 
   pub top-inside : x < product-graph t u v .size
   top-inside = top-place .inside
 
-  pub top-grey : colour w x ≡ 1
-  top-grey = rw (a .top) (a .search .grey (depth - 1) top-index)
+  pub top-grey : colour wd w x ≡ grey
+  top-grey = rw (a .top) (a .search .greys (depth - 1) top-index)
 
   pub top-node : Node-asks u v states x
   top-node = given-node (a .given) top-inside
@@ -62,7 +64,7 @@ module _ {wd : Width} {t u v w : List ℕ} {states size x depth : ℕ} (a : Top-
   pub top-cursor : 2 * size + (depth - 1) < length w
   top-cursor = let k = top-fits in let q = a .given .sized in let l = a .search .long in omega arith
 
-  pub top-small : 2 * size + (depth - 1) < 2 ^ wd .bits
+  pub top-small : 2 * size + (depth - 1) < 2 ^ wd .work-bits
   top-small = let k = top-fits in let q = a .given .sized in let l = given-small (a .given) in omega arith
 
   cursor-to : getD w (2 * size + (depth - 1)) 0 ≤ m-of t
@@ -94,7 +96,7 @@ module _ {wd : Width} {t u v w : List ℕ} {states size x depth : ℕ} (a : Top-
     from-chain h = rw (is-letter, is-base, a .given .counted) at h
 
     -- no white node is ahead: all targets are visited
-    pub none-white : {r : ℕ} → Next-white t w letter base (getD w (2 * size + (depth - 1)) 0) r → r ≡ 0 → Descended (product-graph t u v) w w x depth false
+    pub none-white : {r : ℕ} → Next-white wd t w letter base (getD w (2 * size + (depth - 1)) 0) r → r ≡ 0 → Descended wd (product-graph t u v) w w x depth false
     none-white (no-white e f) z =
         all-visited refl
         (λ y h.
@@ -102,7 +104,7 @@ module _ {wd : Width} {t u v w : List ℕ} {states size x depth : ℕ} (a : Top-
     none-white (white-at h) z = absurd (let o = h .from-one in omega arith)
 
     -- the next white target enters
-    module _ {r : ℕ} (h : White-at t w letter base (getD w (2 * size + (depth - 1)) 0) r) where
+    module _ {r : ℕ} (h : White-at wd t w letter base (getD w (2 * size + (depth - 1)) 0) r) where
       pub white-record : Record-asks t states r
       white-record =
           reads-record (given-chain (a .given) top-inside is-letter is-base (h .number-to)) (h .from-one)
@@ -119,22 +121,22 @@ module _ {wd : Width} {t u v w : List ℕ} {states size x depth : ℕ} (a : Top-
         to-below : to < n-of t
         to-below = let k = given-valid (a .given) .target r (h .from-one) (h .number-to) in omega arith
 
-        to-white : colour w (base + to) ≡ 0
-        to-white = rw target-is at (h .white)
+        to-white : colour wd w (base + to) ≡ white
+        to-white = rw target-is at (h .to-white)
 
         to-room : depth < product-graph t u v .size
         to-room =
-            let k = coloured-one 0 (product-graph t u v .size) w (base + to) to-inside to-white in
+            let k = coloured-one wd white (product-graph t u v .size) w (base + to) to-inside to-white in
             let j = a .search .room in omega arith
 
         pub to-state : State-asks t to
         to-state = given-reads (a .given) to-below
 
-        pub to-asks : {first : ℕ} → first < 2 ^ wd .bits → Enter-asks (wd .bits) w size (base + to) first depth
+        pub to-asks : {first : ℕ} → first < 2 ^ wd .work-bits → Enter-asks wd w size (base + to) first depth
         to-asks fits =
             let q = a .given .sized in
             record {
-              white = to-white;
+              is-white = to-white;
               first-fits = fits;
               inside = let k = to-inside in omega arith;
               room = let k = to-room in omega arith;
@@ -143,17 +145,17 @@ module _ {wd : Width} {t u v w : List ℕ} {states size x depth : ℕ} (a : Top-
             }
 
         -- and then the cursor moves on
-        module _ {first : ℕ} (is-first : first ≡ head-of t to) {w1 : List ℕ} (is-entered : w1 ≡ entered size w (base + to) first depth)
+        module _ {first : ℕ} (is-first : first ≡ head-of t to) {w1 : List ℕ} (is-entered : w1 ≡ entered wd size w (base + to) first depth)
             {next : ℕ} (is-next : next ≡ next-of t r) where
           to-first : first ≡ product-graph t u v .first (base + to)
           to-first = is-first ∙ sym (given-head (a .given) top-inside is-letter is-base to-below)
 
-          to-enters : Enters (product-graph t u v .size) w w1 (base + to) (product-graph t u v .first (base + to)) depth
+          to-enters : Enters wd (product-graph t u v .size) w w1 (base + to) (product-graph t u v .first (base + to)) depth
           to-enters =
-              let e : w1 ≡ entered (product-graph t u v .size) w (base + to) (product-graph t u v .first (base + to)) depth =
+              let e : w1 ≡ entered wd (product-graph t u v .size) w (base + to) (product-graph t u v .first (base + to)) depth =
               rw (a .given .sized, to-first) at is-entered in
               rw e
-              (enters (product-graph t u v .size) w (base + to) (product-graph t u v .first (base + to)) depth (a .search .long) to-inside to-room to-white)
+              (enters wd (product-graph t u v .size) w (base + to) (product-graph t u v .first (base + to)) depth (a .search .long) to-inside to-room to-white)
 
           to-edge : Arc (product-graph t u v) x (base + to)
           to-edge = top-place .on-chain (base + to) (from-chain (rw target-is at (h .edge)))
@@ -172,7 +174,7 @@ module _ {wd : Width} {t u v w : List ℕ} {states size x depth : ℕ} (a : Top-
               let top : depth - 1 ≡ i = omega arith in
               let s : x ≡ stacked (product-graph t u v .size) w i = rw top at (a .top) in rw (← s) to-edge
 
-          deeper-search : Search (product-graph t u v) w1 (suc depth)
+          deeper-search : Search wd (product-graph t u v) w1 (suc depth)
           deeper-search =
               enter-keeps (given-bounded (a .given)) (a .search) to-inside to-white to-enters to-reached first-to to-linked
 
@@ -183,10 +185,10 @@ module _ {wd : Width} {t u v w : List ℕ} {states size x depth : ℕ} (a : Top-
           kept-cursor : cursor (product-graph t u v .size) w1 (depth - 1) ≡ getD w (2 * size + (depth - 1)) 0
           kept-cursor = to-enters .cursors (depth - 1) top-index ∙ sym cursor-is
 
-          next-advances : Advances (product-graph t u v .size) w1 (set w1 (2 * size + (depth - 1)) next) (depth - 1) next
+          next-advances : Advances wd (product-graph t u v .size) w1 (set w1 (2 * size + (depth - 1)) next) (depth - 1) next
           unfolding advanced
           next-advances =
-              rw (a .given .sized) (advances (product-graph t u v .size) w1 (depth - 1) next (deeper-search .long) top-fits)
+              rw (a .given .sized) (advances wd (product-graph t u v .size) w1 (depth - 1) next (deeper-search .long) top-fits)
 
           next-to : next ≤ product-graph t u v .last
           unfolding product-graph
@@ -197,7 +199,7 @@ module _ {wd : Width} {t u v w : List ℕ} {states size x depth : ℕ} (a : Top-
 
           next-passed :
               (y : ℕ) → product-graph t u v .Ahead x (cursor (product-graph t u v .size) w1 (depth - 1)) y →
-              (1 ≤ colour w1 y) ⊎ product-graph t u v .Ahead x next y
+              (grey ≤ colour wd w1 y) ⊎ product-graph t u v .Ahead x next y
           next-passed y k =
               let c = to-chain (rw kept-cursor at k) in
               elim (h .passed y c) [
@@ -213,7 +215,7 @@ module _ {wd : Width} {t u v w : List ℕ} {states size x depth : ℕ} (a : Top-
                     ]
               ]
 
-          pub next-deeper : Descended (product-graph t u v) w (set w1 (2 * size + (depth - 1)) next) x depth true
+          pub next-deeper : Descended wd (product-graph t u v) w (set w1 (2 * size + (depth - 1)) next) x depth true
           next-deeper =
               let bounded = given-bounded (a .given) in
               deeper (advance-keeps bounded deeper-search next-advances kept-top next-to next-fewer next-passed)

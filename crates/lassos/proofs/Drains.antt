@@ -10,20 +10,21 @@ use Rattle.tables.specs.Table.{head-of}
 use Rattle.lassos.specs.Graph.{Arc, stay}
 use Rattle.lassos.specs.Product.{node-letter, node-base, product-graph}
 use Rattle.lassos.specs.Search.{colour, waiting, blacks, Inner-says, Spread-over, None, Spread-says, Waiting, Since, Drained, met, none, spread}
-use Rattle.lassos.specs.Steps.{Width, Spread-asks, Given, Spread-node-asks, Drain-asks, Meets-asks}
+use Rattle.lassos.specs.Steps.{Spread-asks, Given, Spread-node-asks, Drain-asks, Meets-asks}
+use Rattle.lassos.specs.Width.{Width, grey, black}
 use Rattle.lassos.proofs.Colours.{coloured-le}
 use Rattle.lassos.proofs.Given.{given-bounded, given-small, given-chain, given-first}
 use Rattle.lassos.proofs.Inner.{waiting-start, waiting-step, waiting-less, waiting-none, since-start, since-step, drained-met, inner-says}
 
 -- what a count of waiting nodes says
 pub spread-small :
-    {n : ℕ} {To : ℕ → Type 0} {w w′ : List ℕ} {a r : ℕ} → Spread-says n To w w′ a r → r ≤ n → Spread-over n To None w w′ a r
+    {wd : Width} {n : ℕ} {To : ℕ → Type 0} {w w′ : List ℕ} {a r : ℕ} → Spread-says wd n To w w′ a r → r ≤ n → Spread-over wd n To None w w′ a r
 spread-small (met y t l c e) f = absurd (omega arith)
 spread-small (spread b h) f = h
 
 pub spread-large :
-    {n : ℕ} {To : ℕ → Type 0} {w w′ : List ℕ} {a r : ℕ} → Spread-says n To w w′ a r → n < r →
-    (y : ℕ) × To y × (y < n) × (colour w y ≡ 1)
+    {wd : Width} {n : ℕ} {To : ℕ → Type 0} {w w′ : List ℕ} {a r : ℕ} → Spread-says wd n To w w′ a r → n < r →
+    (y : ℕ) × To y × (y < n) × (colour wd w y ≡ grey)
 spread-large (met y t l c e) f = (y, t, l, c)
 spread-large (spread b h) f = absurd (omega arith)
 
@@ -44,8 +45,8 @@ node-spread-asks a l b f =
 pub record Draining (wd : Width) (t u v w : List ℕ) (states size wait : ℕ) (w-now : List ℕ) (count : ℕ) : Type 0 where
   pub given : Given wd t u v states size
   pub same : length w-now ≡ length w
-  pub waiting : Waiting (product-graph t u v) w-now count
-  pub since : Since (product-graph t u v) w wait w-now count
+  pub waiting : Waiting wd (product-graph t u v) w-now count
+  pub since : Since wd (product-graph t u v) w wait w-now count
 
 pub draining-start :
     {wd : Width} {t u v w : List ℕ} {states size wait : ℕ} → Drain-asks wd t u v w states size wait → Draining wd t u v w states size wait w wait
@@ -58,17 +59,17 @@ module _ {wd : Width} {t u v w : List ℕ} {states size wait : ℕ} {w1 : List �
       from-last : count ≡ suc (count - 1)
       from-last = omega arith
 
-      waiting-last : Waiting (product-graph t u v) w1 (suc (count - 1))
+      waiting-last : Waiting wd (product-graph t u v) w1 (suc (count - 1))
       waiting-last = rw from-last at (h .waiting)
 
-      since-last : Since (product-graph t u v) w wait w1 (suc (count - 1))
+      since-last : Since wd (product-graph t u v) w wait w1 (suc (count - 1))
       since-last = rw from-last at (h .since)
 
       pub last-below : 3 * size + (count - 1) < length w1
       last-below = let k = h .waiting .room in let j = h .waiting .long in let q = h .given .sized in omega arith
 
       -- its place among the four blocks is a number of a work word
-      pub last-small : 3 * size + (count - 1) < 2 ^ wd .bits
+      pub last-small : 3 * size + (count - 1) < 2 ^ wd .work-bits
       last-small = let k = h .waiting .room in let j = given-small (h .given) in let q = h .given .sized in omega arith
 
       last-is : getD w1 (3 * size + (count - 1)) 0 ≡ waiting (product-graph t u v .size) w1 (count - 1)
@@ -86,19 +87,19 @@ module _ {wd : Width} {t u v w : List ℕ} {states size wait : ℕ} {w1 : List �
           })
 
       module _ {w2 : List ℕ} {k : ℕ}
-          (s : Spread-says (product-graph t u v .size) (Arc (product-graph t u v) (getD w1 (3 * size + (count - 1)) 0)) w1 w2 (count - 1) k) where
-        last-says : Spread-says (product-graph t u v .size) (Arc (product-graph t u v) (waiting (product-graph t u v .size) w1 (count - 1))) w1 w2 (count - 1) k
+          (s : Spread-says wd (product-graph t u v .size) (Arc (product-graph t u v) (getD w1 (3 * size + (count - 1)) 0)) w1 w2 (count - 1) k) where
+        last-says : Spread-says wd (product-graph t u v .size) (Arc (product-graph t u v) (waiting (product-graph t u v .size) w1 (count - 1))) w1 w2 (count - 1) k
         last-says = rw last-is at s
 
         -- one of its targets is grey
-        pub draining-met : size < k → Drained (product-graph t u v) w w2 wait true
+        pub draining-met : size < k → Drained wd (product-graph t u v) w w2 wait true
         draining-met far =
             let q = h .given .sized in
             let m = spread-large last-says (omega arith) in drained-met since-last (m .0) (m .1) (m .2) (m .3)
 
         -- or the black ones wait now
         module _ (near : k ≤ size) (same : length w2 ≡ length w1) where
-          last-spread : Spread-over (product-graph t u v .size) (Arc (product-graph t u v) (waiting (product-graph t u v .size) w1 (count - 1))) None w1 w2 (count - 1) k
+          last-spread : Spread-over wd (product-graph t u v .size) (Arc (product-graph t u v) (waiting (product-graph t u v .size) w1 (count - 1))) None w1 w2 (count - 1) k
           last-spread = let q = h .given .sized in spread-small last-says (omega arith)
 
           pub draining-turn : Draining wd t u v w states size wait w2 k
@@ -110,12 +111,12 @@ module _ {wd : Width} {t u v w : List ℕ} {states size wait : ℕ} {w1 : List �
                 since = since-step (given-bounded (h .given)) waiting-last same last-spread since-last;
               }
 
-          pub draining-less : 2 * blacks size w2 + k < 2 * blacks size w1 + count
+          pub draining-less : 2 * blacks wd size w2 + k < 2 * blacks wd size w1 + count
           draining-less =
               let q = waiting-less (given-bounded (h .given)) waiting-last same last-spread in
               rw (h .given .sized) (omega arith)
 
-    pub draining-end : count ≤ 0 → Drained (product-graph t u v) w w1 wait false
+    pub draining-end : count ≤ 0 → Drained wd (product-graph t u v) w w1 wait false
     draining-end z =
         let e : count ≡ 0 = omega arith in none (h .since .redder) (waiting-none (rw e at (h .waiting)))
 
@@ -127,17 +128,17 @@ module _ {wd : Width} {t u v w : List ℕ} {states size x : ℕ} (a : Meets-asks
         given = a .given;
         inside = a .asks .inside;
         long = a .asks .long;
-        room = let k = coloured-le 2 (product-graph t u v .size) w in omega arith;
+        room = let k = coloured-le wd black (product-graph t u v .size) w in omega arith;
       }
 
-  module _ {w1 : List ℕ} {k : ℕ} (s : Spread-says (product-graph t u v .size) (Arc (product-graph t u v) x) w w1 0 k) where
-    pub meets-at-once : size < k → Inner-says (product-graph t u v) x w w1 true
+  module _ {w1 : List ℕ} {k : ℕ} (s : Spread-says wd (product-graph t u v .size) (Arc (product-graph t u v) x) w w1 0 k) where
+    pub meets-at-once : size < k → Inner-says wd (product-graph t u v) x w w1 true
     meets-at-once far =
         let q = a .given .sized in
         let m = spread-large s (omega arith) in met (m .0) (m .0) (m .1) stay (m .2) (m .3)
 
     module _ (near : k ≤ size) (same : length w1 ≡ length w) where
-      first-spread : Spread-over (product-graph t u v .size) (Arc (product-graph t u v) x) None w w1 0 k
+      first-spread : Spread-over wd (product-graph t u v .size) (Arc (product-graph t u v) x) None w w1 0 k
       first-spread = let q = a .given .sized in spread-small s (omega arith)
 
       pub meets-drain : Drain-asks wd t u v w1 states size k
@@ -147,5 +148,5 @@ module _ {wd : Width} {t u v w : List ℕ} {states size x : ℕ} (a : Meets-asks
             waiting = waiting-start (given-bounded (a .given)) (a .asks) same first-spread;
           }
 
-      pub meets-end : {w2 : List ℕ} {r : Bool} → Drained (product-graph t u v) w1 w2 k r → Inner-says (product-graph t u v) x w w2 r
+      pub meets-end : {w2 : List ℕ} {r : Bool} → Drained wd (product-graph t u v) w1 w2 k r → Inner-says wd (product-graph t u v) x w w2 r
       meets-end d = inner-says (given-bounded (a .given)) (a .asks) same first-spread d

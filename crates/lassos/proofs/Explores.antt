@@ -19,12 +19,14 @@ use Rattle.tables.specs.Table.{n-of, head-of, flags-of, is-initial, is-acceptin
 use Rattle.lassos.specs.Graph.{Graph, Arc, Bounded, stay}
 use Rattle.lassos.specs.Product.{product-graph}
 use Rattle.lassos.specs.Search.{colour, stacked, whites, risen, entered, Search, Grows, Inner-says, met, none}
-use Rattle.lassos.specs.Steps.{Width, Few, Raise-asks, Given, Meets-asks, Top-asks, Descended, deeper, all-visited, Finished, closes, black, red, Enter-asks, Search-asks, Explored, found, exhausted, Try-asks, Try-says, tried, Searched, nothing}
+use Rattle.lassos.specs.Steps.{Raise-asks, Given, Meets-asks, Top-asks, Descended, deeper, all-visited, Finished, closes, turns-black, turns-red, Enter-asks, Search-asks, Explored, found, exhausted, Try-asks, Try-says, tried, Searched, nothing}
+use Rattle.lassos.specs.Width.{Width, white, grey, red, word-colours, Few}
 use Rattle.lassos.proofs.Colours.{grows-grows, grows-same, grows-whites, stays-grey}
 use Rattle.lassos.proofs.Descends.{top-inside, top-grey}
 use Rattle.lassos.proofs.Given.{size-is, given-bounded, given-reads, given-some, given-small, given-first, given-state}
 use Rattle.lassos.proofs.Outer.{enter-grows, enter-keeps, none-found, Left-off, black-leaves, red-leaves, grey-cycle}
 use Rattle.lassos.proofs.Stores.{recolours, Enters, enters}
+use Rattle.lassos.proofs.Width.{colour-word}
 
 -- A FINISHED NODE
 module _ {wd : Width} {t u v w : List ℕ} {states size x : ℕ} (a : Meets-asks wd t u v w states size x) where
@@ -32,47 +34,48 @@ module _ {wd : Width} {t u v w : List ℕ} {states size x : ℕ} (a : Meets-asks
   finish-state = given-state (a .given) (a .asks .inside)
 
   -- the node is grey, and it still is after an inner search that met no grey node
-  pub raise-grey : {by : ℕ} → by ≤ 2 → Raise-asks w x by
+  pub raise-grey : {by : ℕ} → grey + by ≤ red → Raise-asks wd w x by
   raise-grey b =
       let l = a .asks .inside in
-      let k = a .asks .grey in record { inside = let m = a .asks .long in omega arith; within = omega arith }
+      let k = a .asks .from-grey in
+      record { inside = colour-word wd (let m = a .asks .long in omega arith); within = omega arith }
 
   pub raise-still :
-      {w1 : List ℕ} {r : Bool} {by : ℕ} → length w1 ≡ length w → Inner-says (product-graph t u v) x w w1 r → r ≡ false → by ≤ 2 →
-      Raise-asks w1 x by
+      {w1 : List ℕ} {r : Bool} {by : ℕ} → length w1 ≡ length w → Inner-says wd (product-graph t u v) x w w1 r → r ≡ false → grey + by ≤ red →
+      Raise-asks wd w1 x by
   raise-still same (met y z t p b c) e f = absurd (clash refl e)
   raise-still same (none r c s) e f =
       let l = a .asks .inside in
-      let k = stays-grey r x l (a .asks .grey) in
-      record { inside = let m = a .asks .long in omega arith; within = omega arith }
+      let k = stays-grey r x l (a .asks .from-grey) in
+      record { inside = colour-word wd (let m = a .asks .long in omega arith); within = omega arith }
 
   pub finish-some : 1 ≤ states
   finish-some = let k = given-some (a .given) in let e = a .given .counted in omega arith
 
   module _ {f : ℕ} (is-flags : f ≡ flags-of t (x % states)) where
-    pub finish-black : f < 2 → {w1 : List ℕ} → w1 ≡ risen w x 1 → Finished (product-graph t u v) x w w1 false
+    pub finish-black : f < 2 → {w1 : List ℕ} → w1 ≡ risen wd w x 1 → Finished wd (product-graph t u v) x w w1 false
     unfolding product-graph is-accepting
     finish-black l up =
         let e : f ≡ flags-of t (x % n-of t) = rw (a .given .counted) at is-flags in
-        let b : flags-of t (x % n-of t) < 2 = omega arith in black (gt-leb b) up
+        let b : flags-of t (x % n-of t) < 2 = omega arith in turns-black (gt-leb b) up
 
-    pub finish-closes : 2 ≤ f → {w1 : List ℕ} {r : Bool} → Inner-says (product-graph t u v) x w w1 r → r ≡ true → Finished (product-graph t u v) x w w1 true
+    pub finish-closes : 2 ≤ f → {w1 : List ℕ} {r : Bool} → Inner-says wd (product-graph t u v) x w w1 r → r ≡ true → Finished wd (product-graph t u v) x w w1 true
     unfolding product-graph is-accepting
     finish-closes l h e =
         let k : f ≡ flags-of t (x % n-of t) = rw (a .given .counted) at is-flags in
         let b : 2 ≤ flags-of t (x % n-of t) = omega arith in closes (le-leb b) (rw e at h)
 
   pub finish-red :
-      {w1 w2 : List ℕ} {r : Bool} → length w1 ≡ length w → Inner-says (product-graph t u v) x w w1 r → r ≡ false →
-      w2 ≡ risen w1 x 2 → Finished (product-graph t u v) x w w2 false
-  finish-red {w1} s h e up = red w1 s (rw e at h) up
+      {w1 w2 : List ℕ} {r : Bool} → length w1 ≡ length w → Inner-says wd (product-graph t u v) x w w1 r → r ≡ false →
+      w2 ≡ risen wd w1 x 2 → Finished wd (product-graph t u v) x w w2 false
+  finish-red {w1} s h e up = turns-red w1 s (rw e at h) up
 
 -- THE STACK IS EMPTIED: the invariant
 pub record Exploring (wd : Width) (t u v w : List ℕ) (states size : ℕ) (w-now : List ℕ) (depth : ℕ) : Type 0 where
   pub given : Given wd t u v states size
   pub same : length w-now ≡ length w
-  pub search : Search (product-graph t u v) w-now depth
-  pub grows : Grows (product-graph t u v .size) w w-now
+  pub search : Search wd (product-graph t u v) w-now depth
+  pub grows : Grows wd (product-graph t u v .size) w w-now
 
 pub exploring-start :
     {wd : Width} {t u v w : List ℕ} {states size depth : ℕ} → Search-asks wd t u v w states size depth →
@@ -80,14 +83,14 @@ pub exploring-start :
 exploring-start a = record { given = a .given; same = refl; search = a .search; grows = grows-same }
 
 module _ {wd : Width} {t u v w : List ℕ} {states size : ℕ} {w1 : List ℕ} {depth : ℕ} (h : Exploring wd t u v w states size w1 depth) where
-  pub exploring-end : depth ≤ 0 → Explored (product-graph t u v) w w1 false
+  pub exploring-end : depth ≤ 0 → Explored wd (product-graph t u v) w w1 false
   exploring-end l = let e : depth ≡ 0 = omega arith in exhausted (rw e at (h .search)) (h .grows)
 
   module _ (o : 0 < depth) where
     pub exploring-below : size + (depth - 1) < length w1
     exploring-below = let k = h .search .room in let l = h .search .long in let q = h .given .sized in omega arith
 
-    pub exploring-small : (size + (depth - 1) < 2 ^ wd .bits) × Few (wd .bits) depth
+    pub exploring-small : (size + (depth - 1) < 2 ^ wd .work-bits) × Few (wd .work-bits) depth
     exploring-small = let k = h .search .room in let l = given-small (h .given) in let q = h .given .sized in omega arith
 
     top-is : getD w1 (size + (depth - 1)) 0 ≡ stacked (product-graph t u v .size) w1 (depth - 1)
@@ -101,7 +104,7 @@ module _ {wd : Width} {t u v w : List ℕ} {states size : ℕ} {w1 : List ℕ} {
 module _ {wd : Width} {t u v w : List ℕ} {states size : ℕ} {w1 w2 : List ℕ} {depth : ℕ} (h : Exploring wd t u v w states size w1 depth)
     (same : length w2 ≡ length w1) where
   pub exploring-deeper :
-      {x : ℕ} {r : Bool} → Descended (product-graph t u v) w1 w2 x depth r → r ≡ true → Exploring wd t u v w states size w2 (depth + 1)
+      {x : ℕ} {r : Bool} → Descended wd (product-graph t u v) w1 w2 x depth r → r ≡ true → Exploring wd t u v w states size w2 (depth + 1)
   exploring-deeper (deeper s g l) e =
       record {
         given = h .given;
@@ -112,29 +115,29 @@ module _ {wd : Width} {t u v w : List ℕ} {states size : ℕ} {w1 w2 : List ℕ
   exploring-deeper (all-visited s f) e = absurd (clash e refl)
 
   pub deeper-less :
-      {x : ℕ} {r : Bool} → Descended (product-graph t u v) w1 w2 x depth r → r ≡ true →
-      2 * whites size w2 + (depth + 1) < 2 * whites size w1 + depth
+      {x : ℕ} {r : Bool} → Descended wd (product-graph t u v) w1 w2 x depth r → r ≡ true →
+      2 * whites wd size w2 + (depth + 1) < 2 * whites wd size w1 + depth
   deeper-less (deeper s g l) e = rw (h .given .sized) (omega arith)
   deeper-less (all-visited s f) e = absurd (clash e refl)
 
 -- FINISHED: the top, all of whose targets are visited, in a search that has gone on since the words w
 pub record Finishing (wd : Width) (t u v w : List ℕ) (states size : ℕ) (w-now : List ℕ) (x depth : ℕ) : Type 0 where
   pub top : Top-asks wd t u v w-now states size x depth
-  pub done : (y : ℕ) → Arc (product-graph t u v) x y → 1 ≤ colour w-now y
+  pub done : (y : ℕ) → Arc (product-graph t u v) x y → grey ≤ colour wd w-now y
   pub same : length w-now ≡ length w
-  pub grows : Grows (product-graph t u v .size) w w-now
+  pub grows : Grows wd (product-graph t u v .size) w w-now
 
 pub finishing-start :
     {wd : Width} {t u v w : List ℕ} {states size : ℕ} {w1 w2 : List ℕ} {depth : ℕ} {r : Bool} →
     Exploring wd t u v w states size w1 depth → 0 < depth →
-    Descended (product-graph t u v) w1 w2 (getD w1 (size + (depth - 1)) 0) depth r → r ≡ false →
+    Descended wd (product-graph t u v) w1 w2 (getD w1 (size + (depth - 1)) 0) depth r → r ≡ false →
     Finishing wd t u v w states size w2 (getD w1 (size + (depth - 1)) 0) depth
 finishing-start h o (deeper s g l) e = absurd (clash refl e)
 finishing-start h o (all-visited s f) e =
     rw s (record { top = exploring-top h o; done = f; same = h .same; grows = h .grows })
 
 pub finishing-same :
-    {g : Graph} {w1 w2 : List ℕ} {x depth : ℕ} {r : Bool} → Descended g w1 w2 x depth r → r ≡ false → w2 ≡ w1
+    {wd : Width} {g : Graph} {w1 w2 : List ℕ} {x depth : ℕ} {r : Bool} → Descended wd g w1 w2 x depth r → r ≡ false → w2 ≡ w1
 finishing-same (deeper s g l) e = absurd (clash refl e)
 finishing-same (all-visited s f) e = s
 
@@ -142,7 +145,8 @@ module _ {wd : Width} {t u v w : List ℕ} {states size : ℕ} {w1 : List ℕ} {
   bounded : Bounded (product-graph t u v)
   bounded = given-bounded (h .top .given)
 
-  search-top : Search (product-graph t u v) w1 (suc (depth - 1))
+  -- the search, with its top told apart
+  search-top : Search wd (product-graph t u v) w1 (suc (depth - 1))
   search-top =
       let above : depth ≡ suc (depth - 1) = (let o = h .top .from-one in omega arith) in rw above at (h .top .search)
 
@@ -155,7 +159,7 @@ module _ {wd : Width} {t u v w : List ℕ} {states size : ℕ} {w1 : List ℕ} {
             record {
               long = s .long;
               inside = top-inside (h .top);
-              grey = top-grey (h .top);
+              from-grey = top-grey (h .top);
               begun = h .done;
               finished = s .finished;
               closed = s .closed;
@@ -164,27 +168,27 @@ module _ {wd : Width} {t u v w : List ℕ} {states size : ℕ} {w1 : List ℕ} {
 
   -- the top closes a cycle
   pub finishing-found :
-      {w2 : List ℕ} {r : Bool} → Finished (product-graph t u v) x w1 w2 r → r ≡ true → Explored (product-graph t u v) w w2 true
+      {w2 : List ℕ} {r : Bool} → Finished wd (product-graph t u v) x w1 w2 r → r ≡ true → Explored wd (product-graph t u v) w w2 true
   finishing-found (closes a (met y z t p b c)) e =
       found (grey-cycle bounded search-top y z (rw (h .top .top) at t) p b c (rw (h .top .top) at a))
-  finishing-found (black a s) e = absurd (clash e refl)
-  finishing-found (red w′ l i s) e = absurd (clash e refl)
+  finishing-found (turns-black a s) e = absurd (clash e refl)
+  finishing-found (turns-red w′ l i s) e = absurd (clash e refl)
 
   -- or it leaves the stack
-  finishing-off : {w2 : List ℕ} {r : Bool} → Finished (product-graph t u v) x w1 w2 r → r ≡ false → Left-off (product-graph t u v) w1 w2 (depth - 1)
+  finishing-off : {w2 : List ℕ} {r : Bool} → Finished wd (product-graph t u v) x w1 w2 r → r ≡ false → Left-off wd (product-graph t u v) w1 w2 (depth - 1)
   finishing-off (closes a i) e = absurd (clash refl e)
-  finishing-off (black a s) e =
+  finishing-off (turns-black a s) e =
       black-leaves bounded search-top (h .top .top) (h .done) a
-      (rw s (recolours (product-graph t u v .size) w1 x 1 (search-top .long) (top-inside (h .top)) (top-grey (h .top)) (omega arith)))
-  finishing-off (red w′ l (none r c f) s) e =
+      (rw s (recolours wd (product-graph t u v .size) w1 x 1 (search-top .long) (top-inside (h .top)) (top-grey (h .top)) (omega arith)))
+  finishing-off (turns-red w′ l (none r c f) s) e =
       red-leaves bounded search-top (h .top .top) l r c f
       (rw s
-      (recolours (product-graph t u v .size) w′ x 2 (let k = search-top .long in omega arith) (top-inside (h .top))
+      (recolours wd (product-graph t u v .size) w′ x 2 (let k = search-top .long in omega arith) (top-inside (h .top))
       (stays-grey r x (top-inside (h .top)) (top-grey (h .top)))
       (omega arith)))
 
   pub finishing-left :
-      {w2 : List ℕ} {r : Bool} → length w2 ≡ length w1 → Finished (product-graph t u v) x w1 w2 r → r ≡ false →
+      {w2 : List ℕ} {r : Bool} → length w2 ≡ length w1 → Finished wd (product-graph t u v) x w1 w2 r → r ≡ false →
       Exploring wd t u v w states size w2 (depth - 1)
   finishing-left same f e =
       let k = finishing-off f e in
@@ -196,8 +200,8 @@ module _ {wd : Width} {t u v w : List ℕ} {states size : ℕ} {w1 : List ℕ} {
       }
 
   pub finishing-less :
-      {w0 w2 : List ℕ} {r : Bool} → w1 ≡ w0 → Finished (product-graph t u v) x w1 w2 r → r ≡ false →
-      2 * whites size w2 + (depth - 1) < 2 * whites size w0 + depth
+      {w0 w2 : List ℕ} {r : Bool} → w1 ≡ w0 → Finished wd (product-graph t u v) x w1 w2 r → r ≡ false →
+      2 * whites wd size w2 + (depth - 1) < 2 * whites wd size w0 + depth
   finishing-less s f e =
       let k = grows-whites (finishing-off f e .grows) in
       let o = h .top .from-one in rw (h .top .given .sized, ← s) (omega arith)
@@ -218,28 +222,28 @@ module _ {wd : Width} {t u v w : List ℕ} {states size q : ℕ} (a : Try-asks w
       let s = size-is t u v in
       let o = zero-mul (n-of t) in omega arith
 
-  pub try-word : q / 16 < length w
-  try-word = let k = try-inside in let l = a .search .long in omega arith
+  pub try-word : q / word-colours wd < length w
+  try-word = colour-word wd (let k = try-inside in let l = a .search .long in omega arith)
 
-  pub not-initial : {f : ℕ} → f ≡ flags-of t q → (f % 2 ≡ 1 → ⊥) → Try-says (product-graph t u v) w w q false
+  pub not-initial : {f : ℕ} → f ≡ flags-of t q → (f % 2 ≡ 1 → ⊥) → Try-says wd (product-graph t u v) w w q false
   unfolding product-graph is-initial
   not-initial {f} e ne =
       tried (a .search) grows-same
       (λ s. absurd (ne (rw e (eqb-eq (flags-of t q % 2) 1 (and-r (ltb q (n-of t)) s)))))
 
-  pub not-white : {c : ℕ} → c ≡ colour w q → (c ≡ 0 → ⊥) → Try-says (product-graph t u v) w w q false
+  pub not-white : {c : ℕ} → c ≡ colour wd w q → (c ≡ white → ⊥) → Try-says wd (product-graph t u v) w w q false
   not-white is ne = tried (a .search) grows-same (λ s. omega arith)
 
-  module _ {c : ℕ} (is-colour : c ≡ colour w q) (is-white : c ≡ 0) where
-    white : colour w q ≡ 0
-    white = sym is-colour ∙ is-white
+  module _ {c : ℕ} (is-colour : c ≡ colour wd w q) (is-white : c ≡ white) where
+    try-white : colour wd w q ≡ white
+    try-white = sym is-colour ∙ is-white
 
-    pub try-enter : {first : ℕ} → first < 2 ^ wd .bits → Enter-asks (wd .bits) w size q first 0
+    pub try-enter : {first : ℕ} → first < 2 ^ wd .work-bits → Enter-asks wd w size q first 0
     try-enter fits =
         let s = a .given .sized in
         let b = try-inside in
         record {
-          white = white;
+          is-white = try-white;
           first-fits = fits;
           inside = omega arith;
           room = omega arith;
@@ -247,17 +251,17 @@ module _ {wd : Width} {t u v w : List ℕ} {states size q : ℕ} (a : Try-asks w
           small = let k = given-small (a .given) in omega arith;
         }
 
-    module _ {f : ℕ} (is-flags : f ≡ flags-of t q) (odd : f % 2 ≡ 1) {first : ℕ} (is-first : first ≡ head-of t q) {w1 : List ℕ} (is-entered : w1 ≡ entered size w q first 0) where
+    module _ {f : ℕ} (is-flags : f ≡ flags-of t q) (odd : f % 2 ≡ 1) {first : ℕ} (is-first : first ≡ head-of t q) {w1 : List ℕ} (is-entered : w1 ≡ entered wd size w q first 0) where
       first-is : first ≡ product-graph t u v .first q
       unfolding product-graph
       first-is = is-first ∙ sym (ap (head-of t) (mod-eq-of-lt try-below))
 
-      try-enters : Enters (product-graph t u v .size) w w1 q (product-graph t u v .first q) 0
+      try-enters : Enters wd (product-graph t u v .size) w w1 q (product-graph t u v .first q) 0
       try-enters =
-          let e : w1 ≡ entered (product-graph t u v .size) w q (product-graph t u v .first q) 0 =
+          let e : w1 ≡ entered wd (product-graph t u v .size) w q (product-graph t u v .first q) 0 =
           rw (a .given .sized, first-is) at is-entered in
           rw e
-          (enters (product-graph t u v .size) w q (product-graph t u v .first q) 0 (a .search .long) try-inside (let b = try-inside in omega arith) white)
+          (enters wd (product-graph t u v .size) w q (product-graph t u v .first q) 0 (a .search .long) try-inside (let b = try-inside in omega arith) try-white)
 
       try-starts : product-graph t u v .starts q ≡ true
       unfolding product-graph is-initial
@@ -268,26 +272,26 @@ module _ {wd : Width} {t u v w : List ℕ} {states size q : ℕ} (a : Try-asks w
       unfolding product-graph
       try-first = given-first (a .given) try-inside (rw (a .given .counted))
 
-      try-search : Search (product-graph t u v) w1 1
+      try-search : Search wd (product-graph t u v) w1 1
       try-search =
-          enter-keeps (given-bounded (a .given)) (a .search) try-inside white try-enters
+          enter-keeps (given-bounded (a .given)) (a .search) try-inside try-white try-enters
           (record { start = q; begins = try-starts; way = stay }) try-first (λ i e. absurd (omega arith))
 
       pub try-explore : Search-asks wd t u v w1 states size 1
       try-explore = record { given = a .given; search = try-search }
 
-      pub try-end : {w2 : List ℕ} {r : Bool} → Explored (product-graph t u v) w1 w2 r → Try-says (product-graph t u v) w w2 q r
+      pub try-end : {w2 : List ℕ} {r : Bool} → Explored wd (product-graph t u v) w1 w2 r → Try-says wd (product-graph t u v) w w2 q r
       try-end (found f) = found f
       try-end (exhausted s g) =
-          tried s (grows-grows (enter-grows (given-bounded (a .given)) (a .search) try-inside white try-enters) g)
+          tried s (grows-grows (enter-grows (given-bounded (a .given)) (a .search) try-inside try-white try-enters) g)
           (λ e. g .stays q try-inside (let k = try-enters .here in omega arith))
 
 -- ALL STATES: the invariant
 pub record Trying (wd : Width) (t u v w : List ℕ) (states size : ℕ) (w-now : List ℕ) (q : ℕ) : Type 0 where
   pub given : Given wd t u v states size
   pub same : length w-now ≡ length w
-  pub search : Search (product-graph t u v) w-now 0
-  pub tried : (p : ℕ) → p < q → product-graph t u v .starts p ≡ true → 1 ≤ colour w-now p
+  pub search : Search wd (product-graph t u v) w-now 0
+  pub tried : (p : ℕ) → p < q → product-graph t u v .starts p ≡ true → grey ≤ colour wd w-now p
 
 pub trying-start : {wd : Width} {t u v w : List ℕ} {states size : ℕ} → Search-asks wd t u v w states size 0 → Trying wd t u v w states size w 0
 trying-start a =
@@ -297,12 +301,12 @@ module _ {wd : Width} {t u v w : List ℕ} {states size : ℕ} {w1 : List ℕ} {
   pub trying-asks : q < states → Try-asks wd t u v w1 states size q
   trying-asks l = record { given = h .given; search = h .search; inside = l }
 
-  pub trying-found : {w2 : List ℕ} {r : Bool} → Try-says (product-graph t u v) w1 w2 q r → r ≡ true → Searched (product-graph t u v) true
+  pub trying-found : {w2 : List ℕ} {r : Bool} → Try-says wd (product-graph t u v) w1 w2 q r → r ≡ true → Searched (product-graph t u v) true
   trying-found (found f) e = found f
   trying-found (tried s g f) e = absurd (clash e refl)
 
   pub trying-turn :
-      {w2 : List ℕ} {r : Bool} → length w2 ≡ length w1 → Try-says (product-graph t u v) w1 w2 q r → r ≡ false →
+      {w2 : List ℕ} {r : Bool} → length w2 ≡ length w1 → Try-says wd (product-graph t u v) w1 w2 q r → r ≡ false →
       Trying wd t u v w states size w2 (q + 1)
   trying-turn same (found f) e = absurd (clash refl e)
   trying-turn same (tried s g f) e =

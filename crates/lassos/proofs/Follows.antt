@@ -11,12 +11,14 @@ use Rattle.tables.specs.Access.{Record-asks}
 use Rattle.tables.specs.Table.{letter-of, target-of, next-of}
 use Rattle.lassos.specs.Product.{Chain-to, here, later}
 use Rattle.lassos.specs.Search.{colour, blacks, risen, reddened, Spread-over, Spread-says, met, spread}
-use Rattle.lassos.specs.Steps.{Width, Raise-asks, Chain-asks, Follow-asks, Follow-says, other-letter, grey-met, black-met, other-met, Spread-asks}
+use Rattle.lassos.specs.Steps.{Raise-asks, Chain-asks, Follow-asks, Follow-says, other-letter, grey-met, black-met, other-met, Spread-asks}
+use Rattle.lassos.specs.Width.{Width, white, grey, black, red, word-colours}
 use Rattle.lassos.proofs.Chains.{reads-edge, edge-target, chain-inside, next-asks}
 use Rattle.lassos.proofs.Colours.{colour-to, coloured-one, was-grey}
 use Rattle.lassos.proofs.Inner.{spread-start, spread-skip, spread-push}
 use Rattle.lassos.proofs.Product.{chain-zero, chain-parts}
 use Rattle.lassos.proofs.Stores.{reddens}
+use Rattle.lassos.proofs.Width.{colour-word}
 
 -- ONE EDGE, as it is read
 module _ {wd : Width} {t w : List ℕ} {states size base r wait : ℕ} (a : Follow-asks wd t w states size base r wait) where
@@ -24,37 +26,37 @@ module _ {wd : Width} {t w : List ℕ} {states size base r wait : ℕ} (a : Foll
   follow-record = reads-edge (a .edge)
 
   module _ {y : ℕ} (n : y ≡ target-of t r) where
-    pub follow-word : (base + y) / 16 < length w
-    follow-word = let k = edge-target (a .edge) n in let l = a .long in omega arith
+    pub follow-word : (base + y) / word-colours wd < length w
+    follow-word = colour-word wd (let k = edge-target (a .edge) n in let l = a .long in omega arith)
 
-    pub follow-room : colour w (base + y) ≡ 2 → wait < size
+    pub follow-room : colour wd w (base + y) ≡ black → wait < size
     follow-room e =
-        let k = coloured-one 2 size w (base + y) (edge-target (a .edge) n) e in let l = a .room in omega arith
+        let k = coloured-one wd black size w (base + y) (edge-target (a .edge) n) e in let l = a .room in omega arith
 
-    pub follow-raise : {c : ℕ} → c ≡ colour w (base + y) → c ≡ 2 → Raise-asks w (base + y) 1
+    pub follow-raise : {c : ℕ} → c ≡ colour wd w (base + y) → c ≡ black → Raise-asks wd w (base + y) 1
     follow-raise is e = record { inside = follow-word; within = omega arith }
 
-    pub follow-wait : {c : ℕ} → c ≡ colour w (base + y) → c ≡ 2 → 3 * size + wait < length w
+    pub follow-wait : {c : ℕ} → c ≡ colour wd w (base + y) → c ≡ black → 3 * size + wait < length w
     follow-wait is e = let k = follow-room (sym is ∙ e) in let l = a .long in omega arith
 
-module _ (t : List ℕ) (size letter base r : ℕ) (w : List ℕ) (wait : ℕ) {x : ℕ} (p : x ≡ letter-of t r) where
-  pub follow-other : (x ≡ letter → ⊥) → Follow-says t size letter base r w w wait wait
+module _ (wd : Width) (t : List ℕ) (size letter base r : ℕ) (w : List ℕ) (wait : ℕ) {x : ℕ} (p : x ≡ letter-of t r) where
+  pub follow-other : (x ≡ letter → ⊥) → Follow-says wd t size letter base r w w wait wait
   follow-other ne = other-letter (λ s. ne (p ∙ s)) refl refl
 
-  module _ {y c : ℕ} (n : y ≡ target-of t r) (is : c ≡ colour w (base + y)) where
-    target-colour : c ≡ colour w (base + target-of t r)
+  module _ {y c : ℕ} (n : y ≡ target-of t r) (is : c ≡ colour wd w (base + y)) where
+    target-colour : c ≡ colour wd w (base + target-of t r)
     target-colour = rw n at is
 
-    pub follow-grey : {w′ : List ℕ} → x ≡ letter → c ≡ 1 → Follow-says t size letter base r w w′ wait (size + 1)
+    pub follow-grey : {w′ : List ℕ} → x ≡ letter → c ≡ grey → Follow-says wd t size letter base r w w′ wait (size + 1)
     follow-grey s e = grey-met (sym p ∙ s) (sym target-colour ∙ e) refl
 
     pub follow-black :
-        {w1 : List ℕ} → x ≡ letter → c ≡ 2 → w1 ≡ risen w (base + y) 1 →
-        Follow-says t size letter base r w (set w1 (3 * size + wait) (base + y)) wait (wait + 1)
+        {w1 : List ℕ} → x ≡ letter → c ≡ black → w1 ≡ risen wd w (base + y) 1 →
+        Follow-says wd t size letter base r w (set w1 (3 * size + wait) (base + y)) wait (wait + 1)
     unfolding reddened
     follow-black s e up = black-met (sym p ∙ s) (sym target-colour ∙ e) (rw (up, n)) refl
 
-    pub follow-rest : (c ≡ 1 → ⊥) → (c ≡ 2 → ⊥) → Follow-says t size letter base r w w wait wait
+    pub follow-rest : (c ≡ grey → ⊥) → (c ≡ black → ⊥) → Follow-says wd t size letter base r w w wait wait
     follow-rest f g = other-met (λ e. f (target-colour ∙ e)) (λ e. g (target-colour ∙ e)) refl refl
 
 -- ALL EDGES OF A CHAIN: the invariant of the walk
@@ -62,7 +64,7 @@ pub record Spreading (wd : Width) (t w : List ℕ) (states size letter base firs
   pub asks : Spread-asks wd t w states size base first wait
   pub chain : Chain-asks wd t states size base r
   pub same : length w-now ≡ length w
-  pub spread : Spread-over size (λ y. Chain-to t letter base y first) (λ y. Chain-to t letter base y r) w w-now wait count
+  pub spread : Spread-over wd size (λ y. Chain-to t letter base y first) (λ y. Chain-to t letter base y r) w w-now wait count
 
 pub spreading-start :
     {wd : Width} {t w : List ℕ} {states size base first wait : ℕ} (letter : ℕ) → Spread-asks wd t w states size base first wait →
@@ -74,7 +76,7 @@ module _ {wd : Width} {t w : List ℕ} {states size letter base first wait : ℕ
   below : (y : ℕ) → Chain-to t letter base y first → y < size
   below y = chain-inside (h .asks .chain) letter y
 
-  still-room : count + blacks size w1 ≤ size
+  still-room : count + blacks wd size w1 ≤ size
   still-room = let k = h .spread .room in let j = h .asks .room in omega arith
 
   pub spreading-follow : (r ≡ 0 → ⊥) → Follow-asks wd t w1 states size base r count
@@ -91,8 +93,8 @@ module _ {wd : Width} {t w : List ℕ} {states size letter base first wait : ℕ
 
   -- a grey node is met
   pub spreading-met :
-      {w2 : List ℕ} {k : ℕ} → (r ≡ 0 → ⊥) → Follow-says t size letter base r w1 w2 count k → size < k →
-      Spread-says size (λ y. Chain-to t letter base y first) w w2 wait k
+      {w2 : List ℕ} {k : ℕ} → (r ≡ 0 → ⊥) → Follow-says wd t size letter base r w1 w2 count k → size < k →
+      Spread-says wd size (λ y. Chain-to t letter base y first) w w2 wait k
   spreading-met ne (other-letter f e n) far = absurd (let j = still-room in omega arith)
   spreading-met ne (grey-met p g n) far =
       let o : 1 ≤ r = omega arith in
@@ -103,7 +105,7 @@ module _ {wd : Width} {t w : List ℕ} {states size letter base first wait : ℕ
   spreading-met ne (other-met f g e n) far = absurd (let j = still-room in omega arith)
 
   -- the walk ends
-  pub spreading-end : r ≡ 0 → Spread-says size (λ y. Chain-to t letter base y first) w w1 wait count
+  pub spreading-end : r ≡ 0 → Spread-says wd size (λ y. Chain-to t letter base y first) w w1 wait count
   spreading-end e =
       spread (let j = still-room in omega arith)
       (spread-skip (h .spread) below (λ y n. elim n [ ]) (λ y l. absurd (chain-zero (rw e at l))))
@@ -117,7 +119,7 @@ module _ {wd : Width} {t w : List ℕ} {states size letter base first wait : ℕ
     next-rest y l = elim (chain-parts l) [ inl s ↦ inl s | inr s ↦ inr (rw on s) ]
 
     passed-by :
-        ((y : ℕ) → Chain-to t letter base y r → Chain-to t letter base y next ⊎ ((colour w1 y ≡ 0) ⊎ (colour w1 y ≡ 3))) →
+        ((y : ℕ) → Chain-to t letter base y r → Chain-to t letter base y next ⊎ ((colour wd w1 y ≡ white) ⊎ (colour wd w1 y ≡ red))) →
         Spreading wd t w states size letter base first wait w1 next count
     passed-by rest =
         record {
@@ -128,7 +130,7 @@ module _ {wd : Width} {t w : List ℕ} {states size letter base first wait : ℕ
         }
 
     pub spreading-turn :
-        {w2 : List ℕ} {k : ℕ} → length w2 ≡ length w1 → Follow-says t size letter base r w1 w2 count k → k ≤ size →
+        {w2 : List ℕ} {k : ℕ} → length w2 ≡ length w1 → Follow-says wd t size letter base r w1 w2 count k → k ≤ size →
         Spreading wd t w states size letter base first wait w2 next k
     spreading-turn same (other-letter f e n) fits =
         rw (e, n)
@@ -146,7 +148,7 @@ module _ {wd : Width} {t w : List ℕ} {states size letter base first wait : ℕ
           spread =
               rw (n, add-one count)
               (spread-push (h .spread) below next-fewer g to
-              (rw e (reddens size w1 (base + target-of t r) count long (below (base + target-of t r) to) room g))
+              (rw e (reddens wd size w1 (base + target-of t r) count long (below (base + target-of t r) to) room g))
               (λ y l. elim (next-rest y l) [ inl s ↦ inr (sym (s .1)) | inr s ↦ inl s ]));
         }
     spreading-turn same (other-met f g e n) fits =
@@ -155,10 +157,10 @@ module _ {wd : Width} {t w : List ℕ} {states size letter base first wait : ℕ
         (λ y l.
         elim (next-rest y l) [
           | inl s ↦
-              let c = colour-to w1 y in
+              let c = colour-to wd w1 y in
               let at = s .1 in
-              let f′ : (colour w1 y ≡ 1 → ⊥) = rw at at f in
-              let g′ : (colour w1 y ≡ 2 → ⊥) = rw at at g in
-              elim (same-or (colour w1 y) 0) [ inl z ↦ inr (inl z) | inr z ↦ inr (inr (omega arith)) ]
+              let f′ : (colour wd w1 y ≡ grey → ⊥) = rw at at f in
+              let g′ : (colour wd w1 y ≡ black → ⊥) = rw at at g in
+              elim (same-or (colour wd w1 y) white) [ inl z ↦ inr (inl z) | inr z ↦ inr (inr (omega arith)) ]
           | inr s ↦ inl s
         ]))

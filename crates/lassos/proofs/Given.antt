@@ -14,7 +14,8 @@ use Rattle.tables.proofs.Laws.{Valid, valid, state-asked}
 use Rattle.lassos.specs.Graph.{Arc, Bounded}
 use Rattle.lassos.specs.Product.{Chain-to, node-letter, node-base, product-graph}
 use Rattle.lassos.specs.Search.{Spread-says}
-use Rattle.lassos.specs.Steps.{Width, Few, Node-asks, Chain-asks, Given}
+use Rattle.lassos.specs.Steps.{Node-asks, Chain-asks, Given}
+use Rattle.lassos.specs.Width.{Width, Few}
 use Rattle.lassos.proofs.Product.{product-bounded}
 
 pub size-is : (t u v : List ℕ) → product-graph t u v .size ≡ positions u v * n-of t
@@ -36,7 +37,7 @@ module _ {wd : Width} {t u v : List ℕ} {states size : ℕ} (g : Given wd t u v
   given-reads l = state-asked (wd .range) t (g .valid) l
 
   -- its nodes can be counted through in a work word
-  pub given-small : Few (wd .bits) (product-graph t u v .size)
+  pub given-small : Few (wd .work-bits) (product-graph t u v .size)
   given-small = rw (← g .sized) (g .small)
 
   module _ {x : ℕ} (l : x < product-graph t u v .size) where
@@ -83,8 +84,8 @@ module _ {wd : Width} {t u v : List ℕ} {states size : ℕ} (g : Given wd t u v
 
       pub given-spread :
           {w w′ : List ℕ} {a r first : ℕ} → first ≡ head-of t (x % states) →
-          Spread-says size (λ y. Chain-to t letter base y first) w w′ a r →
-          Spread-says (product-graph t u v .size) (Arc (product-graph t u v) x) w w′ a r
+          Spread-says wd size (λ y. Chain-to t letter base y first) w w′ a r →
+          Spread-says wd (product-graph t u v .size) (Arc (product-graph t u v) x) w w′ a r
       unfolding product-graph
       given-spread is-first h = rw (g .sized, is-letter, is-base, is-first, g .counted) at h
 

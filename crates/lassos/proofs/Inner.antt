@@ -11,11 +11,12 @@ use Rattle.basics.proofs.Booleans.{same-or, below-or}
 use Rattle.basics.proofs.Bounded.{one-entry-more}
 use Rattle.lassos.specs.Graph.{Graph, Arc, Bounded, Way, stay, onward}
 use Rattle.lassos.specs.Search.{colour, waiting, blacks, Redder, Red-closed, Inner-asks, Inner-says, Spread-over, None, Waiting, Since, Drained, met, none}
+use Rattle.lassos.specs.Width.{Width, white, grey, black, red}
 use Rattle.lassos.proofs.Colours.{coloured-le, coloured-less, redder-same, redder-redder, stays-red, was-grey, was-white, was-black, was-finished, stays-visited, red-or-new}
 use Rattle.lassos.proofs.Stores.{Reddens}
 
 -- ONE NODE'S EDGES
-pub spread-start : {n : ℕ} {To : ℕ → Type 0} {w : List ℕ} {a : ℕ} → Spread-over n To To w w a a
+pub spread-start : {wd : Width} {n : ℕ} {To : ℕ → Type 0} {w : List ℕ} {a : ℕ} → Spread-over wd n To To w w a a
 spread-start =
     record {
       redder = redder-same;
@@ -31,11 +32,11 @@ spread-start =
       passed = λ y t. inl t;
     }
 
-module _ {n : ℕ} {To Left Left′ : ℕ → Type 0} {w w1 : List ℕ} {a b : ℕ} (h : Spread-over n To Left w w1 a b)
+module _ {wd : Width} {n : ℕ} {To Left Left′ : ℕ → Type 0} {w w1 : List ℕ} {a b : ℕ} (h : Spread-over wd n To Left w w1 a b)
     (below : (y : ℕ) → To y → y < n) (fewer : (y : ℕ) → Left′ y → Left y) where
   -- targets that are white or red are passed by
   pub spread-skip :
-      ((y : ℕ) → Left y → Left′ y ⊎ ((colour w1 y ≡ 0) ⊎ (colour w1 y ≡ 3))) → Spread-over n To Left′ w w1 a b
+      ((y : ℕ) → Left y → Left′ y ⊎ ((colour wd w1 y ≡ white) ⊎ (colour wd w1 y ≡ red))) → Spread-over wd n To Left′ w w1 a b
   spread-skip rest =
       record {
         redder = h .redder;
@@ -61,26 +62,26 @@ module _ {n : ℕ} {To Left Left′ : ℕ → Type 0} {w w1 : List ℕ} {a b : �
       }
 
   -- a black target turns red and waits
-  module _ {w2 : List ℕ} {y : ℕ} (black : colour w1 y ≡ 2) (target : To y) (e : Reddens n w1 w2 y b)
+  module _ {w2 : List ℕ} {y : ℕ} (is-black : colour wd w1 y ≡ black) (target : To y) (e : Reddens wd n w1 w2 y b)
       (rest : (z : ℕ) → Left z → Left′ z ⊎ (z ≡ y)) where
-    push-redder : Redder n w1 w2
+    push-redder : Redder wd n w1 w2
     push-redder =
         record {
           turned =
               λ x l.
-              elim (same-or x y) [ inl s ↦ inr (rw s black, rw s (e .here)) | inr ne ↦ inl (e .others x l ne) ];
+              elim (same-or x y) [ inl s ↦ inr (rw s is-black, rw s (e .here)) | inr ne ↦ inl (e .others x l ne) ];
           stack = e .stack;
           cursors = e .cursors;
         }
 
-    pub push-blacks : blacks n w2 < blacks n w1
+    pub push-blacks : blacks wd n w2 < blacks wd n w1
     push-blacks =
-        coloured-less 2 n w1 w2 (was-black push-redder) y (below y target) black (λ z. let k = e .here in omega arith)
+        coloured-less wd black n w1 w2 (was-black push-redder) y (below y target) is-black (λ z. let k = e .here in omega arith)
 
     push-place : (i : ℕ) → i < suc b → ((i ≡ b) × (waiting n w2 i ≡ y)) ⊎ ((i < b) × (waiting n w2 i ≡ waiting n w1 i))
     push-place = one-entry-more (e .last) (e .before)
 
-    pub spread-push : Spread-over n To Left′ w w2 a (suc b)
+    pub spread-push : Spread-over wd n To Left′ w w2 a (suc b)
     spread-push =
         record {
           redder = redder-redder (h .redder) push-redder;
@@ -119,11 +120,11 @@ module _ {n : ℕ} {To Left Left′ : ℕ → Type 0} {w w1 : List ℕ} {a b : �
         }
 
 -- THE WAITING NODES
-module _ {g : Graph} (closed : Bounded g) where
+module _ {wd : Width} {g : Graph} (closed : Bounded g) where
   -- once its edges were followed, all targets of a node are red
   spread-reds :
-      {To : ℕ → Type 0} {w w1 : List ℕ} {a b : ℕ} → Spread-over (g .size) To None w w1 a b → ((y : ℕ) → To y → 1 ≤ colour w y) →
-      (y : ℕ) → To y → colour w1 y ≡ 3
+      {To : ℕ → Type 0} {w w1 : List ℕ} {a b : ℕ} → Spread-over wd (g .size) To None w w1 a b → ((y : ℕ) → To y → grey ≤ colour wd w y) →
+      (y : ℕ) → To y → colour wd w1 y ≡ red
   spread-reds {w = w} {w1 = w1} h visited y t =
       elim (h .passed y t) [
         | inl l ↦ elim l [ ]
@@ -131,19 +132,19 @@ module _ {g : Graph} (closed : Bounded g) where
       ]
 
   -- what the inner search begins with
-  module _ {s : ℕ} {w w1 : List ℕ} {b : ℕ} (asks : Inner-asks g s w) (same : length w1 ≡ length w)
-      (h : Spread-over (g .size) (Arc g s) None w w1 0 b) where
-    pub waiting-start : Waiting g w1 b
+  module _ {s : ℕ} {w w1 : List ℕ} {b : ℕ} (asks : Inner-asks wd g s w) (same : length w1 ≡ length w)
+      (h : Spread-over wd (g .size) (Arc g s) None w w1 0 b) where
+    pub waiting-start : Waiting wd g w1 b
     waiting-start =
         record {
           long = let k = asks .long in omega arith;
-          room = let k = h .room in let j = coloured-le 2 (g .size) w in omega arith;
+          room = let k = h .room in let j = coloured-le wd black (g .size) w in omega arith;
           inside = λ i l. h .inside i (omega arith) l;
           reds = λ i l. h .reds i (omega arith) l;
           finished =
               λ x y l o t.
               stays-visited (h .redder) y (closed .edge x y l t) (asks .finished x y l (was-finished (h .redder) x l o) t);
-          red =
+          waits =
               λ x l k.
               elim (red-or-new (h .redder) x l k) [
                 | inl r ↦ inr (λ y t. stays-red (h .redder) y (closed .edge x y l t) (asks .closed .edges x y l r t))
@@ -152,29 +153,29 @@ module _ {g : Graph} (closed : Bounded g) where
         }
 
     pub inner-none :
-        {w2 : List ℕ} → Redder (g .size) w1 w2 → Red-closed g w2 → Inner-says g s w w2 false
+        {w2 : List ℕ} → Redder wd (g .size) w1 w2 → Red-closed wd g w2 → Inner-says wd g s w w2 false
     inner-none r c =
         none (redder-redder (h .redder) r) c
         (λ y t. stays-red r y (closed .edge s y (asks .inside) t) (spread-reds h (asks .begun) y t))
 
     pub inner-met :
-        {w2 : List ℕ} (i y : ℕ) → i < b → Way g (waiting (g .size) w1 i) y → y < g .size → colour w1 y ≡ 1 →
-        Inner-says g s w w2 true
+        {w2 : List ℕ} (i y : ℕ) → i < b → Way g (waiting (g .size) w1 i) y → y < g .size → colour wd w1 y ≡ grey →
+        Inner-says wd g s w w2 true
     inner-met i y l p m k =
         met y (waiting (g .size) w1 i) (h .targets i (omega arith) l) p m (was-grey (h .redder) y m k)
 
-    pub inner-says : {w2 : List ℕ} {r : Bool} → Drained g w1 w2 b r → Inner-says g s w w2 r
+    pub inner-says : {w2 : List ℕ} {r : Bool} → Drained wd g w1 w2 b r → Inner-says wd g s w w2 r
     inner-says (met i y l p m k) = inner-met i y l p m k
     inner-says (none r c) = inner-none r c
 
   -- one waiting node less, and its black targets more
-  module _ {w w1 : List ℕ} {k b : ℕ} (q : Waiting g w (suc k)) (same : length w1 ≡ length w)
-      (h : Spread-over (g .size) (Arc g (waiting (g .size) w k)) None w w1 k b) where
+  module _ {w w1 : List ℕ} {k b : ℕ} (q : Waiting wd g w (suc k)) (same : length w1 ≡ length w)
+      (h : Spread-over wd (g .size) (Arc g (waiting (g .size) w k)) None w w1 k b) where
     red-again :
-        (x : ℕ) → x < g .size → colour w x ≡ 3 →
-        ((i : ℕ) × (i < b) × (waiting (g .size) w1 i ≡ x)) ⊎ ((y : ℕ) → Arc g x y → colour w1 y ≡ 3)
+        (x : ℕ) → x < g .size → colour wd w x ≡ red →
+        ((i : ℕ) × (i < b) × (waiting (g .size) w1 i ≡ x)) ⊎ ((y : ℕ) → Arc g x y → colour wd w1 y ≡ red)
     red-again x l c =
-        elim (q .red x l c) [
+        elim (q .waits x l c) [
           | inl r ↦
               elim (same-or (r .0) k) [
                 | inl s ↦
@@ -191,7 +192,7 @@ module _ {g : Graph} (closed : Bounded g) where
           | inr r ↦ inr (λ y t. stays-red (h .redder) y (closed .edge x y l t) (r y t))
         ]
 
-    pub waiting-step : Waiting g w1 b
+    pub waiting-step : Waiting wd g w1 b
     waiting-step =
         record {
           long = let j = q .long in omega arith;
@@ -211,7 +212,7 @@ module _ {g : Graph} (closed : Bounded g) where
           finished =
               λ x y l o t.
               stays-visited (h .redder) y (closed .edge x y l t) (q .finished x y l (was-finished (h .redder) x l o) t);
-          red =
+          waits =
               λ x l c.
               elim (red-or-new (h .redder) x l c) [
                 | inl r ↦ red-again x l r
@@ -220,10 +221,10 @@ module _ {g : Graph} (closed : Bounded g) where
         }
 
     -- the measure of the inner search falls
-    pub waiting-less : 2 * blacks (g .size) w1 + b < 2 * blacks (g .size) w + suc k
+    pub waiting-less : 2 * blacks wd (g .size) w1 + b < 2 * blacks wd (g .size) w + suc k
     waiting-less = let i = h .room in let j = h .fewer in omega arith
 
-    pub since-step : {w0 : List ℕ} {b0 : ℕ} → Since g w0 b0 w (suc k) → Since g w0 b0 w1 b
+    pub since-step : {w0 : List ℕ} {b0 : ℕ} → Since wd g w0 b0 w (suc k) → Since wd g w0 b0 w1 b
     since-step {w0} {b0} s =
         record {
           redder = redder-redder (s .redder) (h .redder);
@@ -237,21 +238,21 @@ module _ {g : Graph} (closed : Bounded g) where
               ];
         }
 
-pub since-start : {g : Graph} {w : List ℕ} {b : ℕ} → Since g w b w b
+pub since-start : {wd : Width} {g : Graph} {w : List ℕ} {b : ℕ} → Since wd g w b w b
 since-start = record { redder = redder-same; origin = λ i l. (i, l, stay) }
 
 -- a grey node that the last waiting node leads to
 pub drained-met :
-    {g : Graph} {w0 w w1 : List ℕ} {b0 k : ℕ} → Since g w0 b0 w (suc k) → (y : ℕ) → Arc g (waiting (g .size) w k) y →
-    y < g .size → colour w y ≡ 1 → Drained g w0 w1 b0 true
+    {wd : Width} {g : Graph} {w0 w w1 : List ℕ} {b0 k : ℕ} → Since wd g w0 b0 w (suc k) → (y : ℕ) → Arc g (waiting (g .size) w k) y →
+    y < g .size → colour wd w y ≡ grey → Drained wd g w0 w1 b0 true
 drained-met {k = k} s y t l c =
     let o = s .origin k (omega arith) in met (o .0) y (o .1) (onward y (o .2) t) l (was-grey (s .redder) y l c)
 
 -- no node waits: red nodes lead to red nodes
-pub waiting-none : {g : Graph} {w : List ℕ} → Waiting g w 0 → Red-closed g w
+pub waiting-none : {wd : Width} {g : Graph} {w : List ℕ} → Waiting wd g w 0 → Red-closed wd g w
 waiting-none q =
     record {
       edges =
           λ x y l c t.
-          elim (q .red x l c) [ inl r ↦ absurd (let z = r .1 in omega arith) | inr r ↦ r y t ];
+          elim (q .waits x l c) [ inl r ↦ absurd (let z = r .1 in omega arith) | inr r ↦ r y t ];
     }

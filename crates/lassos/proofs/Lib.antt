@@ -13,3 +13,4 @@ pub mod Parts
 pub mod Places
 pub mod Product
 pub mod Stores
+pub mod Width

@@ -12,6 +12,7 @@ use Rattle.basics.proofs.Bounded.{one-entry-more}
 use Rattle.basics.proofs.Upward.{upward}
 use Rattle.lassos.specs.Graph.{Graph, Arc, Bounded, Way, stay, onward, Node-reached, Cycle, Found}
 use Rattle.lassos.specs.Search.{colour, stacked, cursor, whites, Place, Stack, Red-closed, Search, Grows, Redder}
+use Rattle.lassos.specs.Width.{Width, white, grey, black, red}
 use Rattle.lassos.proofs.Colours.{coloured-less, grows-grows, grows-whites, stays-visited, stays-grey, was-grey, was-visited, was-finished}
 use Rattle.lassos.proofs.Stores.{Recolours, Enters, Advances}
 
@@ -20,15 +21,23 @@ pub way-way : {g : Graph} {x y z : ℕ} → Way g x y → Way g y z → Way g x 
 way-way p stay = p
 way-way p (onward z q e) = onward z (way-way p q) e
 
+-- what every edge hands on, every way does
+way-keeps :
+    {g : Graph} → Bounded g → (P : ℕ → Type 0) → ((x y : ℕ) → x < g .size → P x → Arc g x y → P y) → {x y : ℕ} → x < g .size → P x →
+    Way g x y → (y < g .size) × P y
+way-keeps closed P f l k stay = (l, k)
+way-keeps closed P f l k (onward {y} z p t) =
+    let q = way-keeps closed P f l k p in (closed .edge y z (q .0) t, f y z (q .0) (q .1) t)
+
 -- one node less on the stack
-pub record Left-off (g : Graph) (w w′ : List ℕ) (d : ℕ) : Type 0 where
-  pub search : Search g w′ d
-  pub grows : Grows (g .size) w w′
+pub record Left-off (wd : Width) (g : Graph) (w w′ : List ℕ) (d : ℕ) : Type 0 where
+  pub search : Search wd g w′ d
+  pub grows : Grows wd (g .size) w w′
 
 -- THE STACK, or the lower part of it: the same nodes, each at a place again
 stack-same :
-    {g : Graph} {w w′ : List ℕ} {d d′ : ℕ} → Stack g w d → d′ ≤ d → ((i : ℕ) → i < d′ → stacked (g .size) w′ i ≡ stacked (g .size) w i) →
-    ((i : ℕ) → i < d′ → Place g w′ (stacked (g .size) w i) (cursor (g .size) w′ i)) → Stack g w′ d′
+    {wd : Width} {g : Graph} {w w′ : List ℕ} {d d′ : ℕ} → Stack wd g w d → d′ ≤ d → ((i : ℕ) → i < d′ → stacked (g .size) w′ i ≡ stacked (g .size) w i) →
+    ((i : ℕ) → i < d′ → Place wd g w′ (stacked (g .size) w i) (cursor (g .size) w′ i)) → Stack wd g w′ d′
 stack-same h l same place =
     record {
       places = λ i b. rw (same i b) (place i b);
@@ -36,9 +45,9 @@ stack-same h l same place =
       linked = λ i b. rw (same i (omega arith), same (suc i) b) (h .linked i (omega arith));
     }
 
-module _ {g : Graph} (closed : Bounded g) where
+module _ {wd : Width} {g : Graph} (closed : Bounded g) where
   -- a place stays one where visited nodes stay visited
-  place-grows : {w w′ : List ℕ} {x r : ℕ} → Grows (g .size) w w′ → Place g w x r → Place g w′ x r
+  place-grows : {w w′ : List ℕ} {x r : ℕ} → Grows wd (g .size) w w′ → Place wd g w x r → Place wd g w′ x r
   place-grows {x = x} e p =
       record {
         inside = p .inside;
@@ -48,20 +57,12 @@ module _ {g : Graph} (closed : Bounded g) where
             λ y t. elim (p .ahead y t) [ inl v ↦ inl (e .stays y (closed .edge x y (p .inside) t) v) | inr v ↦ inr v ];
       }
 
-  -- what every edge hands on, every way does
-  way-keeps :
-      (P : ℕ → Type 0) → ((x y : ℕ) → x < g .size → P x → Arc g x y → P y) → {x y : ℕ} → x < g .size → P x → Way g x y →
-      (y < g .size) × P y
-  way-keeps P f l k stay = (l, k)
-  way-keeps P f l k (onward {y} z p t) =
-      let q = way-keeps P f l k p in (closed .edge y z (q .0) t, f y z (q .0) (q .1) t)
-
   -- A NODE ENTERS: a white node that is reached, with an edge from the top of the stack
-  module _ {w w′ : List ℕ} {d x : ℕ} (h : Search g w d) (l : x < g .size) (white : colour w x ≡ 0) (e : Enters (g .size) w w′ x (g .first x) d) where
-    enter-colour : (y : ℕ) → y < g .size → (y ≡ x) ⊎ (colour w′ y ≡ colour w y)
+  module _ {w w′ : List ℕ} {d x : ℕ} (h : Search wd g w d) (l : x < g .size) (is-white : colour wd w x ≡ white) (e : Enters wd (g .size) w w′ x (g .first x) d) where
+    enter-colour : (y : ℕ) → y < g .size → (y ≡ x) ⊎ (colour wd w′ y ≡ colour wd w y)
     enter-colour y b = elim (same-or y x) [ inl s ↦ inl s | inr ne ↦ inr (e .others y b ne) ]
 
-    pub enter-grows : Grows (g .size) w w′
+    pub enter-grows : Grows wd (g .size) w w′
     enter-grows =
         record {
           stays =
@@ -69,25 +70,25 @@ module _ {g : Graph} (closed : Bounded g) where
               elim (enter-colour y b) [ inl s ↦ (let k = e .here in rw s (omega arith)) | inr s ↦ omega arith ];
         }
 
-    pub enter-whites : whites (g .size) w′ < whites (g .size) w
+    pub enter-whites : whites wd (g .size) w′ < whites wd (g .size) w
     enter-whites =
-        coloured-less 0 (g .size) w w′
-        (λ y b z. elim (enter-colour y b) [ inl s ↦ rw s white | inr s ↦ sym s ∙ z ])
-        x l white (λ z. let k = e .here in omega arith)
+        coloured-less wd white (g .size) w w′
+        (λ y b z. elim (enter-colour y b) [ inl s ↦ rw s is-white | inr s ↦ sym s ∙ z ])
+        x l is-white (λ z. let k = e .here in omega arith)
 
     module _ (found : Node-reached g x) (small : g .first x ≤ g .last)
         (link : (i : ℕ) → suc i ≡ d → Arc g (stacked (g .size) w i) x) where
       -- nodes of the stack are grey, so that they are others
       other-stacked : (i : ℕ) → i < d → stacked (g .size) w i ≡ x → ⊥
-      other-stacked i b s = let k = h .grey i b in let z : colour w x ≡ 1 = rw s at k in omega arith
+      other-stacked i b s = let k = h .greys i b in let z : colour wd w x ≡ grey = rw s at k in omega arith
 
-      kept-colour : (i : ℕ) → i < d → colour w′ (stacked (g .size) w i) ≡ 1
-      kept-colour i b = e .others (stacked (g .size) w i) (h .stack .places i b .inside) (other-stacked i b) ∙ h .grey i b
+      kept-colour : (i : ℕ) → i < d → colour wd w′ (stacked (g .size) w i) ≡ grey
+      kept-colour i b = e .others (stacked (g .size) w i) (h .stack .places i b .inside) (other-stacked i b) ∙ h .greys i b
 
       enter-place : (i : ℕ) → i < suc d → ((i ≡ d) × (stacked (g .size) w′ i ≡ x)) ⊎ ((i < d) × (stacked (g .size) w′ i ≡ stacked (g .size) w i))
       enter-place = one-entry-more (e .top) (e .below)
 
-      enter-stack : Stack g w′ (suc d)
+      enter-stack : Stack wd g w′ (suc d)
       enter-stack =
           record {
             places =
@@ -115,28 +116,28 @@ module _ {g : Graph} (closed : Bounded g) where
                 ];
           }
 
-      enter-found : (y : ℕ) → y < g .size → colour w′ y ≡ 1 → (i : ℕ) × (i < suc d) × (stacked (g .size) w′ i ≡ y)
+      enter-found : (y : ℕ) → y < g .size → colour wd w′ y ≡ grey → (i : ℕ) × (i < suc d) × (stacked (g .size) w′ i ≡ y)
       enter-found y b k =
           elim (enter-colour y b) [
             | inl s ↦ (d, (omega arith), e .top ∙ sym s)
             | inr s ↦ let r = h .on-stack y b (sym s ∙ k) in (r .0, (let t = r .1 in omega arith), e .below (r .0) (r .1) ∙ r .2)
           ]
 
-      enter-old : (y : ℕ) → y < g .size → 2 ≤ colour w′ y → colour w′ y ≡ colour w y
-      enter-old y b o = e .others y b (λ s. let k = e .here in let z : 2 ≤ colour w′ x = rw s at o in omega arith)
+      enter-old : (y : ℕ) → y < g .size → black ≤ colour wd w′ y → colour wd w′ y ≡ colour wd w y
+      enter-old y b o = e .others y b (λ s. let k = e .here in let z : black ≤ colour wd w′ x = rw s at o in omega arith)
 
-      enter-red : (y z : ℕ) → y < g .size → colour w′ y ≡ 3 → Arc g y z → colour w′ z ≡ 3
+      enter-red : (y z : ℕ) → y < g .size → colour wd w′ y ≡ red → Arc g y z → colour wd w′ z ≡ red
       enter-red y z b o t =
           let k = h .closed .edges y z b (sym (enter-old y b (omega arith)) ∙ o) t in
-          e .others z (closed .edge y z b t) (λ s. let q : colour w x ≡ 3 = rw s at k in omega arith) ∙ k
+          e .others z (closed .edge y z b t) (λ s. let q : colour wd w x ≡ red = rw s at k in omega arith) ∙ k
 
-      pub enter-keeps : Search g w′ (suc d)
+      pub enter-keeps : Search wd g w′ (suc d)
       enter-keeps =
           record {
             long = let k = e .size in let j = h .long in omega arith;
             room = let k = h .room in let j = enter-whites in omega arith;
             stack = enter-stack;
-            grey = λ i b. elim (enter-place i b) [ inl s ↦ rw (s .1) (e .here) | inr s ↦ rw (s .1) (kept-colour i (s .0)) ];
+            greys = λ i b. elim (enter-place i b) [ inl s ↦ rw (s .1) (e .here) | inr s ↦ rw (s .1) (kept-colour i (s .0)) ];
             on-stack = enter-found;
             reached =
                 λ y b o. elim (enter-colour y b) [ inl s ↦ rw s found | inr s ↦ h .reached y b (omega arith) ];
@@ -148,17 +149,17 @@ module _ {g : Graph} (closed : Bounded g) where
           }
 
   -- THE CURSOR MOVES ON: past records whose targets are visited
-  module _ {w w′ : List ℕ} {d p r : ℕ} (h : Search g w d) (e : Advances (g .size) w w′ p r) where
-    pub advance-grows : Grows (g .size) w w′
+  module _ {w w′ : List ℕ} {d p r : ℕ} (h : Search wd g w d) (e : Advances wd (g .size) w w′ p r) where
+    pub advance-grows : Grows wd (g .size) w w′
     advance-grows = record { stays = λ y b o. let k = e .colours y b in omega arith }
 
     pub advance-keeps :
         {x : ℕ} → stacked (g .size) w p ≡ x → r ≤ g .last →
         ((y : ℕ) → g .Ahead x r y → g .Ahead x (cursor (g .size) w p) y) →
-        ((y : ℕ) → g .Ahead x (cursor (g .size) w p) y → (1 ≤ colour w y) ⊎ g .Ahead x r y) → Search g w′ d
+        ((y : ℕ) → g .Ahead x (cursor (g .size) w p) y → (grey ≤ colour wd w y) ⊎ g .Ahead x r y) → Search wd g w′ d
     advance-keeps {x} at-x small fewer passed =
         let fits : d ≤ g .size = (let k = h .room in omega arith) in
-        let moved : Place g w x (cursor (g .size) w p) → Place g w x r =
+        let moved : Place wd g w x (cursor (g .size) w p) → Place wd g w x r =
         λ q.
         (record {
           inside = q .inside;
@@ -178,7 +179,7 @@ module _ {g : Graph} (closed : Bounded g) where
                 | inl s ↦ rw (s, at-x, e .here) (moved (rw (s, at-x) at q))
                 | inr ne ↦ rw (e .others i ne) q
               ]));
-          grey = λ i b. rw (e .stack i (omega arith)) (e .colours (stacked (g .size) w i) (h .stack .places i b .inside) ∙ h .grey i b);
+          greys = λ i b. rw (e .stack i (omega arith)) (e .colours (stacked (g .size) w i) (h .stack .places i b .inside) ∙ h .greys i b);
           on-stack =
               λ y b k.
               let s = h .on-stack y b (sym (e .colours y b) ∙ k) in
@@ -195,12 +196,12 @@ module _ {g : Graph} (closed : Bounded g) where
         }
 
   -- THE TOP LEAVES the stack, black or red
-  module _ {w w′ : List ℕ} {d c : ℕ} (h : Search g w (suc d)) (e : Recolours (g .size) w w′ (stacked (g .size) w d) c)
-      (low : 2 ≤ c) where
-    leave-colour : (y : ℕ) → (y ≡ stacked (g .size) w d) ⊎ (colour w′ y ≡ colour w y)
+  module _ {w w′ : List ℕ} {d c : ℕ} (h : Search wd g w (suc d)) (e : Recolours wd (g .size) w w′ (stacked (g .size) w d) c)
+      (low : black ≤ c) where
+    leave-colour : (y : ℕ) → (y ≡ stacked (g .size) w d) ⊎ (colour wd w′ y ≡ colour wd w y)
     leave-colour y = elim (same-or y (stacked (g .size) w d)) [ inl s ↦ inl s | inr ne ↦ inr (e .others y ne) ]
 
-    pub leave-grows : Grows (g .size) w w′
+    pub leave-grows : Grows wd (g .size) w w′
     leave-grows =
         record {
           stays =
@@ -210,29 +211,29 @@ module _ {g : Graph} (closed : Bounded g) where
     leave-other : (i : ℕ) → i < d → stacked (g .size) w i ≡ stacked (g .size) w d → ⊥
     leave-other i b = h .stack .distinct i d b (omega arith)
 
-    module _ (done : (y : ℕ) → Arc g (stacked (g .size) w d) y → 1 ≤ colour w y)
-        (reds : c ≡ 3 → (y : ℕ) → Arc g (stacked (g .size) w d) y → colour w y ≡ 3)
+    module _ (done : (y : ℕ) → Arc g (stacked (g .size) w d) y → grey ≤ colour wd w y)
+        (reds : c ≡ red → (y : ℕ) → Arc g (stacked (g .size) w d) y → colour wd w y ≡ red)
         (fruitless : g .accepts (stacked (g .size) w d) ≡ true → Cycle g (stacked (g .size) w d) → ⊥) where
-      leave-found : (y : ℕ) → y < g .size → colour w′ y ≡ 1 → (i : ℕ) × (i < d) × (stacked (g .size) w′ i ≡ y)
+      leave-found : (y : ℕ) → y < g .size → colour wd w′ y ≡ grey → (i : ℕ) × (i < d) × (stacked (g .size) w′ i ≡ y)
       leave-found y b k =
           let ne : (y ≡ stacked (g .size) w d → ⊥) =
-          λ s. (let q = e .here in let z : colour w′ (stacked (g .size) w d) ≡ 1 = rw s at k in omega arith) in
+          λ s. (let q = e .here in let z : colour wd w′ (stacked (g .size) w d) ≡ grey = rw s at k in omega arith) in
           let r = h .on-stack y b (sym (e .others y ne) ∙ k) in
           let top : (r .0 ≡ d → ⊥) = λ s. ne (sym (r .2) ∙ ap (stacked (g .size) w) s) in
           let lt : r .0 < d = (let t = r .1 in omega arith) in
           (r .0, lt, e .stack (r .0) (let k = h .room in omega arith) ∙ r .2)
 
-      leave-red : (y z : ℕ) → y < g .size → colour w′ y ≡ 3 → Arc g y z → colour w′ z ≡ 3
+      leave-red : (y z : ℕ) → y < g .size → colour wd w′ y ≡ red → Arc g y z → colour wd w′ z ≡ red
       leave-red y z b o t =
-          let grey = h .grey d (omega arith) in
-          let keep : colour w z ≡ 3 → colour w′ z ≡ 3 =
-          λ k. e .others z (λ s. let q : colour w (stacked (g .size) w d) ≡ 3 = rw s at k in omega arith) ∙ k in
+          let was = h .greys d (omega arith) in
+          let keep : colour wd w z ≡ red → colour wd w′ z ≡ red =
+          λ k. e .others z (λ s. let q : colour wd w (stacked (g .size) w d) ≡ red = rw s at k in omega arith) ∙ k in
           elim (leave-colour y) [
             | inl s ↦ keep (reds (sym (e .here) ∙ rw s at o) z (rw s at t))
             | inr s ↦ keep (h .closed .edges y z b (sym s ∙ o) t)
           ]
 
-      pub leave-keeps : Search g w′ d
+      pub leave-keeps : Search wd g w′ d
       leave-keeps =
           let fits : suc d ≤ g .size = (let k = h .room in omega arith) in
           record {
@@ -241,13 +242,13 @@ module _ {g : Graph} (closed : Bounded g) where
             stack =
                 stack-same (h .stack) (omega arith) (λ i b. e .stack i (omega arith))
                 (λ i b. rw (e .cursors i (omega arith)) (place-grows leave-grows (h .stack .places i (omega arith))));
-            grey =
-                λ i b. rw (e .stack i (omega arith)) (e .others (stacked (g .size) w i) (leave-other i b) ∙ h .grey i (omega arith));
+            greys =
+                λ i b. rw (e .stack i (omega arith)) (e .others (stacked (g .size) w i) (leave-other i b) ∙ h .greys i (omega arith));
             on-stack = leave-found;
             reached =
                 λ y b o.
                 elim (leave-colour y) [
-                  | inl s ↦ rw s (h .reached (stacked (g .size) w d) (h .stack .places d (omega arith) .inside) (let k = h .grey d (omega arith) in omega arith))
+                  | inl s ↦ rw s (h .reached (stacked (g .size) w d) (h .stack .places d (omega arith) .inside) (let k = h .greys d (omega arith) in omega arith))
                   | inr s ↦ h .reached y b (omega arith)
                 ];
             finished =
@@ -264,11 +265,11 @@ module _ {g : Graph} (closed : Bounded g) where
           }
 
   -- THE INNER SEARCH in between keeps everything
-  module _ {w w′ : List ℕ} {d : ℕ} (h : Search g w d) (r : Redder (g .size) w w′) where
-    pub redder-grows : Grows (g .size) w w′
+  module _ {w w′ : List ℕ} {d : ℕ} (h : Search wd g w d) (r : Redder wd (g .size) w w′) where
+    pub redder-grows : Grows wd (g .size) w w′
     redder-grows = record { stays = stays-visited r }
 
-    pub redder-keeps : length w′ ≡ length w → Red-closed g w′ → Search g w′ d
+    pub redder-keeps : length w′ ≡ length w → Red-closed wd g w′ → Search wd g w′ d
     redder-keeps same reds =
         let fits : d ≤ g .size = (let k = h .room in omega arith) in
         record {
@@ -277,7 +278,7 @@ module _ {g : Graph} (closed : Bounded g) where
           stack =
               stack-same (h .stack) (omega arith) (λ i b. r .stack i (omega arith))
               (λ i b. rw (r .cursors i (omega arith)) (place-grows redder-grows (h .stack .places i b)));
-          grey = λ i b. rw (r .stack i (omega arith)) (stays-grey r (stacked (g .size) w i) (h .stack .places i b .inside) (h .grey i b));
+          greys = λ i b. rw (r .stack i (omega arith)) (stays-grey r (stacked (g .size) w i) (h .stack .places i b .inside) (h .greys i b));
           on-stack =
               λ y b k.
               let s = h .on-stack y b (was-grey r y b k) in
@@ -291,19 +292,19 @@ module _ {g : Graph} (closed : Bounded g) where
 
   -- a way from a red node leads to red nodes, so a node that is not red, and whose targets are red, lies on no cycle
   pub red-no-cycle :
-      {w : List ℕ} {x : ℕ} → Red-closed g w → x < g .size → colour w x ≡ 1 → ((y : ℕ) → Arc g x y → colour w y ≡ 3) →
+      {w : List ℕ} {x : ℕ} → Red-closed wd g w → x < g .size → colour wd w x ≡ grey → ((y : ℕ) → Arc g x y → colour wd w y ≡ red) →
       Cycle g x → ⊥
   red-no-cycle {w} {x} c l k reds q =
       let s =
-      way-keeps (λ y. colour w y ≡ 3) (c .edges) (closed .edge x (q .behind) l (q .leaves)) (reds (q .behind) (q .leaves)) (q .returns) in
+      way-keeps closed (λ y. colour wd w y ≡ red) (c .edges) (closed .edge x (q .behind) l (q .leaves)) (reds (q .behind) (q .leaves)) (q .returns) in
       let z = s .1 in omega arith
 
   -- THE TOP, FINISHED: black where it does not accept
   pub black-leaves :
-      {w w′ : List ℕ} {d x : ℕ} → Search g w (suc d) → x ≡ stacked (g .size) w d → ((y : ℕ) → Arc g x y → 1 ≤ colour w y) →
-      g .accepts x ≡ false → Recolours (g .size) w w′ x 2 → Left-off g w w′ d
+      {w w′ : List ℕ} {d x : ℕ} → Search wd g w (suc d) → x ≡ stacked (g .size) w d → ((y : ℕ) → Arc g x y → grey ≤ colour wd w y) →
+      g .accepts x ≡ false → Recolours wd (g .size) w w′ x black → Left-off wd g w w′ d
   black-leaves {w} {w′} {d} {x} h top done rejects e =
-      let e′ : Recolours (g .size) w w′ (stacked (g .size) w d) 2 = rw top at e in
+      let e′ : Recolours wd (g .size) w w′ (stacked (g .size) w d) black = rw top at e in
       record {
         search =
             leave-keeps h e′ (omega arith) (rw top at done) (λ z. absurd (omega arith))
@@ -313,17 +314,17 @@ module _ {g : Graph} (closed : Bounded g) where
 
   -- red after an inner search that met no grey node: then all its targets are red, and it lies on no cycle
   pub red-leaves :
-      {w w1 w′ : List ℕ} {d x : ℕ} → Search g w (suc d) → x ≡ stacked (g .size) w d → length w1 ≡ length w → Redder (g .size) w w1 → Red-closed g w1 →
-      ((y : ℕ) → Arc g x y → colour w1 y ≡ 3) → Recolours (g .size) w1 w′ x 3 → Left-off g w w′ d
+      {w w1 w′ : List ℕ} {d x : ℕ} → Search wd g w (suc d) → x ≡ stacked (g .size) w d → length w1 ≡ length w → Redder wd (g .size) w w1 → Red-closed wd g w1 →
+      ((y : ℕ) → Arc g x y → colour wd w1 y ≡ red) → Recolours wd (g .size) w1 w′ x red → Left-off wd g w w′ d
   red-leaves {w} {w1} {w′} {d} {x} h top same r c reds e =
       let fits : d < g .size = (let k = h .room in omega arith) in
       let top1 : x ≡ stacked (g .size) w1 d = top ∙ sym (r .stack d fits) in
       let h1 = redder-keeps h r same c in
-      let e′ : Recolours (g .size) w1 w′ (stacked (g .size) w1 d) 3 = rw top1 at e in
-      let grey : colour w1 x ≡ 1 = rw top1 (h1 .grey d (omega arith)) in
+      let e′ : Recolours wd (g .size) w1 w′ (stacked (g .size) w1 d) red = rw top1 at e in
+      let still : colour wd w1 x ≡ grey = rw top1 (h1 .greys d (omega arith)) in
       let inside : x < g .size = rw top1 (h1 .stack .places d (omega arith) .inside) in
-      let no-cycle : Cycle g x → ⊥ = red-no-cycle c inside grey reds in
-      let visited : (y : ℕ) → Arc g x y → 1 ≤ colour w1 y = λ y t. (let k = reds y t in omega arith) in
+      let no-cycle : Cycle g x → ⊥ = red-no-cycle c inside still reds in
+      let visited : (y : ℕ) → Arc g x y → grey ≤ colour wd w1 y = λ y t. (let k = reds y t in omega arith) in
       record {
         search =
             leave-keeps h1 e′ (omega arith) (rw top1 at visited) (λ z. rw top1 at reds)
@@ -332,30 +333,30 @@ module _ {g : Graph} (closed : Bounded g) where
       }
 
   -- A GREY NODE that the inner search meets: from it the stack leads on to the top
-  stack-way : {w : List ℕ} {d : ℕ} → Search g w d → (i j : ℕ) → i ≤ j → j < d → Way g (stacked (g .size) w i) (stacked (g .size) w j)
+  stack-way : {w : List ℕ} {d : ℕ} → Search wd g w d → (i j : ℕ) → i ≤ j → j < d → Way g (stacked (g .size) w i) (stacked (g .size) w j)
   stack-way {w} {d} h i =
       upward (λ j. j < d → Way g (stacked (g .size) w i) (stacked (g .size) w j)) i (λ b. stay)
       (λ j l p b. onward (stacked (g .size) w (suc j)) (p (omega arith)) (h .stack .linked j b))
 
   pub grey-cycle :
-      {w : List ℕ} {d : ℕ} → Search g w (suc d) → (y z : ℕ) → Arc g (stacked (g .size) w d) z → Way g z y → y < g .size →
-      colour w y ≡ 1 → g .accepts (stacked (g .size) w d) ≡ true → Found g
+      {w : List ℕ} {d : ℕ} → Search wd g w (suc d) → (y z : ℕ) → Arc g (stacked (g .size) w d) z → Way g z y → y < g .size →
+      colour wd w y ≡ grey → g .accepts (stacked (g .size) w d) ≡ true → Found g
   grey-cycle {w} {d} h y z t p b k a =
       let s = h .on-stack y b k in
       let back : Way g y (stacked (g .size) w d) =
       rw (s .2) at (stack-way h (s .0) d (let m = s .1 in omega arith) (omega arith)) in
       record {
         node = stacked (g .size) w d;
-        reached = h .reached (stacked (g .size) w d) (h .stack .places d (omega arith) .inside) (let j = h .grey d (omega arith) in omega arith);
+        reached = h .reached (stacked (g .size) w d) (h .stack .places d (omega arith) .inside) (let j = h .greys d (omega arith) in omega arith);
         accepts = a;
         cycle = record { behind = z; leaves = t; returns = way-way p back };
       }
 
   -- THE END: the stack is empty, so that every visited node is finished
-  module _ {w : List ℕ} (h : Search g w 0) (all : (x : ℕ) → g .starts x ≡ true → 1 ≤ colour w x) where
-    not-grey : (x : ℕ) → x < g .size → 1 ≤ colour w x → 2 ≤ colour w x
+  module _ {w : List ℕ} (h : Search wd g w 0) (all : (x : ℕ) → g .starts x ≡ true → grey ≤ colour wd w x) where
+    not-grey : (x : ℕ) → x < g .size → grey ≤ colour wd w x → black ≤ colour wd w x
     not-grey x l o =
-        elim (same-or (colour w x) 1) [
+        elim (same-or (colour wd w x) grey) [
           | inl k ↦ absurd (let s = h .on-stack x l k in let z = s .1 in omega arith)
           | inr ne ↦ omega arith
         ]
@@ -365,6 +366,6 @@ module _ {g : Graph} (closed : Bounded g) where
     none-found f =
         let s = f .reached in
         let q =
-        way-keeps (λ x. 1 ≤ colour w x) (λ x y l o. h .finished x y l (not-grey x l o)) (closed .start (s .start) (s .begins))
+        way-keeps closed (λ x. grey ≤ colour wd w x) (λ x y l o. h .finished x y l (not-grey x l o)) (closed .start (s .start) (s .begins))
         (all (s .start) (s .begins)) (s .way) in
         h .fruitless (f .node) (q .0) (not-grey (f .node) (q .0) (q .1)) (f .accepts) (f .cycle)

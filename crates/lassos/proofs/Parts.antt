@@ -14,6 +14,7 @@ use Rattle.basics.proofs.Scans.{scan-fails}
 use Rattle.automata.specs.Lasso.{all-below, Lasso}
 use Rattle.tables.specs.Table.{Limits, n-of, k-of, table-refusal}
 use Rattle.lassos.specs.Refusals.{longest-part, parts-refusal, lasso-refusal}
+use Rattle.lassos.specs.Width.{machine-bits, Few}
 
 -- A LETTER of a part that is none
 pub not-below : (k : ℕ) (u : List ℕ) (i : ℕ) → i < length u → k ≤ getD u i 0 → false ≡ all-below k u
@@ -61,10 +62,12 @@ module _ (n k : ℕ) (u v : List ℕ) (w : ℕ) where
             unfolding parts-refusal
             parts-pass l = cc (past-13, past-14, ge-ltb l)
 
--- the words that are needed are a number of 64 bits
-pub needed-fits : (n a b : ℕ) → n < 2 ^ 32 → a ≤ longest-part → b ≤ longest-part → 4 * n * (a + b) < 2 ^ 64
-needed-fits n a b l p q =
-    let x : 4 * n ≤ 4 * 2 ^ 32 = omega arith in
+-- for fewer states than some number with which the largest product can be counted through, the words that are needed can be counted too
+pub needed-fits :
+    (most n a b : ℕ) → Few machine-bits (2 * longest-part * most) → n < most → a ≤ longest-part → b ≤ longest-part →
+    4 * n * (a + b) < 2 ^ machine-bits
+needed-fits most n a b few l p q =
+    let x : 4 * n ≤ 4 * most = omega arith in
     let y : a + b ≤ 2 * longest-part = omega arith in let m = mul-le-mul x y in omega arith
 
 -- TABLE FIRST, in a range

@@ -10,14 +10,15 @@ use Rattle.basics.proofs.Booleans.{lt-ltb, ge-ltb}
 use Rattle.automata.specs.Lasso.{positions, position-letter, next-position}
 use Rattle.lassos.specs.Product.{node-letter, node-base}
 use Rattle.lassos.specs.Steps.{Node-asks}
+use Rattle.lassos.specs.Width.{machine-bits}
 
 -- a node's position is one of the lasso's
 pub position-inside : {u v : List ℕ} {n x : ℕ} → Node-asks u v n x → x / n < length u + length v
 unfolding positions
 position-inside a = div-lt-iff-lt-mul (a .some) .1 (a .inside)
 
--- and the first node of a position is a number of 64 bits
-pub node-fits : {u v : List ℕ} {n x : ℕ} → Node-asks u v n x → (p : ℕ) → p ≤ length u + length v → p * n < 2 ^ 64
+-- and the first node of a position is a number of a machine word
+pub node-fits : {u v : List ℕ} {n x : ℕ} → Node-asks u v n x → (p : ℕ) → p ≤ length u + length v → p * n < 2 ^ machine-bits
 unfolding positions
 node-fits {n = n} a p l = let k = mul-le-mul-right n l in let s = a .small in omega arith
 

@@ -4,3 +4,4 @@ pub mod Product
 pub mod Refusals
 pub mod Search
 pub mod Steps
+pub mod Width

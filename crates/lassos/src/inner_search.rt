@@ -1,4 +1,6 @@
 // The inner search: from a finished accepting node through black nodes, which turn red. Meeting a grey node closes a cycle.
+use crate::colouring::BLACK;
+use crate::colouring::GREY;
 use crate::colouring::colour_of;
 use crate::colouring::raise;
 use crate::nodes::node_base;
@@ -10,7 +12,8 @@ use tables::target_of;
 ghost use Rattle.lassos.specs.Graph.{Arc};
 ghost use Rattle.lassos.specs.Product.{Chain-to, product-graph};
 ghost use Rattle.lassos.specs.Search.{Spread-says, Drained, Inner-says};
-ghost use Rattle.lassos.specs.Steps.{width-16, Follow-asks, Follow-says, Spread-asks, Spread-node-asks, Drain-asks, Meets-asks};
+ghost use Rattle.lassos.specs.Steps.{Follow-asks, Follow-says, Spread-asks, Spread-node-asks, Drain-asks, Meets-asks};
+ghost use Rattle.lassos.specs.Width.{width-16};
 
 // Follows one record's edge: a black target turns red and waits. Answers how many nodes wait, or size + 1 where the target is grey.
 fn follow(
@@ -24,17 +27,17 @@ fn follow(
     waiting: usize,
 ) -> usize
     requires { ⌜ Follow-asks width-16 (now table) (now work) states size base at waiting ⌝ }
-    ensures { λ r. ⌜ Follow-says (now (table .entry)) size letter base at (now (work .entry)) (now (work .exit)) waiting r ⌝ }
+    ensures { λ r. ⌜ Follow-says width-16 (now (table .entry)) size letter base at (now (work .entry)) (now (work .exit)) waiting r ⌝ }
 {
     if letter_of(table, states, at) != letter {
         return waiting;
     }
     let node = base + target_of(table, states, at);
     let colour = colour_of(work, node);
-    if colour == 1 {
+    if colour == GREY {
         return size + 1;
     }
-    if colour == 2 {
+    if colour == BLACK {
         raise(work, node, 1);
         work[3 * size + waiting] = node as u32;
         return waiting + 1;
@@ -54,7 +57,7 @@ fn spread(
     waiting: usize,
 ) -> usize
     requires { ⌜ Spread-asks width-16 (now table) (now work) states size base first waiting ⌝ }
-    ensures { λ r. ⌜ Spread-says size (λ y. Chain-to (now (table .entry)) letter base y first) (now (work .entry)) (now (work .exit)) waiting r ⌝ }
+    ensures { λ r. ⌜ Spread-says width-16 size (λ y. Chain-to (now (table .entry)) letter base y first) (now (work .entry)) (now (work .exit)) waiting r ⌝ }
 {
     let mut at = first;
     let mut count = waiting;
@@ -80,7 +83,7 @@ fn spread_node(
     waiting: usize,
 ) -> usize
     requires { ⌜ Spread-node-asks width-16 (now table) (now prefix) (now cycle) (now work) states size node waiting ⌝ }
-    ensures { λ r. ⌜ Spread-says (product-graph (now (table .entry)) (now (prefix .entry)) (now (cycle .entry)) .size)
+    ensures { λ r. ⌜ Spread-says width-16 (product-graph (now (table .entry)) (now (prefix .entry)) (now (cycle .entry)) .size)
         (Arc (product-graph (now (table .entry)) (now (prefix .entry)) (now (cycle .entry))) node)
         (now (work .entry)) (now (work .exit)) waiting r ⌝ }
 {
@@ -101,7 +104,7 @@ fn drain(
     waiting: usize,
 ) -> bool
     requires { ⌜ Drain-asks width-16 (now table) (now prefix) (now cycle) (now work) states size waiting ⌝ }
-    ensures { λ r. ⌜ Drained (product-graph (now (table .entry)) (now (prefix .entry)) (now (cycle .entry)))
+    ensures { λ r. ⌜ Drained width-16 (product-graph (now (table .entry)) (now (prefix .entry)) (now (cycle .entry)))
         (now (work .entry)) (now (work .exit)) waiting r ⌝ }
 {
     let mut count = waiting;
@@ -127,7 +130,7 @@ pub(crate) fn meets_grey(
     node: usize,
 ) -> bool
     requires { ⌜ Meets-asks width-16 (now table) (now prefix) (now cycle) (now work) states size node ⌝ }
-    ensures { λ r. ⌜ Inner-says (product-graph (now (table .entry)) (now (prefix .entry)) (now (cycle .entry))) node
+    ensures { λ r. ⌜ Inner-says width-16 (product-graph (now (table .entry)) (now (prefix .entry)) (now (cycle .entry))) node
         (now (work .entry)) (now (work .exit)) r ⌝ }
 {
     let waiting = spread_node(table, prefix, cycle, work, states, size, node, 0);

@@ -5,6 +5,7 @@ mod nodes;
 mod outer_search;
 
 use basics::clear32;
+use colouring::WORD_COLOURS;
 use outer_search::search;
 use tables::WIDE_RECORDS;
 use tables::WIDE_STATES;
@@ -19,6 +20,7 @@ ghost use Rattle.automata.specs.Lasso.{all-below};
 ghost use Rattle.tables.specs.Table.{wide-range, meaning, table-refusal};
 ghost use Rattle.lassos.specs.Decision.{decision, Lasso-says, Takes-asks};
 ghost use Rattle.lassos.specs.Refusals.{parts-refusal};
+ghost use Rattle.lassos.specs.Width.{width-16};
 
 // The letters that a prefix may have, and a loop.
 pub const PART_LETTERS: usize = 4096;
@@ -47,7 +49,7 @@ fn letters_below(part: &[u8], k: usize) -> bool
 
 // The first of refusals 13 to 16 that a lasso meets for a table of n states and k letters and so many work words, or zero.
 fn parts_refusal(n: usize, k: usize, prefix: &[u8], cycle: &[u8], work: usize) -> u32
-    requires { ⌜ n < 2 ^ 32 ⌝ }
+    requires { ⌜ n < 2 ^ width-16 .work-bits ⌝ }
     ensures { λ r. ⌜ r ≡ parts-refusal n k (now (prefix .entry)) (now (cycle .entry)) work ⌝ }
 {
     if cycle.len() == 0 {
@@ -78,7 +80,7 @@ fn takes(table: &[u16], prefix: &[u8], cycle: &[u8], work: &mut [u32]) -> bool
 {
     let states = states_of(table);
     let size = (prefix.len() + cycle.len()) * states;
-    clear32(&mut work[..size / 16 + 1]);
+    clear32(&mut work[..size / WORD_COLOURS + 1]);
     search(table, prefix, cycle, work, states, size)
 }
 

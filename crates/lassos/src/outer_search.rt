@@ -1,4 +1,5 @@
 // The outer search: depth first through the product, from the initial states at the first position.
+use crate::colouring::WHITE;
 use crate::colouring::colour_of;
 use crate::colouring::raise;
 use crate::inner_search::meets_grey;
@@ -13,7 +14,8 @@ ghost use mathlib.Core.Path.{_≡_};
 ghost use lib.ListN.{length};
 ghost use Rattle.lassos.specs.Product.{product-graph};
 ghost use Rattle.lassos.specs.Search.{entered};
-ghost use Rattle.lassos.specs.Steps.{width-16, Chain-asks, Edge-asks, white-edge, Next-white, Enter-asks, Top-asks, Descended, Meets-asks, Finished, Search-asks, Explored, Try-asks, Try-says, Searched};
+ghost use Rattle.lassos.specs.Steps.{Chain-asks, Edge-asks, white-edge, Next-white, Enter-asks, Top-asks, Descended, Meets-asks, Finished, Search-asks, Explored, Try-asks, Try-says, Searched};
+ghost use Rattle.lassos.specs.Width.{width-16};
 
 // Whether a record is an edge on the letter to a white node.
 fn leads_to_white(
@@ -25,12 +27,12 @@ fn leads_to_white(
     at: usize,
 ) -> bool
     requires { ⌜ Edge-asks width-16 (now table) states (length (now work)) base at ⌝ }
-    ensures { λ r. ⌜ r ≡ white-edge (now (table .entry)) (now (work .entry)) letter base at ⌝ }
+    ensures { λ r. ⌜ r ≡ white-edge width-16 (now (table .entry)) (now (work .entry)) letter base at ⌝ }
 {
     if letter_of(table, states, at) != letter {
         return false;
     }
-    colour_of(work, base + target_of(table, states, at)) == 0
+    colour_of(work, base + target_of(table, states, at)) == WHITE
 }
 
 // The first record of a chain, from this one on, whose edge on the letter leads to a white node; zero where there is none.
@@ -43,7 +45,7 @@ fn next_white(
     first: usize,
 ) -> usize
     requires { ⌜ Chain-asks width-16 (now table) states (length (now work)) base first ⌝ }
-    ensures { λ r. ⌜ Next-white (now (table .entry)) (now (work .entry)) letter base first r ⌝ }
+    ensures { λ r. ⌜ Next-white width-16 (now (table .entry)) (now (work .entry)) letter base first r ⌝ }
 {
     let mut at = first;
     while at != 0 {
@@ -57,8 +59,8 @@ fn next_white(
 
 // A white node turns grey and lies on the stack; its cursor stands at its first record.
 fn enter(work: &mut [u32], size: usize, node: usize, first: usize, depth: usize)
-    requires { ⌜ Enter-asks (width-16 .bits) (now work) size node first depth ⌝ }
-    ensures { λ _. ⌜ now (work .exit) ≡ entered size (now (work .entry)) node first depth ⌝ }
+    requires { ⌜ Enter-asks width-16 (now work) size node first depth ⌝ }
+    ensures { λ _. ⌜ now (work .exit) ≡ entered width-16 size (now (work .entry)) node first depth ⌝ }
 {
     raise(work, node, 1);
     work[size + depth] = node as u32;
@@ -77,7 +79,7 @@ fn descend(
     depth: usize,
 ) -> bool
     requires { ⌜ Top-asks width-16 (now table) (now prefix) (now cycle) (now work) states size node depth ⌝ }
-    ensures { λ r. ⌜ Descended (product-graph (now (table .entry)) (now (prefix .entry)) (now (cycle .entry)))
+    ensures { λ r. ⌜ Descended width-16 (product-graph (now (table .entry)) (now (prefix .entry)) (now (cycle .entry)))
         (now (work .entry)) (now (work .exit)) node depth r ⌝ }
 {
     let letter = node_letter(prefix, cycle, states, node);
@@ -105,7 +107,7 @@ fn finish(
     node: usize,
 ) -> bool
     requires { ⌜ Meets-asks width-16 (now table) (now prefix) (now cycle) (now work) states size node ⌝ }
-    ensures { λ r. ⌜ Finished (product-graph (now (table .entry)) (now (prefix .entry)) (now (cycle .entry))) node
+    ensures { λ r. ⌜ Finished width-16 (product-graph (now (table .entry)) (now (prefix .entry)) (now (cycle .entry))) node
         (now (work .entry)) (now (work .exit)) r ⌝ }
 {
     if flags_of(table, node % states) < 2 {
@@ -129,7 +131,7 @@ fn explore(
     size: usize,
 ) -> bool
     requires { ⌜ Search-asks width-16 (now table) (now prefix) (now cycle) (now work) states size 1 ⌝ }
-    ensures { λ r. ⌜ Explored (product-graph (now (table .entry)) (now (prefix .entry)) (now (cycle .entry)))
+    ensures { λ r. ⌜ Explored width-16 (product-graph (now (table .entry)) (now (prefix .entry)) (now (cycle .entry)))
         (now (work .entry)) (now (work .exit)) r ⌝ }
 {
     let mut depth: usize = 1;
@@ -159,13 +161,13 @@ fn try_state(
     state: usize,
 ) -> bool
     requires { ⌜ Try-asks width-16 (now table) (now prefix) (now cycle) (now work) states size state ⌝ }
-    ensures { λ r. ⌜ Try-says (product-graph (now (table .entry)) (now (prefix .entry)) (now (cycle .entry)))
+    ensures { λ r. ⌜ Try-says width-16 (product-graph (now (table .entry)) (now (prefix .entry)) (now (cycle .entry)))
         (now (work .entry)) (now (work .exit)) state r ⌝ }
 {
     if flags_of(table, state) % 2 != 1 {
         return false;
     }
-    if colour_of(work, state) != 0 {
+    if colour_of(work, state) != WHITE {
         return false;
     }
     enter(work, size, state, head_of(table, state), 0);

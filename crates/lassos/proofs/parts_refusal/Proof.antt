@@ -1,6 +1,9 @@
 -- `lassos::parts_refusal` meets its contract: the tests in the order of the refusals. Assumes nothing.
 use borrow.Author.Needs.{needs}
 use borrow.Author.Tests.{not-true, not-false}
+use Prim.Native.Nat.{_^_}
+use native.Mathlib.Omega.{arith}
+use Rattle.lassos.specs.Width.{width-16}
 use Rattle.lassos.proofs.Parts.{parts-13, parts-14-prefix, parts-14-loop, parts-15-prefix, parts-15-loop, parts-16, parts-pass, needed-fits}
 use Rattle.lassos.proofs.parts_refusal.Statement.{statement}
 use Rattle.lassos.proofs.parts_refusal.Tie as tie
@@ -60,7 +63,7 @@ mul-if6-2 c =
     let start : tie.Start = search in
     record {
       fits =
-          needed-fits _ _ _ (start .pre) (left-2 .if2 .left) (three .if3 .left);
+          needed-fits (2 ^ width-16 .work-bits) _ _ _ (omega arith) (start .pre) (left-2 .if2 .left) (three .if3 .left);
     }
 
 returns-6 : tie.Need-returns-6

@@ -1,5 +1,6 @@
 -- `lassos::colouring::colour_of` meets its contract: a shift by pairs of bits divides by a power of four. Assumes nothing.
 use borrow.Author.Needs.{needs}
+use Rattle.lassos.specs.Width.{width-16}
 use Rattle.lassos.proofs.Stores.{colour-read}
 use Rattle.lassos.proofs.colouring.colour_of.Statement.{statement}
 use Rattle.lassos.proofs.colouring.colour_of.Tie as tie
@@ -20,7 +21,7 @@ shr-result : tie.Need-shr-result
 shr-result c = search needs
 
 returns : tie.Need-returns
-returns c = colour-read _ _
+returns c = colour-read width-16 _ _
 
 pub colour-of-spec : {M : Type 1} → statement M
 colour-of-spec =

@@ -1,7 +1,9 @@
 -- `lassos::colouring::raise` meets its contract: a colour that stays below four does not overflow its word. Assumes nothing.
 use borrow.Author.Needs.{needs}
 use Prim.Native.Nat.{_/_}
+use Rattle.lassos.specs.Width.{width-16, word-colours}
 use Rattle.lassos.proofs.Stores.{raise-fits, raise-is}
+use Rattle.lassos.proofs.Width.{width-16-fits}
 use Rattle.lassos.proofs.colouring.raise.Statement.{statement}
 use Rattle.lassos.proofs.colouring.raise.Tie as tie
 
@@ -23,7 +25,7 @@ shl-work c = search needs
 add-work : tie.Need-add-work
 add-work c =
     let start : tie.Start = search in
-    record { fits = raise-fits (start .pre) (c .slice-known .given (start .args .node / 16) .fits) }
+    record { fits = raise-fits width-16-fits (start .pre) (c .slice-known .given (start .args .node / word-colours width-16) .fits) }
 
 mul-work-2 : tie.Need-mul-work-2
 mul-work-2 c = search needs
@@ -35,7 +37,7 @@ same-length : tie.Need-same-length
 same-length c = search needs
 
 returns : tie.Need-returns
-returns c = let start : tie.Start = search in raise-is (start .pre) (c .slice-known .given (start .args .node / 16) .fits)
+returns c = let start : tie.Start = search in raise-is width-16-fits (start .pre) (c .slice-known .given (start .args .node / word-colours width-16) .fits)
 
 pub raise-spec : {M : Type 1} → statement M
 raise-spec =

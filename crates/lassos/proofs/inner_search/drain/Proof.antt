@@ -4,7 +4,7 @@ use mathlib.Core.Path.{_∙_}
 use Prim.Native.Nat.{_+_, _*_, _-_}
 use native.Mathlib.Omega.{arith}
 use Rattle.lassos.specs.Search.{blacks}
-use Rattle.lassos.specs.Steps.{width-16}
+use Rattle.lassos.specs.Width.{width-16}
 use Rattle.lassos.proofs.Drains.{Draining, draining-start, last-below, last-small, last-asks, draining-met, draining-turn, draining-less, draining-end}
 use Rattle.lassos.proofs.inner_search.drain.Statement.{statement}
 use Rattle.lassos.proofs.inner_search.drain.Tie as tie
@@ -14,7 +14,7 @@ Inv-loop table prefix cycle work₀ states size waiting count₀ work count =
     Draining width-16 table prefix cycle work₀ states size waiting work count
 
 abbrev μ-loop : tie.MeasureT-loop
-μ-loop table prefix cycle work₀ states size waiting count₀ work count = 2 * blacks size work + count
+μ-loop table prefix cycle work₀ states size waiting count₀ work count = 2 * blacks width-16 size work + count
 
 loop-holds : tie.Need-loop-holds Inv-loop μ-loop
 loop-holds c = let start : tie.Start Inv-loop μ-loop = search in draining-start (start .pre)

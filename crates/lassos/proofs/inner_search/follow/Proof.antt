@@ -13,7 +13,7 @@ letter-of-requires c κs = let begun : tie.Start = search in follow-record (begu
 returns : tie.Need-returns
 returns c =
     let after-letter-of : tie.After-letter-of = search in
-    follow-other _ _ _ _ _ _ _ (after-letter-of .letter-of .ensures .is) (c .if1 .taken)
+    follow-other _ _ _ _ _ _ _ _ (after-letter-of .letter-of .ensures .is) (c .if1 .taken)
 
 target-of-requires : tie.Need-target-of-requires
 target-of-requires c κs = let begun : tie.Start = search in follow-record (begun .pre)
@@ -39,7 +39,7 @@ returns-2 c =
     let at : tie.After-target-of = search in
     let left-1 : tie.Else1 = search in
     let after-letter-of : tie.After-letter-of = search in
-    follow-grey _ _ _ _ _ _ _ (after-letter-of .letter-of .ensures .is) (at .target-of .ensures .is)
+    follow-grey _ _ _ _ _ _ _ _ (after-letter-of .letter-of .ensures .is) (at .target-of .ensures .is)
     (seen .colour-of .ensures)
     (left-1 .if1 .left)
     (c .if2 .taken)
@@ -91,7 +91,7 @@ returns-3 c =
     let at : tie.After-target-of = search in
     let left-1 : tie.Else1 = search in
     let after-letter-of : tie.After-letter-of = search in
-    follow-black _ _ _ _ _ _ _ (after-letter-of .letter-of .ensures .is) (at .target-of .ensures .is)
+    follow-black _ _ _ _ _ _ _ _ (after-letter-of .letter-of .ensures .is) (at .target-of .ensures .is)
     (seen .colour-of .ensures)
     (left-1 .if1 .left)
     (black .if3 .taken)
@@ -106,7 +106,7 @@ returns-4 c =
     let seen : tie.After-colour-of = search in
     let at : tie.After-target-of = search in
     let after-letter-of : tie.After-letter-of = search in
-    follow-rest _ _ _ _ _ _ _ (after-letter-of .letter-of .ensures .is) (at .target-of .ensures .is)
+    follow-rest _ _ _ _ _ _ _ _ (after-letter-of .letter-of .ensures .is) (at .target-of .ensures .is)
     (seen .colour-of .ensures)
     (left-2 .if2 .left)
     (c .if3 .left)

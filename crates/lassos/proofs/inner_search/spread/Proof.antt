@@ -3,7 +3,7 @@
 use mathlib.Core.Path.{_∙_}
 use Rattle.tables.specs.Table.{m-of}
 use Rattle.tables.proofs.Chains.{left}
-use Rattle.lassos.specs.Steps.{width-16}
+use Rattle.lassos.specs.Width.{width-16}
 use Rattle.lassos.proofs.Chains.{next-less}
 use Rattle.lassos.proofs.Follows.{Spreading, spreading-start, spreading-follow, spreading-record, spreading-met, spreading-turn, spreading-end}
 use Rattle.lassos.proofs.inner_search.spread.Statement.{statement}

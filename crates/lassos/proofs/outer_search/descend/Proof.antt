@@ -4,7 +4,8 @@ use Prim.Native.Nat.{ℕ, _+_, _*_, _-_, _^_, _<_}
 use native.Mathlib.Omega.{arith}
 use denote.Ref.{now}
 use Rattle.tables.specs.Access.{State-asks, Record-asks}
-use Rattle.lassos.specs.Steps.{width-16, Enter-asks}
+use Rattle.lassos.specs.Steps.{Enter-asks}
+use Rattle.lassos.specs.Width.{width-16}
 use Rattle.lassos.proofs.Descends.{top-node, top-cursor, top-small, top-asks, none-white, is-white, white-record, to-state, to-asks, next-deeper}
 use Rattle.lassos.proofs.outer_search.descend.Statement.{statement}
 use Rattle.lassos.proofs.outer_search.descend.Tie as tie
@@ -97,9 +98,9 @@ module _ (c : tie.After-target-of) where
       (c .target-of .ensures .is)
 
   enters-white :
-      {first : ℕ} → first < 2 ^ width-16 .bits →
+      {first : ℕ} → first < 2 ^ width-16 .work-bits →
       let s = begun found in
-      Enter-asks (width-16 .bits) (now (s .args .work)) (s .args .size) (base found .node-base .result + c .target-of .result) first
+      Enter-asks width-16 (now (s .args .work)) (s .args .size) (base found .node-base .result + c .target-of .result) first
       (s .args .depth)
   enters-white fits =
       let after-next-white : tie.After-next-white = search in
@@ -111,7 +112,7 @@ module _ (c : tie.After-target-of) where
 add-enter : tie.Need-add-enter
 add-enter c =
     let after-target-of : tie.After-target-of = search in
-    let fits : 0 < 2 ^ width-16 .bits = omega arith in
+    let fits : 0 < 2 ^ width-16 .work-bits = omega arith in
     let asks = enters-white after-target-of fits in omega (arith, asks .inside, asks .small)
 
 head-of-requires : tie.Need-head-of-requires

@@ -6,7 +6,7 @@ use native.Mathlib.Omega.{arith}
 use denote.Ref.{now}
 use lib.ListN.{getD}
 use Rattle.lassos.specs.Search.{whites}
-use Rattle.lassos.specs.Steps.{width-16}
+use Rattle.lassos.specs.Width.{width-16}
 use Rattle.lassos.proofs.Explores.{Exploring, exploring-start, exploring-below, exploring-small, exploring-top, exploring-deeper, deeper-less, exploring-end, Finishing, finishing-start, finishing-same, finishing-asks, finishing-found, finishing-left, finishing-less}
 use Rattle.lassos.proofs.outer_search.explore.Statement.{statement}
 use Rattle.lassos.proofs.outer_search.explore.Tie as tie
@@ -16,7 +16,7 @@ Inv-loop table prefix cycle work₀ states size depth₀ work depth =
     Exploring width-16 table prefix cycle work₀ states size work depth
 
 abbrev μ-loop : tie.MeasureT-loop
-μ-loop table prefix cycle work₀ states size depth₀ work depth = 2 * whites size work + depth
+μ-loop table prefix cycle work₀ states size depth₀ work depth = 2 * whites width-16 size work + depth
 
 loop-holds : tie.Need-loop-holds Inv-loop μ-loop
 loop-holds c = let start : tie.Start Inv-loop μ-loop = search in exploring-start (start .pre)

@@ -10,7 +10,7 @@ letter-of-requires c κs = let start : tie.Start = search in reads-edge (start .
 returns : tie.Need-returns
 returns c =
     let after-letter-of : tie.After-letter-of = search in
-    white-other _ _ _ _ _ (after-letter-of .letter-of .ensures .is) (c .if1 .taken)
+    white-other _ _ _ _ _ _ (after-letter-of .letter-of .ensures .is) (c .if1 .taken)
 
 target-of-requires : tie.Need-target-of-requires
 target-of-requires c κs = let start : tie.Start = search in reads-edge (start .pre)
@@ -28,7 +28,7 @@ returns-2 c =
     let to : tie.After-target-of = search in
     let left-1 : tie.Else1 = search in
     let after-letter-of : tie.After-letter-of = search in
-    white-same _ _ _ _ _ (after-letter-of .letter-of .ensures .is) (left-1 .if1 .left) (to .target-of .ensures .is)
+    white-same _ _ _ _ _ _ (after-letter-of .letter-of .ensures .is) (left-1 .if1 .left) (to .target-of .ensures .is)
     (c .colour-of .ensures)
 
 pub leads-to-white-spec : {M : Type 1} → statement M

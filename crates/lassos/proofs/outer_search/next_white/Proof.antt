@@ -2,7 +2,7 @@
 -- The measure is how many records can follow. Assumes nothing.
 use Rattle.tables.specs.Table.{m-of}
 use Rattle.tables.proofs.Chains.{left}
-use Rattle.lassos.specs.Steps.{width-16}
+use Rattle.lassos.specs.Width.{width-16}
 use Rattle.lassos.proofs.Chains.{next-less, Walked, walked-start, walked-edge, walked-record, walked-turn, walked-found, walked-none}
 use Rattle.lassos.proofs.outer_search.next_white.Statement.{statement}
 use Rattle.lassos.proofs.outer_search.next_white.Tie as tie

@@ -3,7 +3,7 @@
 use mathlib.Core.Path.{_∙_}
 use Prim.Native.Nat.{_-_}
 use native.Mathlib.Omega.{arith}
-use Rattle.lassos.specs.Steps.{width-16}
+use Rattle.lassos.specs.Width.{width-16}
 use Rattle.lassos.proofs.Explores.{Trying, trying-start, trying-asks, trying-found, trying-turn, trying-end}
 use Rattle.lassos.proofs.outer_search.search.Statement.{statement}
 use Rattle.lassos.proofs.outer_search.search.Tie as tie
