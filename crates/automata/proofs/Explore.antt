@@ -352,7 +352,7 @@ module _ {X : Type 0} (s : System X) where
     -- docs/RULES.md, "Numbering and result": exploring lists every reached state once, initial states first, then in the order of discovery,
     -- and every edge between them, by source, letter and successor
     pub explore-exactly :
-        Distinct s (s .starts) → (m fuel : ℕ) → At-most s m → m ≤ fuel → Exactly s (explore fuel s)
+        Distinct s (s .starts) → {fuel : ℕ} → At-most s fuel → Exactly s (explore fuel s)
     unfolding explore
-    explore-exactly distinct m fuel most enough =
-        explored-exactly (explore fuel s) (explored-all fuel 0 m (begin s) most (omega arith) (explored-begin distinct))
+    explore-exactly distinct {fuel} most =
+        explored-exactly (explore fuel s) (explored-all fuel 0 fuel (begin s) most (omega arith) (explored-begin distinct))

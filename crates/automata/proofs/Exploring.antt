@@ -100,10 +100,7 @@ pub record At-state {X : Type 0} (s : System X) (fuel i : ℕ) (b : Built X) : T
   pub enough : fuel ≤ i + left
   pub rest : explore-from left s i b ≡ explore fuel s
 
-pub at-most-le : {X : Type 0} {s : System X} {m fuel : ℕ} → At-most s m → m ≤ fuel → At-most s fuel
-at-most-le most l = record { bound = λ xs distinct reached. let h = most .bound xs distinct reached in omega arith }
-
-module _ {X : Type 0} (s : System X) (decides : Decides s) (fuel : ℕ) (most : At-most s fuel) where
+module _ {X : Type 0} (s : System X) (decides : Decides s) {fuel : ℕ} (most : At-most s fuel) where
   pub state-begin : Distinct s (s .starts) → At-state s fuel 0 (begin s)
   unfolding explore
   state-begin distinct =

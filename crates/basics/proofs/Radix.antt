@@ -1,9 +1,8 @@
 -- Numbers written with a radix of its own at each place: how many there are, and that a number decides its digits. Assumes nothing.
 use mathlib.Core.Path.{_≡_, sym, _∙_, ap}
 use mathlib.Core.Logic.{inl, inr}
-use Prim.Native.Nat.{ℕ, zero, suc, _+_, _*_, _/_, _%_, _^_, _≤_, _<_}
+use Prim.Native.Nat.{ℕ, zero, suc, _+_, _*_, _/_, _%_, _<_}
 use native.Mathlib.Omega.{arith}
-use native.Mathlib.Nat.{mul-le-mul, pow-zero, pow-suc}
 use lib.Arith.{digits-lt, digits-div, digits-mod}
 use Rattle.basics.proofs.Booleans.{same-or}
 
@@ -40,8 +39,3 @@ number-digits r f g (suc k) hf hg e q l =
       | inl s ↦ rw s last
       | inr s ↦ number-digits r f g k hf hg front q (omega arith)
     ]
-
-pub numbers-le : (r : ℕ → ℕ) (b k : ℕ) → ((q : ℕ) → r q ≤ b) → numbers r k ≤ b ^ k
-unfolding numbers
-numbers-le r b zero h = rw (pow-zero b) (omega arith)
-numbers-le r b (suc k) h = rw (pow-suc b k) (mul-le-mul (numbers-le r b k h) (h k))

@@ -3,22 +3,22 @@
 use mathlib.Core.Path.{_≡_, refl, sym, _∙_, ap}
 use mathlib.Core.Bool.{true, false}
 use mathlib.Core.List.{List, []}
-use Prim.Native.Nat.{ℕ, suc, _+_, _^_, _≤_, _<_}
+use Prim.Native.Nat.{ℕ, suc, _+_, _≤_, _<_}
 use native.Mathlib.Numerals.{add-one}
 use native.Mathlib.Omega.{arith}
 use lib.ListN.{length}
 use Rattle.sets.specs.Sets.{row-letters}
-use Rattle.automata.specs.System.{Built, built, state-at, At-most, Distinct, by-letters, expand, begin, explore}
+use Rattle.automata.specs.System.{Built, built, state-at, by-letters, expand, begin, explore}
 use Rattle.automata.proofs.Agreeing.{letters-agree}
 use Rattle.automata.proofs.Explore.{begin-is}
-use Rattle.automata.proofs.Exploring.{grows-explore, At-state, at-most-le, state-begin, state-step, state-end, state-grows}
-use Rattle.tables.specs.Table.{Limits, n-of, meaning}
+use Rattle.automata.proofs.Exploring.{grows-explore, At-state, state-begin, state-step, state-end, state-grows}
+use Rattle.tables.specs.Table.{Limits, meaning}
 use Rattle.ncsb.specs.Array.{from-array}
+use Rattle.ncsb.specs.Bound.{bound}
 use Rattle.ncsb.specs.Step.{Small}
 use Rattle.ncsb.specs.Successors.{initials, ncsb}
 use Rattle.ncsb.specs.declared.Quadruple.{Quadruple}
-use Rattle.ncsb.proofs.Bound.{bound-le, few-reached}
-use Rattle.ncsb.proofs.Reached.{initials-apart, reached-fine}
+use Rattle.ncsb.proofs.Reached.{reached-fine}
 use Rattle.ncsb.proofs.Widening.{Widens, Widens-starts, successors-same, initials-same}
 use Rattle.patterns.specs.Check.{check-refusal}
 use Rattle.patterns.specs.Masks.{masks-of}
@@ -34,14 +34,14 @@ use Rattle.complement.specs.Found.{Begins, quadruples, Shows, Ends, with
 use Rattle.complement.specs.declared.explore.Progress.{Progress}
 use Rattle.complement.proofs.Kept.{kept-at, capacity-limit}
 use Rattle.complement.proofs.Reaching.{ends-within, ends-grown}
-use Rattle.complement.proofs.Second.{system-decides}
+use Rattle.complement.proofs.Second.{system-decides, few-quadruples, starts-apart}
 use Rattle.complement.proofs.Starting.{started-ends}
 
 -- so many states are expanded
 pub record Exploring (limits : Limits) (t : List ℕ) (l : Lent) (p : Progress) (i : ℕ) : Type 0 where
   pub built : Built Quadruple
   pub shows : Shows (quadruples limits) built l p
-  pub at : At-state (system-of t) (16 ^ n-of t) i built
+  pub at : At-state (system-of t) (bound (moves (meaning t))) i built
 
 pub explore-limit :
     {limits : Limits} {t : List ℕ} {l : Lent} {p : Progress} {i : ℕ} → Exploring limits t l p i → p .states ≤ limits .states
@@ -51,18 +51,6 @@ explore-limit {limits} {l} h =
     let m = capacity-limit limits (l .sets) in omega arith
 
 module _ (t : List ℕ) (passed : check-refusal t ≡ 0) where
-  -- AT MOST 16^n quadruples are reached
-  pub most-reached : At-most (system-of t) (16 ^ n-of t)
-  unfolding system-of moves meaning
-  most-reached =
-      let both = checked-split t passed in
-      at-most-le (few-reached (both .0) (both .1)) (bound-le (moves (meaning t)) (λ q h. both .1 .within q h .0))
-
-  -- initial quadruples are told apart
-  pub starts-apart : Distinct (system-of t) (system-of t .starts)
-  unfolding system-of ncsb
-  starts-apart = initials-apart (moves (meaning t))
-
   module _ {masks : List (List ℕ)} {shape : Shape} (masked : masks ≡ masks-of (moves (meaning t))) (shaped : shape ≡ shape-of (moves (meaning t))) where
     -- what the code reads is the pattern's
     widens : Widens (moves (meaning t)) (array-moves masks shape)
@@ -102,7 +90,7 @@ module _ (t : List ℕ) (passed : check-refusal t ≡ 0) where
     begins-with : built (initials (start-moves shape)) [] ≡ begin (system-of t)
     unfolding system-of ncsb
     begins-with =
-        ap (λ (xs : List Quadruple). built xs []) starts-same ∙ sym (begin-is (system-of t) (system-decides t) starts-apart)
+        ap (λ (xs : List Quadruple). built xs []) starts-same ∙ sym (begin-is (system-of t) (system-decides t) (starts-apart t passed))
 
     pub begin-full :
         {limits : Limits} {l : Lent} {p : Progress} → Begins [] (l .words) → Started limits shape (l .sets) p → p .full ≡ true →
@@ -110,7 +98,7 @@ module _ (t : List ℕ) (passed : check-refusal t ≡ 0) where
     unfolding complement explore
     begin-full {limits} {l} {p} clear h full =
         let ends : Ends (quadruples limits) (begin (system-of t)) l p = rw begins-with at (started-ends clear h) in
-        ends-grown full (grows-explore (system-of t) (16 ^ n-of t) 0 (begin (system-of t))) ends
+        ends-grown full (grows-explore (system-of t) (bound (moves (meaning t))) 0 (begin (system-of t))) ends
 
     pub begin-within :
         {limits : Limits} {l : Lent} {p : Progress} → Begins [] (l .words) → Started limits shape (l .sets) p → p .full ≡ false →
@@ -121,7 +109,7 @@ module _ (t : List ℕ) (passed : check-refusal t ≡ 0) where
         record {
           built = begin (system-of t);
           shows = ends-within left ends;
-          at = state-begin (system-of t) (system-decides t) (16 ^ n-of t) most-reached starts-apart;
+          at = state-begin (system-of t) (system-decides t) (few-quadruples t passed) (starts-apart t passed);
         }
 
     module _ {limits : Limits} {l : Lent} {p : Progress} {i : ℕ} (h : Exploring limits t l p i) (inside : i < p .states) where
@@ -160,9 +148,9 @@ module _ (t : List ℕ) (passed : check-refusal t ≡ 0) where
           (letters-agree (ncsb (array-moves masks shape)) (system-of t) same-test (system-of t .letters) i
           (state-at (system-of t) (h .built .states) i) (λ c m. nexts c) (h .built))
 
-      next : At-state (system-of t) (16 ^ n-of t) (suc i) (expand (system-of t) i (h .built))
+      next : At-state (system-of t) (bound (moves (meaning t))) (suc i) (expand (system-of t) i (h .built))
       unfolding system-of
-      next = state-step (system-of t) (system-decides t) (16 ^ n-of t) most-reached listed (h .at)
+      next = state-step (system-of t) (system-decides t) (few-quadruples t passed) listed (h .at)
 
       module _
           {l′ : Lent} {p′ : Progress}
@@ -171,7 +159,7 @@ module _ (t : List ℕ) (passed : check-refusal t ≡ 0) where
         unfolding complement
         expand-full full =
             let ends : Ends (quadruples limits) (expand (system-of t) i (h .built)) l′ p′ = rw expands at (turn .from (h .built) (h .shows)) in
-            ends-grown full (state-grows (system-of t) (system-decides t) (16 ^ n-of t) most-reached next) ends
+            ends-grown full (state-grows (system-of t) (system-decides t) (few-quadruples t passed) next) ends
 
         pub expand-turn : p′ .full ≡ false → Exploring limits t l′ p′ (i + 1)
         expand-turn left =
@@ -184,6 +172,6 @@ module _ (t : List ℕ) (passed : check-refusal t ≡ 0) where
   unfolding system-of complement
   explore-end h all-done =
       let e = h .shows .states .counted in
-      let all : h .built ≡ explore (16 ^ n-of t) (system-of t) =
-      state-end (system-of t) (system-decides t) (16 ^ n-of t) most-reached (omega arith) (h .at) in
+      let all : h .built ≡ complement t =
+      state-end (system-of t) (system-decides t) (few-quadruples t passed) (omega arith) (h .at) in
       within (rw all at (h .shows))

@@ -3,7 +3,7 @@
 use mathlib.Core.Path.{_≡_, refl, sym, _∙_, ap}
 use mathlib.Core.Bool.{_||_, cond}
 use mathlib.Core.List.{List}
-use Prim.Native.Nat.{ℕ, zero, suc, _*_, _^_, _≤_}
+use Prim.Native.Nat.{ℕ, zero, suc, _*_, _≤_}
 use native.Mathlib.Omega.{arith}
 use lib.Dec.{ltb}
 use lib.ListN.{length}
@@ -12,16 +12,16 @@ use Rattle.basics.proofs.Booleans.{both-within}
 use Rattle.basics.proofs.Filled.{filled-take}
 use Rattle.basics.proofs.Refusing.{passed, or-else-none}
 use Rattle.automata.specs.Automaton.{Same}
-use Rattle.automata.specs.System.{At-most, Decides, Exactly, state-at, numbered}
+use Rattle.automata.specs.System.{At-most, Decides, Distinct, Exactly, state-at, numbered}
 use Rattle.automata.proofs.Explore.{explore-exactly, exactly-at-most}
 use Rattle.automata.proofs.Members.{prefix-length}
 use Rattle.automata.proofs.Numbered.{starts-first}
 use Rattle.sets.specs.Sets.{size}
-use Rattle.tables.specs.Table.{Limits, table-words, n-of, meaning, pattern-range, table-refusal}
+use Rattle.tables.specs.Table.{Limits, table-words, meaning, pattern-range, table-refusal}
 use Rattle.tables.proofs.Laws.{valid}
 use Rattle.ncsb.specs.Bound.{bound}
 use Rattle.ncsb.specs.Successors.{ncsb, initial-free}
-use Rattle.ncsb.proofs.Bound.{few-reached, bound-le}
+use Rattle.ncsb.proofs.Bound.{few-reached}
 use Rattle.ncsb.proofs.Initials.{initials-length}
 use Rattle.ncsb.proofs.Reached.{decides, initials-apart}
 use Rattle.patterns.specs.Check.{check-refusal}
@@ -48,20 +48,22 @@ unfolding system-of
 system-decides t = decides (moves (meaning t))
 
 module _ (t : List ℕ) (passed : check-refusal t ≡ 0) where
-  few-quadruples : At-most (system-of t) (bound (moves (meaning t)))
+  -- the paper's bound, section 3.3: at most 2^p·3^a·4^r quadruples are reached
+  pub few-quadruples : At-most (system-of t) (bound (moves (meaning t)))
   unfolding system-of
   few-quadruples = let (sp, sl) = checked-split t passed in few-reached sp sl
 
+  -- initial quadruples are told apart
+  pub starts-apart : Distinct (system-of t) (system-of t .starts)
+  unfolding system-of ncsb
+  starts-apart = initials-apart (moves (meaning t))
+
   -- THE SECOND DEMAND at the definitions: every reachable quadruple and edge and no other, once, numbered as docs/RULES.md says
   pub pattern-exactly : Exactly (system-of t) (complement t)
-  unfolding system-of complement ncsb moves meaning
-  pattern-exactly =
-      let d = moves (meaning t) in
-      let (sp, sl) = checked-split t passed in
-      explore-exactly (ncsb d) (decides d) (initials-apart d) (bound d) (16 ^ n-of t) (few-reached sp sl)
-      (bound-le d (λ q h. sl .within q h .0))
+  unfolding complement
+  pattern-exactly = explore-exactly (system-of t) (system-decides t) starts-apart few-quadruples
 
-  -- the paper's bound, section 3.3: at most 2^p·3^a·4^r states
+  -- so the complement has no more states
   pub few-states : length (complement t .states) ≤ bound (moves (meaning t))
   few-states = exactly-at-most (system-of t) (complement t) (bound (moves (meaning t))) pattern-exactly few-quadruples
 

@@ -1,11 +1,12 @@
 -- The reachable NCSB complement of a table, and its words (docs/RULES.md, "Numbering and result"). Assumes nothing: these are definitions.
 use mathlib.Core.List.{List}
-use Prim.Native.Nat.{ℕ, _^_}
+use Prim.Native.Nat.{ℕ}
 use lib.ListN.{length}
 use Rattle.basics.specs.Rows.{rows}
 use Rattle.automata.specs.Automaton.{Automaton}
 use Rattle.automata.specs.System.{System, Built, explore, state-at, numbered}
-use Rattle.tables.specs.Table.{n-of, meaning}
+use Rattle.tables.specs.Table.{meaning}
+use Rattle.ncsb.specs.Bound.{bound}
 use Rattle.ncsb.specs.Successors.{ncsb}
 use Rattle.ncsb.specs.declared.Quadruple.{Quadruple}
 use Rattle.patterns.specs.Pattern.{moves}
@@ -16,9 +17,9 @@ use Rattle.record_words.specs.Record.{words-of}
 unfoldable pub system-of : List ℕ → System Quadruple
 system-of t = ncsb (moves (meaning t))
 
--- all that is reached of it; there are at most 16^n quadruples
+-- all that is reached of it: at most `bound` quadruples, 2^p·3^a·4^r
 unfoldable pub complement : List ℕ → Built Quadruple
-complement t = explore (16 ^ n-of t) (system-of t)
+complement t = explore (bound (moves (meaning t))) (system-of t)
 
 -- the complement as an automaton over state numbers
 unfoldable pub complement-automaton : List ℕ → Automaton

@@ -12,7 +12,7 @@ use lib.ListN.{length, getD}
 use Rattle.basics.specs.Bounded.{count}
 use Rattle.basics.proofs.Booleans.{either, clash, and-make, and-false-l, and-false-r, not-true, not-false, not-both}
 use Rattle.basics.proofs.Lists.{distinct-short}
-use Rattle.basics.proofs.Radix.{number, numbers, number-lt, number-digits, numbers-le}
+use Rattle.basics.proofs.Radix.{number, numbers, number-lt, number-digits}
 use Rattle.automata.specs.Automaton.{Automaton}
 use Rattle.automata.specs.System.{state-at, At-most}
 use Rattle.sets.specs.Sets.{has, size, without}
@@ -177,17 +177,6 @@ module _ (d : Moves) (q : ℕ) where
   unfolding radix radix-of
   radix-other i m = rw (i, m)
 
-  radix-le : radix d q ≤ 16
-  radix-le =
-      elim (either (has (d .inner) q)) [
-        | inl i ↦
-            elim (either (has (d .marks) q)) [
-              | inl m ↦ let e = radix-marked i m in omega arith
-              | inr m ↦ let e = radix-other i m in omega arith
-            ]
-        | inr i ↦ let e = radix-outer i in omega arith
-      ]
-
 -- 2^p·3^a·4^r of the states below a limit
 counts : Moves → (limit : ℕ) → ℕ
 counts d k = product (k - size k (d .inner)) (size k (d .marks)) (size k (without (d .inner) (d .marks)))
@@ -241,9 +230,6 @@ module _ (d : Moves) (within : (q : ℕ) → has (d .marks) q ≡ true → has (
   counted : numbers (radix d) (d .states) ≡ bound d
   unfolding bound counts product
   counted = radices (d .states)
-
-  pub bound-le : bound d ≤ 16 ^ d .states
-  bound-le = rw (← counted) (numbers-le (radix d) 16 (d .states) (radix-le d))
 
   -- the paper's bound: fine quadruples that all differ are at most 2^p·3^a·4^r
   pub few :
