@@ -19,7 +19,7 @@ use Rattle.layout.specs.Chained.{flags-word, chained-words}
 use Rattle.layout.specs.Steps.{Lay-out-asks}
 use Rattle.layout.specs.Triples.{triple-at, triples-of, plain}
 use Rattle.layout.proofs.Indexed.{flagging-end}
-use Rattle.record_words.specs.Record.{record-words, words-of, all-words, full-records}
+use Rattle.record_words.specs.Record.{record-words, words-of, all-words}
 use Rattle.record_words.proofs.Laws.{all-length, full-words}
 use Rattle.complement.specs.Build.{Lent, lent, too-long, Build-says}
 use Rattle.complement.specs.Complement.{system-of, complement, complement-automaton, complement-words, sets-words}
@@ -28,7 +28,7 @@ use Rattle.complement.specs.Found.{Begins, quadruples, triple, triples, 
 use Rattle.complement.specs.declared.explore.Progress.{Progress}
 use Rattle.complement.proofs.Answers.{length-refuses, says-built, short-enough}
 use Rattle.complement.proofs.Flagged.{flags-flagging}
-use Rattle.complement.proofs.Kept.{capacity-full, capacity-limit, kept-at, triple-length, triples-length}
+use Rattle.complement.proofs.Kept.{kept-at, shows-room, shows-limit, triple-length, triples-length}
 use Rattle.complement.proofs.Numbering.{letters-all, letters-few, starts-same}
 use Rattle.complement.proofs.Reaching.{Same-sizes}
 use Rattle.complement.proofs.Second.{complement-orderly}
@@ -50,22 +50,13 @@ module _
   abbrev s : List ℕ
   s = l .sets
 
-  pub states-limit : p .states ≤ limits .states
-  states-limit =
-      let e = h .states .counted in
-      let few = h .states .fits in
-      let m = capacity-limit limits s in omega arith
-
-  sets-room : p .states ≤ full-records s
-  sets-room = let e = h .states .counted in let few = h .states .fits in capacity-full limits s (p .states) (omega arith)
-
   -- the sets are all there
   pub sets-built : (o : List ℕ) → length s ≡ length o → s ≡ filled (sets-words t) o
   unfolding filled
   sets-built o e =
       let xs = complement t .states in
       let count = h .states .counted in
-      let room : record-words * length xs ≤ length s = full-words s (length xs) (let r = sets-room in omega arith) in
+      let room : record-words * length xs ≤ length s = full-words s (length xs) (let r = shows-room h in omega arith) in
       let whole : s ≡ filled (all-words xs) s = begins-filled (rw (all-length xs) room) (h .states .begins) in
       whole ∙ rw (records-sets t, e) refl
 
@@ -115,7 +106,7 @@ module _
           room =
               record {
                 room = short .1;
-                states-fit = (let most = states-limit in let fit = fits .states-fit in omega arith);
+                states-fit = (let most = shows-limit h in let fit = fits .states-fit in omega arith);
                 edges-fit = (let most = short .0 in let fit = fits .records-fit in omega arith);
               };
           letters-fit = (let fit = fits .letters-fit in omega arith);
@@ -132,7 +123,7 @@ module _
         {w1 : List ℕ} (laid : w1 ≡ filled (chained-words (plain (p .states) (shape .letters)) (triples-of w (p .edges))) w)
         (size : length w1 ≡ length w) where
       pub flags-ask : Flags-ask (lent w1 s) (p .states)
-      flags-ask = record { words-room = (let m = short .1 in let e = size in omega arith); sets-room = sets-room }
+      flags-ask = record { words-room = (let m = short .1 in let e = size in omega arith); sets-room = shows-room h }
 
       -- a state's record says its flags
       same-flags :
@@ -187,7 +178,7 @@ module _
   built-asks fits = lay-out-asks read h enough fits
 
   pub built-counts : (p .states ≤ limits .states) × (p .edges ≤ limits .records)
-  built-counts = (states-limit read h, enough .0)
+  built-counts = (shows-limit h, enough .0)
 
   module _
       {w1 : List ℕ}

@@ -1,4 +1,4 @@
--- States and edges that the buffers keep: what is read back, and one more of each. Assumes nothing.
+-- States and edges that the buffers keep: what is read back, the room that they have, and one more of each. Assumes nothing.
 use mathlib.Core.Path.{_≡_, refl, sym, _∙_, ap}
 use mathlib.Core.List.{List, [], _∷_, _++_}
 use mathlib.Core.Logic.{inl, inr}
@@ -9,15 +9,17 @@ use lib.ListN.{length, getD, length-append}
 use lib.Seq.{sets, length-sets, take-all, take-append-le}
 use Rattle.basics.proofs.Booleans.{either, ltb-lt, ltb-ge}
 use Rattle.basics.proofs.Rows.{items-length, items-snoc}
-use Rattle.automata.specs.System.{Edge}
+use Rattle.automata.specs.System.{Edge, Built}
 use Rattle.automata.proofs.Graphs.{tabulate-same, tabulate-items}
 use Rattle.tables.specs.Table.{Limits}
 use Rattle.ncsb.specs.Successors.{quadruple}
 use Rattle.ncsb.specs.declared.Quadruple.{Quadruple}
 use Rattle.record_words.specs.Record.{record-words, words-of, all-words, full-records, quadruple-at, with-quadruple}
 use Rattle.record_words.proofs.Laws.{words-length, all-length, with-length, inside-words, full-kept, same-record, read-back}
+use Rattle.complement.specs.Build.{Lent}
 use Rattle.complement.specs.Records.{records-of, capacity}
-use Rattle.complement.specs.Found.{Begins, quadruples, States-kept, triple, triples, edge-room, counted-to, Edges-kept, with-edge, one-more}
+use Rattle.complement.specs.Found.{Begins, quadruples, States-kept, triple, triples, edge-room, counted-to, Edges-kept, with-edge, one-more, Shows}
+use Rattle.complement.specs.declared.explore.Progress.{Progress}
 use Rattle.complement.proofs.Stored.{begins-words}
 
 -- RECORDS of quadruples
@@ -51,6 +53,17 @@ module _ (limits : Limits) (s : List ℕ) where
 
   pub capacity-with : (n : ℕ) (x : Quadruple) → capacity limits (with-quadruple s n x) ≡ capacity limits s
   capacity-with n x = capacity-kept (with-quadruple s n x) (with-length s n x)
+
+-- all states that the buffers keep have a record each, and are no more than a table can have
+module _ {limits : Limits} {b : Built Quadruple} {l : Lent} {p : Progress} (h : Shows (quadruples limits) b l p) where
+  pub shows-room : p .states ≤ full-records (l .sets)
+  shows-room = let e = h .states .counted in let few = h .states .fits in capacity-full limits (l .sets) (p .states) (omega arith)
+
+  pub shows-limit : p .states ≤ limits .states
+  shows-limit =
+      let e = h .states .counted in
+      let few = h .states .fits in
+      let m = capacity-limit limits (l .sets) in omega arith
 
 -- one more state
 pub kept-more :

@@ -17,11 +17,9 @@ use Rattle.ncsb.specs.declared.Asked.{Asked}
 use Rattle.ncsb.specs.declared.Quadruple.{Quadruple}
 use Rattle.ncsb.proofs.Choices.{blocked-same, none-blocked, choices-count, choice-successor}
 use Rattle.patterns.specs.declared.Shape.{Shape}
-use Rattle.record_words.specs.Record.{full-records}
 use Rattle.complement.specs.Build.{Lent}
 use Rattle.complement.specs.Found.{Format, quadruples, within, Turns, Step-asks, Expand-asks, array-moves}
 use Rattle.complement.specs.declared.explore.Progress.{Progress}
-use Rattle.complement.proofs.Kept.{capacity-full}
 use Rattle.complement.proofs.Reaching.{Same-sizes, Reaching, reach-start, reach-asks, reach-turn, reach-full, reach-end, turns-same}
 
 -- CHOICES one by one, of any construction: an edge to each
@@ -159,13 +157,3 @@ module _ {X : Type 0} {f : Format X} {s : System X} {i : ℕ} {x : X} {l₀ : Le
     spell-end letters few most =
         let e : k ≡ letters = omega arith in
         reach-end (h .reaching) letters (λ b. ap (λ (n : ℕ). by-letters s n i x b) e)
-
--- the record of the state whose letters are spelled is there
-pub expand-load :
-    {limits : Limits} {l : Lent} {p : Progress} {i letters : ℕ} → Expand-asks (quadruples limits) l p i letters →
-    i < full-records (l .sets)
-expand-load {limits} {l} {p} {i} asked =
-    let inside = asked .inside in
-    let fits = asked .shows .states .fits in
-    let e = asked .shows .states .counted in
-    capacity-full limits (l .sets) (suc i) (omega arith)

@@ -32,7 +32,7 @@ use Rattle.complement.specs.Build.{Lent}
 use Rattle.complement.specs.Complement.{system-of, complement}
 use Rattle.complement.specs.Found.{Begins, quadruples, Shows, Ends, within, Turns, Expand-asks, array-moves, start-moves, Started}
 use Rattle.complement.specs.declared.explore.Progress.{Progress}
-use Rattle.complement.proofs.Kept.{kept-at, capacity-limit}
+use Rattle.complement.proofs.Kept.{kept-at}
 use Rattle.complement.proofs.Reaching.{ends-within, ends-grown}
 use Rattle.complement.proofs.Second.{system-decides, few-quadruples, starts-apart}
 use Rattle.complement.proofs.Starting.{started-ends}
@@ -42,13 +42,6 @@ pub record Exploring (limits : Limits) (t : List ℕ) (l : Lent) (p : Progress) 
   pub built : Built Quadruple
   pub shows : Shows (quadruples limits) built l p
   pub at : At-state (system-of t) (bound (moves (meaning t))) i built
-
-pub explore-limit :
-    {limits : Limits} {t : List ℕ} {l : Lent} {p : Progress} {i : ℕ} → Exploring limits t l p i → p .states ≤ limits .states
-explore-limit {limits} {l} h =
-    let e = h .shows .states .counted in
-    let few = h .shows .states .fits in
-    let m = capacity-limit limits (l .sets) in omega arith
 
 module _ (t : List ℕ) (passed : check-refusal t ≡ 0) where
   module _ {masks : List (List ℕ)} {shape : Shape} (masked : masks ≡ masks-of (moves (meaning t))) (shaped : shape ≡ shape-of (moves (meaning t))) where

@@ -11,7 +11,8 @@ use Rattle.complement.specs.Build.{Lent, lent}
 use Rattle.complement.specs.Complement.{complement}
 use Rattle.complement.specs.Found.{wide-quadruples, Shows, Read-off}
 use Rattle.complement.proofs.Answers.{refused-states, refused-edges}
-use Rattle.complement.proofs.Finishing.{states-limit, built-asks, built-counts, built-flags, built-says}
+use Rattle.complement.proofs.Finishing.{built-asks, built-counts, built-flags, built-says}
+use Rattle.complement.proofs.Kept.{shows-limit}
 use Rattle.complement.proofs.Reaching.{Same-sizes, ends-within}
 use Rattle.complement.proofs.Stored.{begins-zeros}
 use Rattle.complement.proofs.build_pattern.Statement.{statement}
@@ -108,7 +109,7 @@ returns c =
     }
 
 too-long-requires : tie.Need-too-long-requires
-too-long-requires c κs = let of = begun c .pre in states-limit (of .read-off) (shows c (of .table) (of .read-off))
+too-long-requires c κs = let of = begun c .pre in shows-limit (shows c (of .table) (of .read-off))
 
 refuse-requires-2 : tie.Need-refuse-requires-2
 refuse-requires-2 c κs = search needs

@@ -6,7 +6,8 @@ use native.Mathlib.Omega.{arith}
 use Rattle.tables.specs.Table.{wide-range}
 use Rattle.complement.specs.Build.{lent}
 use Rattle.complement.specs.Found.{Read-off}
-use Rattle.complement.proofs.Numbering.{Exploring, begin-full, begin-within, expand-asks, expand-full, expand-turn, explore-limit, explore-end}
+use Rattle.complement.proofs.Kept.{shows-limit}
+use Rattle.complement.proofs.Numbering.{Exploring, begin-full, begin-within, expand-asks, expand-full, expand-turn, explore-end}
 use Rattle.complement.proofs.Reaching.{Same-sizes, sizes-self, sizes-then}
 use Rattle.complement.proofs.explore.explore.Statement.{statement}
 use Rattle.complement.proofs.explore.explore.Tie as tie
@@ -27,7 +28,7 @@ module _ (c : tie.Then2 Inv-loop μ-loop) where
   few : turn .loop .found .states ≤ wide-range .states
   few =
       let start : tie.Start Inv-loop μ-loop = search in
-      let of = start .pre .of-pattern in explore-limit (turn .loop .inv .1 (of .table) (of .read-off))
+      let of = start .pre .of-pattern in shows-limit (turn .loop .inv .1 (of .table) (of .read-off) .shows)
 
 -- its edges are added
 module _ (c : tie.After-step Inv-loop μ-loop) where

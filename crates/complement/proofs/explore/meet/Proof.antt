@@ -3,7 +3,7 @@ use Prim.Native.Nat.{_<_}
 use native.Mathlib.Omega.{arith}
 use Rattle.tables.specs.Table.{wide-range}
 use Rattle.complement.specs.Found.{overfull}
-use Rattle.complement.proofs.Kept.{capacity-limit}
+use Rattle.complement.proofs.Kept.{capacity-limit, shows-limit}
 use Rattle.complement.proofs.Meeting.{meet-full, meet-known, meet-new}
 use borrow.Author.Needs.{needs}
 use Rattle.complement.proofs.explore.meet.Statement.{statement}
@@ -25,11 +25,7 @@ module _ (c : tie.Else1) where
   source-few : start roomy .args .source < wide-range .states
   source-few =
       let start : tie.Start = search in
-      let asked = start .pre in
-      let inside = asked .inside in
-      let count = asked .shows .states .counted in
-      let most = asked .shows .states .fits in
-      let limit = capacity-limit wide-range (start .args .sets .now) in omega arith
+      let inside = start .pre .inside in let most = shows-limit (start .pre .shows) in omega arith
 
   target-few : placed roomy .place .result < wide-range .states
   target-few =

@@ -6,7 +6,8 @@ use Rattle.sets.proofs.Grid.{narrow}
 use Rattle.ncsb.specs.Successors.{ncsb}
 use Rattle.complement.specs.Build.{lent}
 use Rattle.complement.specs.Found.{wide-quadruples, array-moves}
-use Rattle.complement.proofs.Letters.{Spelling, spell-start, spell-asks, spell-turn, spell-full, spell-end, expand-load}
+use Rattle.complement.proofs.Kept.{shows-room}
+use Rattle.complement.proofs.Letters.{Spelling, spell-start, spell-asks, spell-turn, spell-full, spell-end}
 use Rattle.complement.proofs.Reaching.{Same-sizes}
 use Rattle.complement.proofs.explore.step.Statement.{statement}
 use Rattle.complement.proofs.explore.step.Tie as tie
@@ -31,7 +32,9 @@ module _ (c : tie.After-add-successors Inv-loop μ-loop) where
 
 -- THE NEEDS
 load-requires : tie.Need-load-requires Inv-loop μ-loop
-load-requires c κs = let began : tie.Start Inv-loop μ-loop = search in expand-load (began .pre)
+load-requires c κs =
+    let began : tie.Start Inv-loop μ-loop = search in
+    let inside = began .pre .inside in let room = shows-room (began .pre .shows) in omega arith
 
 loop-holds : tie.Need-loop-holds Inv-loop μ-loop
 loop-holds c = (omega arith, spell-start)
