@@ -7,13 +7,14 @@ use mathlib.Core.Logic.{inl, inr}
 use Prim.Native.Nat.{ℕ, zero, suc, _+_, _≤_, _<_}
 use native.Mathlib.Omega.{arith}
 use lib.Dec.{leb}
-use lib.ListN.{length, getD, take}
-use lib.Seq.{take-suc}
+use lib.ListN.{length}
 use Rattle.basics.proofs.Booleans.{either, leb-le, leb-gt}
 use Rattle.basics.proofs.Upward.{upward}
+use Rattle.automata.specs.Decision.{tabulate}
 use Rattle.automata.specs.System.{System, Decides, state-at, Distinct, At-most}
 use Rattle.automata.specs.System.{an-edge, Built, built, number-of}
 use Rattle.automata.specs.System.{add-edge, add-all, by-letters, expand, explore-from, begin, explore}
+use Rattle.automata.proofs.Graphs.{tabulate-snoc}
 use Rattle.automata.proofs.Members.{Prefix, prefix-self, prefix-append, prefix-then, prefix-length, with-prefix, with-known, with-new}
 use Rattle.automata.proofs.Explore.{Explored, explore-step, explore-end, sound-at-most, explored-step, explored-begin}
 
@@ -58,18 +59,26 @@ module _ {X : Type 0} (same : X → X → Bool) where
   unfolding add-edge
   add-edge-new i c y b e = rw (with-new same y (b .states) (omega arith), e)
 
-  pub add-all-append :
+  add-all-append :
       (i c : ℕ) (ys zs : List X) (b : Built X) → add-all same i c (ys ++ zs) b ≡ add-all same i c zs (add-all same i c ys b)
   unfolding add-all
   add-all-append i c [] zs b = refl
   add-all-append i c (y ∷ ys) zs b = add-all-append i c ys zs (add-edge same i c y b)
 
-  pub add-all-take :
-      (blank : X) (i c j : ℕ) (ys : List X) (b : Built X) → j < length ys →
-      add-all same i c (take (suc j) ys) b ≡ add-edge same i c (getD ys j blank) (add-all same i c (take j ys) b)
+  -- of successors given by number, one more and several more
+  pub add-all-more :
+      (y : ℕ → X) (i c k : ℕ) (b : Built X) →
+      add-all same i c (tabulate (suc k) y) b ≡ add-edge same i c (y k) (add-all same i c (tabulate k y) b)
   unfolding add-all
-  add-all-take blank i c j ys b l =
-      rw (take-suc ys j blank l) (add-all-append i c (take j ys) (getD ys j blank ∷ []) b)
+  add-all-more y i c k b = rw (tabulate-snoc k y) (add-all-append i c (tabulate k y) (y k ∷ []) b)
+
+  pub grows-more :
+      (y : ℕ → X) (i c j k : ℕ) (b : Built X) → j ≤ k →
+      Grows (add-all same i c (tabulate j y) b) (add-all same i c (tabulate k y) b)
+  grows-more y i c j k b l =
+      upward (λ k. Grows (add-all same i c (tabulate j y) b) (add-all same i c (tabulate k y) b)) j
+      (grows-self (add-all same i c (tabulate j y) b))
+      (λ k _ h. rw (add-all-more y i c k b) (grows-then h (grows-edge i c (y k) (add-all same i c (tabulate k y) b)))) k l
 
 module _ {X : Type 0} (s : System X) where
   pub grows-letters : (c d i : ℕ) (x : X) (b : Built X) → c ≤ d → Grows (by-letters s c i x b) (by-letters s d i x b)
@@ -78,9 +87,13 @@ module _ {X : Type 0} (s : System X) where
       upward (λ d. Grows (by-letters s c i x b) (by-letters s d i x b)) c (grows-self (by-letters s c i x b))
       (λ d _ h. grows-then h (grows-all (s .same) i d (s .nexts x d) (by-letters s d i x b))) d l
 
+  pub grows-spelled : (d i : ℕ) (x : X) (b : Built X) → Grows b (by-letters s d i x b)
+  unfolding by-letters
+  grows-spelled d i x b = grows-letters 0 d i x b (omega arith)
+
   pub grows-expand : (i : ℕ) (b : Built X) → Grows b (expand s i b)
-  unfolding expand by-letters
-  grows-expand i b = grows-letters 0 (s .letters) i (state-at s (b .states) i) b (omega arith)
+  unfolding expand
+  grows-expand i b = grows-spelled (s .letters) i (state-at s (b .states) i) b
 
   pub grows-explore : (f i : ℕ) (b : Built X) → Grows b (explore-from f s i b)
   unfolding explore-from

@@ -2,7 +2,7 @@
 -- keep now; one more step, more states than fit, and the end. Assumes nothing.
 use mathlib.Core.Path.{_≡_, refl, _∙_, ap}
 use mathlib.Core.Bool.{true, false}
-use Prim.Native.Nat.{ℕ, suc, _+_, _<_}
+use Prim.Native.Nat.{ℕ, suc, _+_, _≤_, _<_}
 use native.Mathlib.Numerals.{add-one}
 use native.Mathlib.Omega.{arith}
 use lib.ListN.{length}
@@ -54,18 +54,17 @@ module _ {X : Type 0} {f : Format X} {steps : ℕ → Built X → Built X} {l₀
   module _ {l : Lent} {p : Progress} {k : ℕ} (h : Reaching f steps l₀ p₀ l p k) where
     -- what a step asks still holds
     pub reach-asks :
-        {i c : ℕ} (e : ℕ) → ((b : Built X) → Grows b (steps k b)) → e < f .letters → Step-asks f l₀ p₀ i c → Step-asks f l p i e
-    reach-asks {i} e grows few asks =
-        let now = h .shows (asks .built) (asks .shows) in
-        let more = grows-states (grows (asks .built)) in
-        let inside = asks .inside in
-        let count = asks .shows .states .counted in
+        {b : Built X} {i c : ℕ} → Shows f b l₀ p₀ → Grows b (steps k b) → i < p₀ .states → c < f .letters → Step-asks f l p i c
+    reach-asks {b} shows grows inside few =
+        let now = h .shows b shows in
+        let more = grows-states grows in
+        let count = shows .states .counted in
         let count-now = now .states .counted in
-        record { built = steps k (asks .built); shows = now; inside = omega arith; letter-inside = few }
+        record { built = steps k b; shows = now; inside = omega arith; letter-inside = few }
 
     module _
-        {l′ : Lent} {p′ : Progress} {step : Built X → Built X} (next : (b : Built X) → steps (suc k) b ≡ step (steps k b))
-        (turn : Turns f step l p l′ p′) where
+        {l′ : Lent} {p′ : Progress} {step : Built X → Built X} (turn : Turns f step l p l′ p′)
+        (next : (b : Built X) → steps (suc k) b ≡ step (steps k b)) where
       reached : (b : Built X) → Shows f b l₀ p₀ → Ends f (steps (suc k) b) l′ p′
       reached b shows = rw (next b) (turn .from (steps k b) (h .shows b shows))
 
@@ -82,11 +81,6 @@ module _ {X : Type 0} {f : Format X} {steps : ℕ → Built X → Built X} {l₀
           (last : ℕ) → ((b : Built X) → Grows (steps (suc k) b) (steps last b)) → p′ .full ≡ true → Turns f (steps last) l₀ p₀ l′ p′
       reach-full last grows full = record { from = λ b shows. ends-grown full (grows b) (reached b shows) }
 
-    pub reach-end : (last : ℕ) → ((b : Built X) → steps k b ≡ steps last b) → Turns f (steps last) l₀ p₀ l p
-    reach-end last same = record { from = λ b shows. rw (← same b) (within (h .shows b shows)) }
-
--- a step by another name
-pub turns-same :
-    {X : Type 0} {f : Format X} {step other : Built X → Built X} {l l′ : Lent} {p p′ : Progress} →
-    ((b : Built X) → step b ≡ other b) → Turns f step l p l′ p′ → Turns f other l p l′ p′
-turns-same same turn = record { from = λ b shows. rw (← same b) (turn .from b shows) }
+    pub reach-end : (last : ℕ) → k ≤ last → last ≤ k → Turns f (steps last) l₀ p₀ l p
+    reach-end last few most =
+        let e : k ≡ last = omega arith in record { from = λ b shows. rw (← e) (within (h .shows b shows)) }

@@ -1,22 +1,26 @@
 -- `add_successors` meets the successors on a letter, by rising choice. The invariant: so many choices were met. Assumes nothing.
-use mathlib.Core.Path.{_∙_}
+use mathlib.Core.Path.{refl, _∙_}
 use Prim.Native.Nat.{_≤_, _-_}
 use native.Mathlib.Omega.{arith}
+use Rattle.automata.specs.Decision.{tabulate}
+use Rattle.automata.specs.System.{add-all}
+use Rattle.automata.proofs.Exploring.{grows-all, add-all-more}
 use Rattle.tables.specs.Table.{wide-range}
 use Rattle.ncsb.specs.Array.{nth-successor}
 use Rattle.ncsb.specs.Successors.{same}
 use Rattle.ncsb.proofs.Choices.{choices-fit}
 use Rattle.complement.specs.Build.{lent}
 use Rattle.complement.specs.Found.{wide-quadruples}
-use Rattle.complement.proofs.Letters.{Choosing, choose-start, choose-asks, choose-turn, letter-blocked, letter-full, letter-end}
-use Rattle.complement.proofs.Reaching.{Same-sizes}
+use Rattle.complement.proofs.Letters.{letter-blocked, letter-full, letter-end}
+use Rattle.complement.proofs.Reaching.{Same-sizes, Reaching, reach-start, reach-asks, reach-turn}
 use Rattle.complement.proofs.explore.add_successors.Statement.{statement}
 use Rattle.complement.proofs.explore.add_successors.Tie as tie
 
 abbrev Inv-loop : tie.InvT-loop
 Inv-loop masks words₀ sets₀ source x letter asked choices progress₀ choice₀ words sets progress choice =
     (choice ≤ choices)
-    × Choosing wide-quadruples same (nth-successor x asked) source letter (lent words₀ sets₀) progress₀ (lent words sets) progress choice
+    × Reaching wide-quadruples (λ n. add-all same source letter (tabulate n (nth-successor x asked))) (lent words₀ sets₀) progress₀
+    (lent words sets) progress choice
 
 abbrev μ-loop : tie.MeasureT-loop
 μ-loop masks words₀ sets₀ source x letter asked choices progress₀ choice₀ words sets progress choice = choices - choice
@@ -49,7 +53,8 @@ choices-requires : tie.Need-choices-requires Inv-loop μ-loop
 choices-requires c κs = tt
 
 loop-holds : tie.Need-loop-holds Inv-loop μ-loop
-loop-holds c = (omega arith, choose-start)
+unfolding add-all tabulate
+loop-holds c = (omega arith, reach-start (λ b. refl))
 
 cast-successor : tie.Need-cast-successor Inv-loop μ-loop
 cast-successor c =
@@ -66,17 +71,19 @@ successor-requires c κs = tt
 meet-requires : tie.Need-meet-requires Inv-loop μ-loop
 meet-requires c κs =
     let at : tie.At-loop Inv-loop μ-loop = search in
-    let start : tie.Start Inv-loop μ-loop = search in choose-asks (at .loop .inv .1) (start .pre .1)
+    let start : tie.Start Inv-loop μ-loop = search in
+    let asked = start .pre .1 in
+    reach-asks (at .loop .inv .1) (asked .shows) (grows-all same _ _ _ _) (asked .inside) (asked .letter-inside)
 
 same-length : tie.Need-same-length Inv-loop μ-loop
 same-length c =
     let at : tie.After-meet Inv-loop μ-loop = search in
-    let turn : tie.At-loop Inv-loop μ-loop = search in sizes at .words ∙ turn .loop .inv .1 .reaching .sizes .words
+    let turn : tie.At-loop Inv-loop μ-loop = search in sizes at .words ∙ turn .loop .inv .1 .sizes .words
 
 same-length-2 : tie.Need-same-length-2 Inv-loop μ-loop
 same-length-2 c =
     let at : tie.After-meet Inv-loop μ-loop = search in
-    let turn : tie.At-loop Inv-loop μ-loop = search in sizes at .sets ∙ turn .loop .inv .1 .reaching .sizes .sets
+    let turn : tie.At-loop Inv-loop μ-loop = search in sizes at .sets ∙ turn .loop .inv .1 .sizes .sets
 
 returns-2 : tie.Need-returns-2 Inv-loop μ-loop
 returns-2 c =
@@ -107,14 +114,15 @@ loop-again c =
     let chosen : tie.After-successor Inv-loop μ-loop = search in
     let turn : tie.At-loop Inv-loop μ-loop = search in (
       omega arith,
-      choose-turn (turn .loop .inv .1) (rw (chosen .successor .ensures) at (at .meet .ensures)) (sizes at) (c .if2 .left),
+      reach-turn (turn .loop .inv .1) (rw (chosen .successor .ensures) at (at .meet .ensures)) (add-all-more same _ _ _ _) (sizes at)
+          (c .if2 .left),
     )
 
 same-length-3 : tie.Need-same-length-3 Inv-loop μ-loop
-same-length-3 c = let at-loop : tie.At-loop Inv-loop μ-loop = search in at-loop .loop .inv .1 .reaching .sizes .words
+same-length-3 c = let at-loop : tie.At-loop Inv-loop μ-loop = search in at-loop .loop .inv .1 .sizes .words
 
 same-length-4 : tie.Need-same-length-4 Inv-loop μ-loop
-same-length-4 c = let at-loop : tie.At-loop Inv-loop μ-loop = search in at-loop .loop .inv .1 .reaching .sizes .sets
+same-length-4 c = let at-loop : tie.At-loop Inv-loop μ-loop = search in at-loop .loop .inv .1 .sizes .sets
 
 returns-3 : tie.Need-returns-3 Inv-loop μ-loop
 returns-3 c =
