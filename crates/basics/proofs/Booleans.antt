@@ -119,6 +119,11 @@ pub both-within : (a b c d : ℕ) → (ltb a b || ltb c d) ≡ false → (b ≤ 
 both-within a b c d h =
     (ltb-ge a b (or-false-l (ltb a b) (ltb c d) h), ltb-ge c d (or-false-r (ltb a b) (ltb c d) h))
 
+-- one of two numbers is above its limit
+pub one-above : (a b c d : ℕ) → (ltb a b || ltb c d) ≡ true → (a < b) ⊎ (c < d)
+one-above a b c d h =
+    elim (or-true (ltb a b) (ltb c d) h) [ inl e ↦ inl (ltb-lt a b e) | inr e ↦ inr (ltb-lt c d e) ]
+
 -- one number more: of every other one the test stays
 pub below-suc : (q k : ℕ) → (q ≡ k → ⊥) → ltb q (suc k) ≡ ltb q k
 below-suc q k ne =

@@ -1,8 +1,8 @@
--- Refusals one after the other: where the answer is none, no refusal is met. Assumes nothing.
+-- Refusals one after the other: where the answer is none, no refusal is met; the answer is at most the greatest of them. Assumes nothing.
 use mathlib.Core.Path.{_≡_, refl}
 use mathlib.Core.Bool.{Bool, true, false, cond}
 use mathlib.Core.Logic.{inl, inr}
-use Prim.Native.Nat.{ℕ, suc}
+use Prim.Native.Nat.{ℕ, suc, _≤_}
 use native.Mathlib.Omega.{arith}
 use lib.Dec.{eqb}
 use Rattle.basics.specs.Buffers.{or-else}
@@ -12,6 +12,11 @@ use Rattle.basics.proofs.Booleans.{either, eqb-eq, eqb-ne}
 pub passed : (b : Bool) (k others : ℕ) → cond b (suc k) others ≡ 0 → (b ≡ false) × (others ≡ 0)
 passed true k others h = absurd (omega arith)
 passed false k others h = (refl, h)
+
+-- an answer is at most what both its cases are
+pub answer-most : (b : Bool) {x y : ℕ} (limit : ℕ) → x ≤ limit → y ≤ limit → cond b x y ≤ limit
+answer-most true limit a b = a
+answer-most false limit a b = b
 
 -- the first of two refusals is none, and neither is the second
 pub or-else-none : (x y : ℕ) → or-else x y ≡ 0 → (x ≡ 0) × (y ≡ 0)

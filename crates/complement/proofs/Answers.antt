@@ -21,18 +21,17 @@ use Rattle.complement.specs.declared.Counts.{Counts}
 use Rattle.complement.specs.declared.explore.Progress.{Progress}
 use Rattle.basics.proofs.Clears.{zeros-same}
 use Rattle.complement.proofs.Reaching.{Same-sizes, sizes-self, ends-within, ends-beyond}
+use Rattle.complement.proofs.Room.{states-over, table-over, all-fits, room-cases}
 
 -- NUMBERS, in any range: more states than fit; and the test of 12, whether the count of edges stopped or not
 module _ (limits : Limits) (words records n m : ℕ) where
-  states-over :
+  states-many :
       min records (limits .states) < n → room-refusal limits (record { words = words; records = records }) n m ≡ 11
-  unfolding room-refusal
-  states-over l =
-      elim (either (ltb records n)) [
-        | inl e ↦ rw e refl
-        | inr e ↦
-            let g = ltb-ge records n e in
-            let over : limits .states < n = omega arith in rw (e, lt-ltb over) refl
+  states-many l =
+      elim (room-cases limits (record { words = words; records = records }) n m) [
+        | states-over many e ↦ e
+        | table-over few fewer long e ↦ absurd (omega arith)
+        | all-fits few fewer edges short e ↦ absurd (omega arith)
       ]
 
   states-fit :
@@ -78,7 +77,7 @@ module _ (limits : Limits) (t : List ℕ) (lends : Lent) where
         let over : min (full-records (lends .sets)) (limits .states) < length (complement t .states) =
         rw (full-kept (lends .sets) (l .sets) (sizes .sets)) at (ends-beyond full ends) in
         room-only
-        ∙ states-over limits (length (lends .words)) (full-records (lends .sets)) (length (complement t .states)) (length (complement t .edges)) over
+        ∙ states-many limits (length (lends .words)) (full-records (lends .sets)) (length (complement t .states)) (length (complement t .edges)) over
 
     module _ {l : Lent} {p : Progress} (h : Shows (quadruples limits) (complement t) l p) (sizes : Same-sizes l lends) where
       both-counts :

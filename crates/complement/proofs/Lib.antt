@@ -7,6 +7,7 @@ pub mod Lookup
 pub mod Meeting
 pub mod Numbering
 pub mod Reaching
+pub mod Room
 pub mod Second
 pub mod Starting
 pub mod Stored

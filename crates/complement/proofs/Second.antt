@@ -1,16 +1,13 @@
 -- The second demand: what is built of a pattern that passes the check is its reachable NCSB complement, exactly; its words are a table
 -- that means it, of each range that it fits; and they are what an accepted build leaves. Assumes nothing.
 use mathlib.Core.Path.{_≡_, refl, sym, _∙_, ap}
-use mathlib.Core.Bool.{_||_, cond}
 use mathlib.Core.List.{List}
 use Prim.Native.Nat.{ℕ, zero, suc, _*_, _≤_}
 use native.Mathlib.Omega.{arith}
-use lib.Dec.{ltb}
 use lib.ListN.{length}
 use lib.Pow.{pow-pos}
-use Rattle.basics.proofs.Booleans.{both-within}
 use Rattle.basics.proofs.Filled.{filled-take}
-use Rattle.basics.proofs.Refusing.{passed, or-else-none}
+use Rattle.basics.proofs.Refusing.{or-else-none}
 use Rattle.automata.specs.Automaton.{Same}
 use Rattle.automata.specs.System.{At-most, Decides, Distinct, Exactly, state-at, numbered}
 use Rattle.automata.proofs.Explore.{explore-exactly, exactly-at-most}
@@ -34,9 +31,10 @@ use Rattle.layout.proofs.Valid.{chained-valid}
 use Rattle.layout.proofs.Words.{chained-length}
 use Rattle.record_words.specs.Record.{record-words}
 use Rattle.record_words.proofs.Laws.{rows-long}
-use Rattle.complement.specs.Build.{Lent, Room, room-of, too-long, room-refusal, build-refusal, as-counts, after-build, Build-says, used, used-sets}
+use Rattle.complement.specs.Build.{Lent, room-of, room-refusal, build-refusal, as-counts, after-build, Build-says, used, used-sets}
 use Rattle.complement.specs.Complement.{system-of, complement, complement-automaton, complement-words, sets-words}
 use Rattle.complement.specs.declared.Counts.{Counts}
+use Rattle.complement.proofs.Room.{states-over, table-over, all-fits, room-cases}
 
 -- a complement whose states and edges a table of the range can have
 pub record Fits (limits : Limits) (t : List ℕ) : Type 0 where
@@ -112,16 +110,6 @@ build-number {limits} {t} {r} {before} says =
     ap (λ (c : Counts). c .number) (says .answer)
     ∙ counts-number (build-refusal limits t (room-of before)) (length (complement t .states)) (length (complement t .edges))
 
-room-enough :
-    (limits : Limits) (r : Room) (n m : ℕ) → room-refusal limits r n m ≡ 0 →
-    (n ≤ r .records) × (n ≤ limits .states) × (m ≤ limits .records) × (table-words n m ≤ r .words)
-unfolding room-refusal
-room-enough limits r n m h =
-    let (few, after) = passed (ltb (r .records) n || ltb (limits .states) n) 10 (cond (too-long limits (r .words) n m) 12 0) h in
-    let (short, done) = passed (too-long limits (r .words) n m) 11 0 after in
-    let (records, states) = both-within (r .records) n (limits .states) n few in
-    let (edges, words) = both-within (limits .records) m (r .words) (table-words n m) short in (records, states, edges, words)
-
 words-length :
     (t : List ℕ) →
     length (complement-words t) ≡ table-words (length (complement t .states)) (length (complement t .edges))
@@ -161,9 +149,12 @@ module _
 
   pub build-fits : Fits limits t
   build-fits =
-      let (few, states, edges, words) =
-      room-enough limits (room-of before) (length (complement t .states)) (length (complement t .edges)) (build-parts .1) in
-      record { states = states; edges = edges }
+      let none = build-parts .1 in
+      elim (room-cases limits (room-of before) (length (complement t .states)) (length (complement t .edges))) [
+        | states-over many e ↦ absurd (omega arith)
+        | table-over few fewer long e ↦ absurd (omega arith)
+        | all-fits few states edges words e ↦ record { states = states; edges = edges }
+      ]
 
   -- the used part of the words is the complement's table
   pub build-used : used r (after .words) ≡ complement-words t

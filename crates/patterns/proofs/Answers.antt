@@ -1,16 +1,19 @@
--- From the parts of a reading to what it answers and leaves, and from a reading to the check's answer. Assumes nothing.
+-- From the parts of a reading to what it answers and leaves, and from a reading to the check's answer, which is at most 10.
+-- Assumes nothing.
 use mathlib.Core.Path.{_≡_, refl, sym, _∙_, ap}
 use mathlib.Core.Bool.{Bool, true, false}
 use mathlib.Core.List.{List}
-use Prim.Native.Nat.{ℕ, zero, suc}
+use Prim.Native.Nat.{ℕ, zero, suc, _≤_}
 use native.Mathlib.Omega.{arith}
 use lib.Dec.{eqb}
 use Rattle.basics.specs.Buffers.{or-else}
 use Rattle.basics.proofs.Booleans.{eq-eqb, ne-eqb}
+use Rattle.basics.proofs.Refusing.{answer-most}
 use Rattle.tables.specs.Table.{pattern-range, table-refusal, meaning}
+use Rattle.tables.proofs.Refusals.{table-most}
 use Rattle.patterns.specs.Check.{check-refusal, as-checked, as-reading, reading, masks-read}
 use Rattle.patterns.specs.Masks.{masks-of}
-use Rattle.patterns.specs.Pattern.{moves}
+use Rattle.patterns.specs.Pattern.{semi-deterministic, moves}
 use Rattle.patterns.specs.Shape.{shape-of, masks-fork, Shape-asks, Small-shape}
 use Rattle.patterns.specs.declared.Checked.the-variants.{Passed, Refused}
 use Rattle.patterns.specs.declared.PatternReading.{PatternReading}
@@ -142,3 +145,11 @@ answer-refused number refusal e met = rw (← e) (go number met)
     go : (number : ℕ) → (number ≡ 0 → ⊥) → Refused number ≡ as-checked number
     go zero met = absurd (met refl)
     go (suc r) met = refl
+
+-- the check answers no number above 10
+pub check-most : (t : List ℕ) → check-refusal t ≤ 10
+unfolding check-refusal or-else
+check-most t =
+    let few = table-most pattern-range t in
+    answer-most (eqb (table-refusal pattern-range t) 0) 10
+    (answer-most (semi-deterministic (meaning t)) 10 (omega arith) (omega arith)) (omega arith)

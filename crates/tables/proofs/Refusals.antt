@@ -1,13 +1,15 @@
--- The cascade of refusals 2 to 9, one law for each: where the earlier tests pass and this one fails, its number is the answer. Assumes nothing.
+-- The cascade of refusals 2 to 9, one law for each: where the earlier tests pass and this one fails, its number is the answer; no
+-- number is above 9. Assumes nothing.
 use mathlib.Core.Path.{_≡_}
 use mathlib.Core.Bool.{Bool, true, false, _&&_, not}
 use mathlib.Core.List.{List}
 use Prim.Native.Nat.{ℕ, _≤_, _<_}
 use native.Mathlib.Omega.{arith}
-use lib.Dec.{ltb, leb}
+use lib.Dec.{ltb, leb, eqb}
 use lib.ListN.{length}
 use Rattle.basics.specs.Buffers.{or-else}
 use Rattle.basics.proofs.Booleans.{and-make, and-false-l, and-false-r, true-not, false-not, le-leb, gt-leb, lt-ltb, ge-ltb, eq-eqb, ne-eqb}
+use Rattle.basics.proofs.Refusing.{answer-most}
 use Rattle.tables.specs.Access.{Sized}
 use Rattle.tables.specs.Table.{most-letters, Limits, table-words, n-of, k-of, m-of, sizes-refusal, flags-good, records-good, chains-good, table-refusal}
 use Rattle.tables.proofs.Laws.{sizes-whole}
@@ -55,6 +57,23 @@ module _ (r : Limits) (t : List ℕ) where
   -- where none of them is met, the table's words are all there
   pub sizes-sized : sizes-refusal r t ≡ 0 → Sized t
   sizes-sized h = let whole = sizes-whole r t h in omega arith
+
+  -- their numbers, and those of 7 to 9 after them, are at most 9
+  sizes-most : sizes-refusal r t ≤ 9
+  sizes-most =
+      answer-most (ltb (length t) 3) 9 (omega arith)
+      (answer-most (not (leb 1 (n-of t) && leb (n-of t) (r .states))) 9 (omega arith)
+      (answer-most (not (leb 1 (k-of t) && leb (k-of t) most-letters)) 9 (omega arith)
+      (answer-most (ltb (r .records) (m-of t)) 9 (omega arith)
+      (answer-most (not (eqb (length t) (table-words (n-of t) (m-of t)))) 9 (omega arith) (omega arith)))))
+
+  pub table-most : table-refusal r t ≤ 9
+  unfolding table-refusal or-else
+  table-most =
+      answer-most (eqb (sizes-refusal r t) 0) 9
+      (answer-most (not (flags-good t)) 9 (omega arith)
+      (answer-most (not (records-good t)) 9 (omega arith) (answer-most (not (chains-good t)) 9 (omega arith) (omega arith))))
+      sizes-most
 
   -- REFUSALS 7 TO 9 after them, as the checks are answered
   module _ {x : ℕ} (sizes : x ≡ sizes-refusal r t) where

@@ -1,56 +1,25 @@
 -- Which refusal a build answers, case by case: the check's, 11, 12 or none, and each case from its number. Assumes nothing.
 use mathlib.Core.Path.{_≡_, refl, _∙_}
-use mathlib.Core.Bool.{Bool, true, false, _&&_, _||_, not, cond}
 use mathlib.Core.List.{List}
 use mathlib.Core.Logic.{_⊎_, inl, inr}
 use Prim.Native.Nat.{ℕ, zero, suc, _≤_, _<_}
 use native.Mathlib.Omega.{arith}
-use lib.Dec.{ltb, leb, eqb}
+use lib.Dec.{eqb}
 use lib.ListN.{length}
 use Rattle.basics.specs.Buffers.{or-else}
-use Rattle.basics.proofs.Booleans.{either, or-true, ltb-lt, both-within, eqb-eq, eqb-ne, ne-eqb}
-use Rattle.tables.specs.Table.{Limits, pattern-range, most-letters, table-words, n-of, k-of, m-of, sizes-refusal, flags-good, records-good, chains-good, table-refusal, meaning}
+use Rattle.basics.proofs.Booleans.{either, eqb-eq, eqb-ne, ne-eqb}
+use Rattle.tables.specs.Table.{Limits}
 use Rattle.patterns.specs.Check.{check-refusal}
-use Rattle.patterns.specs.Pattern.{semi-deterministic}
+use Rattle.patterns.proofs.Answers.{check-most}
 use Rattle.complement.specs.Build.{Room, room-refusal, build-refusal}
 use Rattle.complement.specs.Complement.{complement}
+use Rattle.complement.proofs.Room.{states-over, table-over, all-fits, room-cases}
 use Rattle.tubochre.specs.Demand.{Too-many-states, Too-many-words}
 
--- THE CHECK answers at most 10
-most : (b : Bool) {x y : ℕ} (limit : ℕ) → x ≤ limit → y ≤ limit → cond b x y ≤ limit
-most true limit a b = a
-most false limit a b = b
-
-sizes-most : (l : Limits) (t : List ℕ) → sizes-refusal l t ≤ 9
-sizes-most l t =
-    most (ltb (length t) 3) 9 (omega arith)
-    (most (not (leb 1 (n-of t) && leb (n-of t) (l .states))) 9 (omega arith)
-    (most (not (leb 1 (k-of t) && leb (k-of t) most-letters)) 9 (omega arith)
-    (most (ltb (l .records) (m-of t)) 9 (omega arith)
-    (most (not (eqb (length t) (table-words (n-of t) (m-of t)))) 9 (omega arith) (omega arith)))))
-
-table-most : (l : Limits) (t : List ℕ) → table-refusal l t ≤ 9
-unfolding table-refusal or-else
-table-most l t =
-    most (eqb (sizes-refusal l t) 0) 9
-    (most (not (flags-good t)) 9 (omega arith)
-    (most (not (records-good t)) 9 (omega arith) (most (not (chains-good t)) 9 (omega arith) (omega arith))))
-    (sizes-most l t)
-
-check-most : (t : List ℕ) → check-refusal t ≤ 10
-unfolding check-refusal or-else
-check-most t =
-    let few = table-most pattern-range t in
-    most (eqb (table-refusal pattern-range t) 0) 10 (most (semi-deterministic (meaning t)) 10 (omega arith) (omega arith)) (omega arith)
-
--- one number is above another, or a third above a fourth
-one-above : (a b c d : ℕ) → (ltb a b || ltb c d) ≡ true → (a < b) ⊎ (c < d)
-one-above a b c d h =
-    elim (or-true (ltb a b) (ltb c d) h) [ inl e ↦ inl (ltb-lt a b e) | inr e ↦ inr (ltb-lt c d e) ]
-
-none-above : (a b c d : ℕ) → (ltb a b || ltb c d) ≡ false → (a < b) ⊎ (c < d) → ⊥
-none-above a b c d h (inl l) = let g = both-within a b c d h .0 in omega arith
-none-above a b c d h (inr l) = let g = both-within a b c d h .1 in omega arith
+-- what fits is not too much
+none-above : {a b c d : ℕ} → b ≤ a → d ≤ c → (a < b) ⊎ (c < d) → ⊥
+none-above few fewer (inl l) = omega arith
+none-above few fewer (inr l) = omega arith
 
 -- WHICH REFUSAL IS MET
 pub data Met (range : Limits) (t : List ℕ) (room : Room) (number : ℕ) : Type 0 where
@@ -66,15 +35,6 @@ module _ (range : Limits) (t : List ℕ) (room : Room) where
   abbrev m : ℕ
   m = length (complement t .edges)
 
-  -- what fits is not too much
-  states-few : (ltb (room .records) n || ltb (range .states) n) ≡ false → Too-many-states range t room → ⊥
-  unfolding Too-many-states
-  states-few = none-above (room .records) n (range .states) n
-
-  words-few : (ltb (range .records) m || ltb (room .words) (table-words n m)) ≡ false → Too-many-words range t room → ⊥
-  unfolding Too-many-words
-  words-few = none-above (range .records) m (room .words) (table-words n m)
-
   check-met : (check-refusal t ≡ 0 → ⊥) → Met range t room (build-refusal range t room)
   unfolding build-refusal or-else
   check-met ne =
@@ -87,17 +47,12 @@ module _ (range : Limits) (t : List ℕ) (room : Room) where
       positive (suc k) ne = omega arith
 
   room-met : check-refusal t ≡ 0 → Met range t room (room-refusal range room n m)
-  unfolding room-refusal Too-many-states Too-many-words
+  unfolding Too-many-states Too-many-words
   room-met passed =
-      elim (either (ltb (room .records) n || ltb (range .states) n)) [
-        | inl many ↦ by-states passed (one-above (room .records) n (range .states) n many) (rw many refl)
-        | inr few ↦
-            elim (either (ltb (range .records) m || ltb (room .words) (table-words n m))) [
-              | inl many ↦
-                  by-words passed (states-few few) (one-above (range .records) m (room .words) (table-words n m) many) (rw (few, many) refl)
-              | inr fewer ↦
-                  by-none passed (states-few few) (words-few fewer) (rw (few, fewer) refl)
-            ]
+      elim (room-cases range room n m) [
+        | states-over many e ↦ by-states passed many e
+        | table-over few fewer many e ↦ by-words passed (none-above few fewer) many e
+        | all-fits few fewer edges words e ↦ by-none passed (none-above few fewer) (none-above edges words) e
       ]
 
   pub which-refusal : Met range t room (build-refusal range t room)
