@@ -9,7 +9,6 @@ use lib.ListN.{length, getD, take, drop, length-append, take-append-drop, List·
 use lib.Seq.{append-snoc, getD-append-seam, take-append-seam}
 use Rattle.basics.proofs.Booleans.{either, lt-ltb, ge-ltb, below-or}
 use Rattle.automata.specs.Decision.{tabulate}
-use Rattle.automata.proofs.Graphs.{tabulate-at, tabulate-length}
 use Rattle.automata.specs.System.{System, Decides, Member, here, there, state-at, Distinct, number-of, with-state, with-states}
 
 -- PREFIXES: the second list goes on from the first
@@ -60,37 +59,23 @@ module _ {X : Type 0} where
   index-member (x ∷ xs) blank zero l = here
   index-member (x ∷ xs) blank (suc i) l = there (index-member xs blank i (omega arith))
 
--- THE NUMBER of the first state in a list that is the same
+-- THE NUMBER of a state among states given by index: that of the first that is the same, or their count where none is
 module _ {X : Type 0} (same : X → X → Bool) (x : X) where
-  pub number-here :
-      (ys : List X) (blank : X) (r : ℕ) → r < length ys → ((i : ℕ) → i < r → same x (getD ys i blank) ≡ false) →
-      same x (getD ys r blank) ≡ true → number-of same x ys ≡ r
-  unfolding number-of
-  number-here [] blank r l before met = absurd (omega arith)
-  number-here (y ∷ ys) blank zero l before met = rw met refl
-  number-here (y ∷ ys) blank (suc r) l before met =
-      rw (before 0 (omega arith)) (ap suc (number-here ys blank r (omega arith) (λ i m. before (suc i) (omega arith)) met))
-
-  pub number-nowhere :
-      (ys : List X) (blank : X) → ((i : ℕ) → i < length ys → same x (getD ys i blank) ≡ false) → number-of same x ys ≡ length ys
-  unfolding number-of
-  number-nowhere [] blank before = refl
-  number-nowhere (y ∷ ys) blank before =
-      rw (before 0 (omega arith)) (ap suc (number-nowhere ys blank (λ i m. before (suc i) (omega arith))))
-
-  -- in a row of states
   pub number-met :
-      (n r : ℕ) (f : ℕ → X) → r < n → ((i : ℕ) → i < r → same x (f i) ≡ false) → same x (f r) ≡ true →
-      number-of same x (tabulate n f) ≡ r
-  number-met n r f l before met =
-      number-here (tabulate n f) x r (rw (tabulate-length n f) l)
-      (λ i m. rw (tabulate-at n f i x (omega arith)) (before i m)) (rw (tabulate-at n f r x l) met)
+      (n r : ℕ) (y : ℕ → X) → r < n → ((i : ℕ) → i < r → same x (y i) ≡ false) → same x (y r) ≡ true →
+      r ≡ number-of same x (tabulate n y)
+  unfolding number-of tabulate
+  number-met zero r y l before met = absurd (omega arith)
+  number-met (suc n) zero y l before met = rw met refl
+  number-met (suc n) (suc r) y l before met =
+      rw (before 0 (omega arith))
+      (ap suc (number-met n r (λ i. y (suc i)) (omega arith) (λ i m. before (suc i) (omega arith)) met))
 
-  pub number-missed : (n : ℕ) (f : ℕ → X) → ((i : ℕ) → i < n → same x (f i) ≡ false) → number-of same x (tabulate n f) ≡ n
-  number-missed n f before =
-      number-nowhere (tabulate n f) x
-      (λ i m. let l : i < n = rw (tabulate-length n f) at m in rw (tabulate-at n f i x l) (before i l))
-      ∙ tabulate-length n f
+  pub number-missed : (n : ℕ) (y : ℕ → X) → ((i : ℕ) → i < n → same x (y i) ≡ false) → n ≡ number-of same x (tabulate n y)
+  unfolding number-of tabulate
+  number-missed zero y before = refl
+  number-missed (suc n) y before =
+      rw (before 0 (omega arith)) (ap suc (number-missed n (λ i. y (suc i)) (λ i m. before (suc i) (omega arith))))
 
 module _ {X : Type 0} (same : X → X → Bool) where
   -- THE NUMBER OF A STATE is below the length exactly if the state is listed

@@ -14,10 +14,10 @@ use Rattle.automata.proofs.Graphs.{tabulate-same, tabulate-items}
 use Rattle.tables.specs.Table.{Limits}
 use Rattle.ncsb.specs.Successors.{quadruple}
 use Rattle.ncsb.specs.declared.Quadruple.{Quadruple}
-use Rattle.record_words.specs.Record.{record-words, words-of, all-words, full-records, quadruple-at, with-quadruple}
+use Rattle.record_words.specs.Record.{record-words, words-of, all-words, full-records, quadruple-at, records-of, with-quadruple}
 use Rattle.record_words.proofs.Laws.{words-length, all-length, with-length, inside-words, full-kept, same-record, read-back}
 use Rattle.complement.specs.Build.{Lent}
-use Rattle.complement.specs.Records.{records-of, capacity}
+use Rattle.complement.specs.Records.{capacity}
 use Rattle.complement.specs.Found.{Begins, quadruples, States-kept, triple, triples, edge-room, counted-to, Edges-kept, with-edge, one-more, Shows}
 use Rattle.complement.specs.declared.explore.Progress.{Progress}
 use Rattle.complement.proofs.Stored.{begins-words}

@@ -1,33 +1,22 @@
--- A scan of records finds the number of a quadruple; and the room for records. Assumes nothing.
-use mathlib.Core.Path.{_≡_, sym}
-use mathlib.Core.Bool.{Bool, true}
+-- Looking a quadruple up among the records: one comparison, and a look-up that finds none; and the room for records. Assumes nothing.
+use mathlib.Core.Path.{_≡_}
+use mathlib.Core.Bool.{Bool}
 use mathlib.Core.List.{List}
 use Prim.Native.Nat.{ℕ, _≤_, _<_}
 use native.Mathlib.Omega.{arith}
-use Rattle.basics.proofs.Scans.{None-below}
 use Rattle.automata.proofs.Graphs.{tabulate-length}
-use Rattle.automata.proofs.Members.{number-met, number-missed, number-le}
+use Rattle.automata.proofs.Members.{number-le}
 use Rattle.tables.specs.Table.{Limits}
 use Rattle.ncsb.specs.Successors.{same}
 use Rattle.ncsb.specs.declared.Quadruple.{Quadruple}
-use Rattle.record_words.specs.Record.{full-records, quadruple-at}
-use Rattle.complement.specs.Records.{records-of, capacity, looked-up}
+use Rattle.record_words.specs.Record.{full-records, quadruple-at, records-of}
+use Rattle.complement.specs.Records.{capacity, looked-up}
 
 -- what a comparison with a loaded record says
 pub compared : (x : Quadruple) {y z : Quadruple} {r b : Bool} → r ≡ same x y → y ≡ z → r ≡ b → same x z ≡ b
 compared x e f g = cc
 
 module _ (w : List ℕ) (x : Quadruple) {n r : ℕ} where
-  -- where none of the first records is x
-  pub looked-found :
-      r < n → None-below (λ i. same x (quadruple-at w i)) n r → same x (quadruple-at w r) ≡ true → r ≡ looked-up w n x
-  unfolding looked-up records-of
-  looked-found l h e = sym (number-met same x n r (quadruple-at w) l (h .none) e)
-
-  pub looked-none : n ≤ r → None-below (λ i. same x (quadruple-at w i)) n r → n ≡ looked-up w n x
-  unfolding looked-up records-of
-  looked-none l h = sym (number-missed same x n (quadruple-at w) (λ i m. h .none i (omega arith)))
-
   -- a look-up that is not below the count gives the count
   pub looked-all : r ≡ looked-up w n x → n ≤ r → n ≡ looked-up w n x
   unfolding looked-up records-of

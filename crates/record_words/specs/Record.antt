@@ -4,6 +4,7 @@ use mathlib.Core.List.{List, flatMap}
 use Prim.Native.Nat.{ℕ, _+_, _*_, _/_}
 use lib.ListN.{length, getD}
 use lib.Seq.{sets}
+use Rattle.automata.specs.Decision.{tabulate}
 use Rattle.ncsb.specs.Successors.{quadruple, four-sets}
 use Rattle.ncsb.specs.declared.Quadruple.{Quadruple}
 
@@ -28,6 +29,10 @@ unfoldable pub quadruple-at : (words : List ℕ) → (number : ℕ) → Quadrupl
 quadruple-at w i =
     quadruple (getD w (record-words * i) 0) (getD w (record-words * i + 1) 0) (getD w (record-words * i + 2) 0)
     (getD w (record-words * i + 3) 0)
+
+-- the first records, so many
+unfoldable pub records-of : (words : List ℕ) → (count : ℕ) → List Quadruple
+records-of w n = tabulate n (quadruple-at w)
 
 -- the words once the record with a number holds a quadruple
 unfoldable pub with-quadruple : (words : List ℕ) → (number : ℕ) → Quadruple → List ℕ

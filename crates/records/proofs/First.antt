@@ -1,6 +1,6 @@
 -- A scan of records from the first on finds the number of a quadruple among them, as exploring has it; what is found in a run behind the
 -- records that it was filled from is none of them. Assumes nothing.
-use mathlib.Core.Path.{_≡_, sym, _∙_}
+use mathlib.Core.Path.{_≡_, _∙_}
 use mathlib.Core.Logic.{inl, inr}
 use mathlib.Core.Bool.{true}
 use mathlib.Core.List.{List, [], _∷_}
@@ -11,7 +11,8 @@ use Rattle.basics.proofs.Booleans.{either}
 use Rattle.basics.proofs.Scans.{None-below}
 use Rattle.automata.specs.Decision.{tabulate}
 use Rattle.automata.specs.System.{number-of}
-use Rattle.automata.proofs.Members.{number-here, number-nowhere}
+use Rattle.automata.proofs.Graphs.{tabulate-items}
+use Rattle.automata.proofs.Members.{number-met, number-missed}
 use Rattle.ncsb.specs.Successors.{same}
 use Rattle.ncsb.specs.declared.Quadruple.{Quadruple}
 use Rattle.records.specs.Records.{blank, fitted}
@@ -23,11 +24,13 @@ Scanned x ys k = None-below (λ i. same x (getD ys i blank)) (length ys) k
 module _ (x : Quadruple) (ys : List Quadruple) where
   -- the record at k is x: its place is k
   pub scanned-met : (k : ℕ) → k < length ys → Scanned x ys k → same x (getD ys k blank) ≡ true → k ≡ number-of same x ys
-  scanned-met k l s e = sym (number-here same x ys blank k l (s .none) e)
+  scanned-met k l s e =
+      rw (tabulate-items ys blank) at (number-met same x (length ys) k (λ i. getD ys i blank) l (s .none) e)
 
   -- all are scanned: the place is their count
   pub scanned-all : (k : ℕ) → k ≡ length ys → Scanned x ys k → k ≡ number-of same x ys
-  scanned-all k e s = e ∙ sym (number-nowhere same x ys blank (λ i l. s .none i (omega arith)))
+  scanned-all k e s =
+      e ∙ rw (tabulate-items ys blank) at (number-missed same x (length ys) (λ i. getD ys i blank) (λ i l. s .none i (omega arith)))
 
 -- AMONG THE FIRST k RECORDS ys: the place in a run of k that is filled from them, unless it lies behind them
 place-held :

@@ -7,19 +7,19 @@ use lib.ListN.{length, getD, List·getD-eq-default}
 use Rattle.automata.proofs.Graphs.{tabulate-at, tabulate-length}
 use Rattle.ncsb.specs.Successors.{quadruple}
 use Rattle.ncsb.specs.declared.Quadruple.{Quadruple}
-use Rattle.record_words.specs.Record.{full-records, quadruple-at}
+use Rattle.record_words.specs.Record.{full-records, quadruple-at, records-of}
 use Rattle.records.specs.Records.{blank, records-in}
 
 -- how many there are
 pub records-length : (w : List ℕ) → length (records-in w) ≡ full-records w
-unfolding records-in
+unfolding records-in records-of
 records-length w = tabulate-length (full-records w) (quadruple-at w)
 
 -- as the code reads them, x and m being what the record is read as and how many there are
 pub record-read :
     (w : List ℕ) (i : ℕ) {x : Quadruple} {m : ℕ} → m ≡ full-records w → i < m → x ≡ quadruple-at w i →
     x ≡ getD (records-in w) i blank
-unfolding records-in
+unfolding records-in records-of
 record-read w i e l is =
     let inside : i < full-records w = omega arith in
     is ∙ sym (tabulate-at (full-records w) (quadruple-at w) i blank inside)

@@ -5,7 +5,7 @@ use lib.ListN.{getD}
 use Rattle.automata.specs.Decision.{tabulate}
 use Rattle.ncsb.specs.Successors.{quadruple}
 use Rattle.ncsb.specs.declared.Quadruple.{Quadruple}
-use Rattle.record_words.specs.Record.{full-records, quadruple-at}
+use Rattle.record_words.specs.Record.{full-records, records-of}
 
 -- what stands where no record is: four empty sets
 unfoldable pub blank : Quadruple
@@ -13,7 +13,7 @@ blank = quadruple 0 0 0 0
 
 -- the records of words, in order; words left over that make no full record count as none
 unfoldable pub records-in : (words : List ℕ) → List Quadruple
-records-in w = tabulate (full-records w) (quadruple-at w)
+records-in w = records-of w (full-records w)
 
 -- so many records that begin with given ones, as many as fit, and are blank beyond them
 unfoldable pub fitted : (count : ℕ) → List Quadruple → List Quadruple

@@ -2,9 +2,11 @@
 use Prim.Native.Nat.{_-_}
 use native.Mathlib.Omega.{arith}
 use Rattle.basics.proofs.Scans.{None-below, none-start, none-turn}
+use Rattle.automata.proofs.Members.{number-met, number-missed}
 use Rattle.ncsb.specs.Successors.{same}
-use Rattle.record_words.specs.Record.{quadruple-at}
-use Rattle.complement.proofs.Lookup.{compared, looked-found, looked-none}
+use Rattle.record_words.specs.Record.{quadruple-at, records-of}
+use Rattle.complement.specs.Records.{looked-up}
+use Rattle.complement.proofs.Lookup.{compared}
 use Rattle.complement.proofs.records.find.Statement.{statement}
 use Rattle.complement.proofs.records.find.Tie as tie
 
@@ -27,6 +29,7 @@ equals-requires : tie.Need-equals-requires Inv-loop μ-loop
 equals-requires c κs = tt
 
 returns : tie.Need-returns Inv-loop μ-loop
+unfolding looked-up records-of
 returns c =
     let at : tie.After-equals Inv-loop μ-loop = search in
     let loaded : tie.After-load Inv-loop μ-loop = search in
@@ -34,7 +37,7 @@ returns c =
     let turn : tie.At-loop Inv-loop μ-loop = search in
     let start : tie.Start Inv-loop μ-loop = search in
     let args = start .args in
-    looked-found (args .sets .now) (args .x) (one .loop-test .taken) (turn .loop .inv)
+    number-met same (args .x) _ _ (quadruple-at (args .sets .now)) (one .loop-test .taken) (turn .loop .inv .none)
     (compared (args .x) (at .equals .ensures) (loaded .load .ensures) (c .if1 .taken))
 
 add-number : tie.Need-add-number Inv-loop μ-loop
@@ -54,10 +57,13 @@ loop-again c =
     (compared (start .args .x) (at .equals .ensures) (loaded .load .ensures) (c .if1 .left)) (turn .loop .inv)
 
 returns-2 : tie.Need-returns-2 Inv-loop μ-loop
+unfolding looked-up records-of
 returns-2 c =
     let at-loop : tie.At-loop Inv-loop μ-loop = search in
     let begun : tie.Start Inv-loop μ-loop = search in
-    let args = begun .args in looked-none (args .sets .now) (args .x) (c .loop-test .left) (at-loop .loop .inv)
+    let args = begun .args in
+    let all = c .loop-test .left in
+    number-missed same (args .x) _ (quadruple-at (args .sets .now)) (λ i m. at-loop .loop .inv .none i (omega arith))
 
 pub find-spec : {M : Type 1} → statement M
 find-spec =
