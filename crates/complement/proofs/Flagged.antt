@@ -1,13 +1,14 @@
 -- Setting flags by a test of which states accept, state by state; and what words come of it. Assumes nothing.
 use mathlib.Core.Path.{_≡_, refl, sym, _∙_, ap}
-use mathlib.Core.Bool.{Bool, true, false}
+use mathlib.Core.Bool.{Bool}
 use mathlib.Core.List.{List}
 use Prim.Native.Nat.{ℕ, zero, suc, _+_, _*_, _≤_, _<_}
 use native.Mathlib.Numerals.{add-one}
 use native.Mathlib.Omega.{arith}
+use lib.Dec.{ltb}
 use lib.ListN.{length, set}
-use Rattle.basics.proofs.Booleans.{lt-ltb, ge-ltb}
 use Rattle.automata.specs.Automaton.{Automaton}
+use Rattle.tables.specs.Table.{flags}
 use Rattle.layout.specs.Chained.{flags-word}
 use Rattle.layout.proofs.Indexed.{Flagging, flagging-start, flagging-turn}
 use Rattle.ncsb.specs.Successors.{accepting}
@@ -22,23 +23,10 @@ unfolding record-accepts
 accepts-loaded s i loaded asked = ap accepting (sym loaded) ∙ sym asked
 
 module _ (a : ℕ → Bool) (k : ℕ) where
-  -- the four cases of one state's flags
-  module _ (i : ℕ) where
-    pub flags-both : i < k → a i ≡ true → 3 ≡ state-flags a k i
-    unfolding state-flags
-    flags-both l e = rw (lt-ltb l, e) refl
-
-    pub flags-initial : i < k → a i ≡ false → 1 ≡ state-flags a k i
-    unfolding state-flags
-    flags-initial l e = rw (lt-ltb l, e) refl
-
-    pub flags-accepting : k ≤ i → a i ≡ true → 2 ≡ state-flags a k i
-    unfolding state-flags
-    flags-accepting l e = rw (ge-ltb l, e) refl
-
-    pub flags-none : k ≤ i → a i ≡ false → 0 ≡ state-flags a k i
-    unfolding state-flags
-    flags-none l e = rw (ge-ltb l, e) refl
+  -- the flags of one state, by what its two tests say
+  pub flags-told : (i : ℕ) {x y : Bool} → ltb i k ≡ x → a i ≡ y → flags x y ≡ state-flags a k i
+  unfolding state-flags
+  flags-told i first accepts = rw (first, accepts) refl
 
   -- the loop
   module _ (w : List ℕ) where

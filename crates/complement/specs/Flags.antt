@@ -1,17 +1,18 @@
 -- Flags of the states, by a test of which accept (docs/RULES.md, "The chained table": 1 initial, 2 accepting). Assumes nothing: these are
 -- definitions.
-use mathlib.Core.Bool.{Bool, cond}
+use mathlib.Core.Bool.{Bool}
 use mathlib.Core.List.{List}
 use Prim.Native.Nat.{ℕ, zero, suc, _+_, _*_, _≤_}
 use lib.Dec.{ltb}
 use lib.ListN.{length, set}
+use Rattle.tables.specs.Table.{flags}
 use Rattle.ncsb.specs.Successors.{accepting}
 use Rattle.record_words.specs.Record.{full-records, quadruple-at}
 use Rattle.complement.specs.Build.{Lent}
 
--- 1 initial, 2 accepting, 3 both; so many states are initial, and come first
+-- the flags of a state, where so many states are initial and come first
 unfoldable pub state-flags : (accepts : ℕ → Bool) → (initial state : ℕ) → ℕ
-state-flags accepts k i = cond (ltb i k) 1 0 + cond (accepts i) 2 0
+state-flags accepts k i = flags (ltb i k) (accepts i)
 
 -- the words once so many states have their flags
 unfoldable pub with-flags : (accepts : ℕ → Bool) → (initial states : ℕ) → (words : List ℕ) → List ℕ

@@ -8,6 +8,7 @@ use lib.Seq.{getD-append-add, getD-drop}
 use Rattle.basics.specs.Buffers.{filled}
 use Rattle.automata.specs.System.{an-edge, edge-at}
 use Rattle.automata.proofs.Graphs.{tabulate-length, tabulate-at, tabulate-same}
+use Rattle.tables.specs.Table.{flags}
 use Rattle.layout.specs.Chained.{flags-word, chained-words}
 use Rattle.layout.specs.Steps.{Lay-out-asks, Moved, Cleared, moved-edges, Link-asks, Linked, with-counts}
 use Rattle.layout.specs.Triples.{triple-at, triples-of, plain}
@@ -74,7 +75,7 @@ module _
         ∙ moved-word p q e a b
 
     laid-indexed : Indexed (plain n k) (triples-of w m) (with-counts n k m z)
-    unfolding plain flags-word with-counts triple-at an-edge edge-at
+    unfolding plain flags flags-word with-counts triple-at an-edge edge-at
     laid-indexed =
         let long = tabulate-length m (triple-at w) in
         record {

@@ -1,35 +1,23 @@
 -- The chained words of an automaton mean that automaton: the chain of a state visits exactly the records with that source. Assumes nothing.
 use mathlib.Core.Path.{_≡_, refl, sym, _∙_}
-use mathlib.Core.Bool.{Bool, true, false, _&&_, cond}
+use mathlib.Core.Bool.{Bool, true, false, _&&_}
 use mathlib.Core.List.{List}
 use mathlib.Core.Logic.{inl, inr}
-use Prim.Native.Nat.{ℕ, zero, suc, _+_, _-_, _%_, _≤_, _<_}
+use Prim.Native.Nat.{ℕ, zero, suc, _-_, _≤_, _<_}
 use native.Mathlib.Omega.{arith}
-use lib.Dec.{ltb, leb, eqb}
+use lib.Dec.{ltb, eqb}
 use lib.ListN.{length}
 use Rattle.basics.proofs.Booleans.{either, ltb-ge, clash, and-l, and-r, and-make, or-l, or-r, same-truth, not-both, not-false, eq-eqb, ne-eqb, ltb-lt, lt-ltb, same-or}
 use Rattle.automata.specs.Automaton.{Automaton, Same}
 use Rattle.automata.specs.System.{Edge, edge-at, listed}
 use Rattle.automata.proofs.Numbered.{listed-at, listed-find}
 use Rattle.tables.specs.Table.{letter-of, target-of, next-of, is-initial, is-accepting, chain-has, edge, meaning}
+use Rattle.tables.proofs.Flags.{flags-initial, flags-accepting}
 use Rattle.tables.proofs.Laws.{chain-ends, chain-cases}
 use Rattle.layout.specs.Chained.{first-record, next-record, flags-word, chained-words}
 use Rattle.layout.specs.Orderly.{Orderly, Has-edges}
 use Rattle.layout.proofs.Firsts.{First, absent, first-at, first-is, Next, ends, goes-on, next-is, rising}
 use Rattle.layout.proofs.Indexed.{Indexed, indexed-n, indexed-k, indexed-m, indexed-flags, indexed-head, indexed-letter, indexed-target, indexed-next, chained-indexed}
-
--- the two flags of a flags word
-flag-initial : (x y : Bool) → eqb ((cond x 1 0 + cond y 2 0) % 2) 1 ≡ x
-flag-initial true true = refl
-flag-initial true false = refl
-flag-initial false true = refl
-flag-initial false false = refl
-
-flag-accepting : (x y : Bool) → leb 2 (cond x 1 0 + cond y 2 0) ≡ y
-flag-accepting true true = refl
-flag-accepting true false = refl
-flag-accepting false true = refl
-flag-accepting false false = refl
 
 -- a test that is false from n on
 below-only : (n q : ℕ) (x y : Bool) → (q < n → x ≡ y) → (n ≤ q → y ≡ false) → (ltb q n && x) ≡ y
@@ -45,11 +33,11 @@ module _ (a : Automaton) (es : List Edge) where
 
   pub chained-initial : (i : ℕ) → i < a .states → is-initial (chained-words a es) i ≡ a .initial i
   unfolding is-initial flags-word
-  chained-initial i l = rw (indexed-flags laid i l) (flag-initial (a .initial i) (a .accepting i))
+  chained-initial i l = rw (indexed-flags laid i l) (flags-initial (a .initial i) (a .accepting i))
 
   pub chained-accepting : (i : ℕ) → i < a .states → is-accepting (chained-words a es) i ≡ a .accepting i
   unfolding is-accepting flags-word
-  chained-accepting i l = rw (indexed-flags laid i l) (flag-accepting (a .initial i) (a .accepting i))
+  chained-accepting i l = rw (indexed-flags laid i l) (flags-accepting (a .initial i) (a .accepting i))
 
   -- what a chain has is listed with the source of its records
   chain-listed :

@@ -1,9 +1,8 @@
 -- The chained words of edges in the order of their sources pass refusals 2 to 9 of every range that has room for them. Assumes nothing.
 use mathlib.Core.Path.{_≡_}
-use mathlib.Core.Bool.{Bool, true, false, cond}
 use mathlib.Core.List.{List}
 use mathlib.Core.Logic.{_⊎_, inl, inr}
-use Prim.Native.Nat.{ℕ, suc, _+_, _≤_, _<_}
+use Prim.Native.Nat.{ℕ, suc, _≤_, _<_}
 use native.Mathlib.Omega.{arith}
 use lib.Dec.{eqb}
 use lib.ListN.{length}
@@ -12,22 +11,13 @@ use Rattle.basics.proofs.Upward.{from-one}
 use Rattle.automata.specs.Automaton.{Automaton}
 use Rattle.automata.specs.System.{Edge}
 use Rattle.tables.specs.Table.{most-letters, Limits, head-of, letter-of, target-of, next-of, named, table-refusal}
+use Rattle.tables.proofs.Flags.{flags-small}
 use Rattle.tables.proofs.Laws.{Valid, valid-passes}
 use Rattle.layout.specs.Chained.{first-record, next-record, flags-word, chained-words}
 use Rattle.layout.specs.Orderly.{Orderly}
 use Rattle.layout.proofs.Firsts.{absent, first-at, first-is, ends, goes-on, next-is, named-once}
 use Rattle.layout.proofs.Indexed.{Indexed, indexed-n, indexed-k, indexed-m, indexed-flags, indexed-head, indexed-letter, indexed-target, indexed-next, chained-indexed}
 use Rattle.layout.proofs.Words.{chained-length}
-
-pub flags-small : (a : Automaton) (i : ℕ) → flags-word a i ≤ 3
-unfolding flags-word
-flags-small a i = go (a .initial i) (a .accepting i)
-  where
-    go : (x y : Bool) → cond x 1 0 + cond y 2 0 ≤ 3
-    go true true = omega arith
-    go true false = omega arith
-    go false true = omega arith
-    go false false = omega arith
 
 head-small : (i : ℕ) (es : List Edge) → first-record 1 i es ≤ length es
 head-small i es = elim (first-is 1 i es) [ absent z before ↦ omega arith | first-at e z l h before ↦ omega arith ]
@@ -57,6 +47,7 @@ module _ (l : Limits) (a : Automaton) (es : List Edge) (o : Orderly a es) where
   pub chained-is-valid :
       1 ≤ a .states → a .states ≤ l .states → 1 ≤ a .letters → a .letters ≤ most-letters → length es ≤ l .records →
       Valid l (chained-words a es)
+  unfolding flags-word
   chained-is-valid n₁ n₂ k₁ k₂ m₁ =
       let t = chained-words a es in
       let n = indexed-n laid in
@@ -69,7 +60,7 @@ module _ (l : Limits) (a : Automaton) (es : List Edge) (o : Orderly a es) where
         letters-to = omega arith;
         records-to = omega arith;
         whole = rw (n, m) (chained-length a es);
-        flags = λ q h. rw (indexed-flags laid q (rw n at h)) (flags-small a q);
+        flags = λ q h. rw (indexed-flags laid q (rw n at h)) (flags-small (a .initial q) (a .accepting q));
         letter =
             rw (m, k)
             (from-one (length es) (λ x. letter-of t x < a .letters) (λ r h. rw (indexed-letter laid r h) (o .letter r h)));

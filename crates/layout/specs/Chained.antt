@@ -1,12 +1,13 @@
 -- The words of a table whose chains run through consecutive records (docs/RULES.md, "Numbering and result"). Assumes nothing: these are definitions.
 use mathlib.Core.Bool.{_&&_, cond}
 use mathlib.Core.List.{List, [], _∷_, _++_}
-use Prim.Native.Nat.{ℕ, suc, _+_}
+use Prim.Native.Nat.{ℕ, suc}
 use lib.Dec.{ltb, eqb}
 use lib.ListN.{length}
 use Rattle.basics.specs.Rows.{rows}
 use Rattle.automata.specs.Automaton.{Automaton}
 use Rattle.automata.specs.System.{Edge, edge-at}
+use Rattle.tables.specs.Table.{flags}
 
 -- the number of the first record with this source, counted from r; zero where there is none
 unfoldable pub first-record : (r source : ℕ) → List Edge → ℕ
@@ -18,9 +19,9 @@ unfoldable pub next-record : (es : List Edge) → (r : ℕ) → ℕ
 next-record es r =
     cond (ltb (suc r) (length es) && eqb (edge-at es (suc r) .source) (edge-at es r .source)) (suc (suc r)) 0
 
--- flags: 1 initial, 2 accepting, 3 both
+-- the flags of a state
 unfoldable pub flags-word : Automaton → (state : ℕ) → ℕ
-flags-word a i = cond (a .initial i) 1 0 + cond (a .accepting i) 2 0
+flags-word a i = flags (a .initial i) (a .accepting i)
 
 unfoldable pub state-row : Automaton → List Edge → (state : ℕ) → List ℕ
 state-row a es i = flags-word a i ∷ first-record 1 i es ∷ []

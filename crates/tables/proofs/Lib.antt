@@ -1,5 +1,6 @@
 pub mod Chains
 pub mod Checks
+pub mod Flags
 pub mod Laws
 pub mod Marking
 pub mod Places

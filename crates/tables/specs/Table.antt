@@ -70,6 +70,10 @@ unfoldable pub next-of : List ℕ → (number : ℕ) → ℕ
 next-of t r = getD t (record-at t r + 2) 0
 
 -- flags: 1 initial, 2 accepting, 3 both
+unfoldable pub flags : (initial accepting : Bool) → ℕ
+flags x y = cond x 1 0 + cond y 2 0
+
+-- what a state's flags say
 unfoldable pub is-initial : List ℕ → (state : ℕ) → Bool
 is-initial t q = eqb (flags-of t q % 2) 1
 
