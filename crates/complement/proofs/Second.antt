@@ -6,6 +6,7 @@ use Prim.Native.Nat.{ℕ, zero, suc, _*_, _≤_}
 use native.Mathlib.Omega.{arith}
 use lib.ListN.{length}
 use lib.Pow.{pow-pos}
+use Rattle.basics.specs.Buffers.{filled}
 use Rattle.basics.proofs.Filled.{filled-take}
 use Rattle.basics.proofs.Refusing.{or-else-none}
 use Rattle.automata.specs.Automaton.{Same}
@@ -96,6 +97,17 @@ module _ (t : List ℕ) (passed : check-refusal t ≡ 0) where
       chained-valid limits (complement-automaton t) (complement t .edges) o some-state (fits .states) (v .letters-from)
       (v .letters-to) (fits .edges)
 
+-- THE LENGTHS of the complement's words, and of its sets
+pub words-length :
+    (t : List ℕ) →
+    length (complement-words t) ≡ table-words (length (complement t .states)) (length (complement t .edges))
+unfolding complement-words complement-automaton numbered
+words-length t = chained-length (complement-automaton t) (complement t .edges)
+
+pub sets-length : (t : List ℕ) → length (sets-words t) ≡ record-words * length (complement t .states)
+unfolding sets-words
+sets-length t = rows-long (length (complement t .states)) (λ i. state-at (system-of t) (complement t .states) i)
+
 -- WHAT A BUILD SAYS, and an accepted one
 counts-number : (number n m : ℕ) → as-counts number n m .number ≡ number
 unfolding as-counts
@@ -110,21 +122,11 @@ build-number {limits} {t} {r} {before} says =
     ap (λ (c : Counts). c .number) (says .answer)
     ∙ counts-number (build-refusal limits t (room-of before)) (length (complement t .states)) (length (complement t .edges))
 
-words-length :
-    (t : List ℕ) →
-    length (complement-words t) ≡ table-words (length (complement t .states)) (length (complement t .edges))
-unfolding complement-words complement-automaton numbered
-words-length t = chained-length (complement-automaton t) (complement t .edges)
-
-sets-length : (t : List ℕ) → length (sets-words t) ≡ record-words * length (complement t .states)
-unfolding sets-words
-sets-length t = rows-long (length (complement t .states)) (λ i. state-at (system-of t) (complement t .states) i)
-
 module _
     {limits : Limits} {t : List ℕ} {r : Counts} {before after : Lent} (says : Build-says limits t r before after)
     (accepted : r .number ≡ 0) where
   -- none of 2 to 12 is met
-  pub build-accepted : build-refusal limits t (room-of before) ≡ 0
+  build-accepted : build-refusal limits t (room-of before) ≡ 0
   build-accepted = sym (build-number says) ∙ accepted
 
   pub build-states : r .states ≡ length (complement t .states)
@@ -156,17 +158,26 @@ module _
         | all-fits few states edges words e ↦ record { states = states; edges = edges }
       ]
 
+  -- what is left of the words begins with the complement's table, and of the sets with its quadruples
+  pub words-left : after .words ≡ filled (complement-words t) (before .words)
+  unfolding after-build
+  words-left = rw build-accepted at (says .words)
+
+  pub sets-left : after .sets ≡ filled (sets-words t) (before .sets)
+  unfolding after-build
+  sets-left = rw build-accepted at (says .sets)
+
   -- the used part of the words is the complement's table
   pub build-used : used r (after .words) ≡ complement-words t
-  unfolding used after-build
+  unfolding used
   build-used =
-      rw (says .words, build-accepted)
+      rw words-left
       (filled-take (complement-words t) (before .words) (table-words (r .states) (r .edges))
       (let n = build-states in let m = build-edges in let l = words-length t in cc))
 
   -- and that of the sets its quadruples
   pub build-sets : used-sets r (after .sets) ≡ sets-words t
-  unfolding used-sets after-build
+  unfolding used-sets
   build-sets =
-      rw (says .sets, build-accepted)
+      rw sets-left
       (filled-take (sets-words t) (before .sets) (record-words * r .states) (sets-length t ∙ sym (ap (λ (n : ℕ). record-words * n) build-states)))

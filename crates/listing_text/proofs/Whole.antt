@@ -13,13 +13,12 @@ use Rattle.tables.specs.Table.{Limits, wide-range, m-of, flags-of}
 use Rattle.layout.specs.Chained.{flags-word}
 use Rattle.layout.specs.Orderly.{Orderly}
 use Rattle.layout.proofs.Indexed.{Indexed, indexed-n, indexed-m, indexed-letter, indexed-target, filled-indexed}
-use Rattle.layout.proofs.Words.{chained-length}
 use Rattle.record_words.specs.Record.{record-words, full-records, quadruple-at}
-use Rattle.record_words.proofs.Laws.{rows-long, row-back, words-full, full-kept}
-use Rattle.complement.specs.Build.{Lent, lent, Room, room-of, build-refusal, as-counts, after-build, Build-says}
+use Rattle.record_words.proofs.Laws.{row-back, words-full, full-kept}
+use Rattle.complement.specs.Build.{Lent, lent, Room, room-of, build-refusal, as-counts, Build-says}
 use Rattle.complement.specs.Complement.{system-of, complement, complement-automaton, complement-words, sets-words}
 use Rattle.complement.specs.declared.Counts.{Counts}
-use Rattle.complement.proofs.Second.{complement-orderly, build-accepted, build-states, build-edges, build-passed}
+use Rattle.complement.proofs.Second.{complement-orderly, words-length, sets-length, words-left, sets-left, build-states, build-edges, build-passed}
 use Rattle.decimal.specs.Lines.{Put}
 use Rattle.decimal.specs.Reading.{Scan, ended, numbers-of, read-numbers, bounds-of, reading-of, scan-of, Became, Reads}
 use Rattle.decimal.specs.declared.reading.Reading.{Reading}
@@ -40,39 +39,31 @@ state-back t s i l = row-back (length (complement t .states)) (λ i. state-at (s
 
 module _
     {limits : Limits} {t : List ℕ} {r : Counts} {before after : Lent} (says : Build-says limits t r before after) (accepted : r .number ≡ 0) where
-  words-are : after .words ≡ filled (complement-words t) (before .words)
-  unfolding after-build
-  words-are = rw (build-accepted says accepted) at (says .words)
-
-  sets-are : after .sets ≡ filled (sets-words t) (before .sets)
-  unfolding after-build
-  sets-are = rw (build-accepted says accepted) at (says .sets)
-
   indexed : Indexed (complement-automaton t) (complement t .edges) (after .words)
   unfolding complement-words
-  indexed = rw words-are (filled-indexed (complement-automaton t) (complement t .edges) (before .words))
+  indexed = rw (words-left says accepted) (filled-indexed (complement-automaton t) (complement t .edges) (before .words))
 
   orderly : Orderly (complement-automaton t) (complement t .edges)
   orderly = complement-orderly t (build-passed says accepted)
 
   -- there is a record for each state
   stored : r .states ≤ full-records (after .sets)
-  unfolding sets-words filled
+  unfolding filled
   stored =
       let n = build-states says accepted in
-      let long = rows-long (length (complement t .states)) (λ i. state-at (system-of t) (complement t .states) i) in
-      let e = simp length-append at (ap length sets-are) in
+      let long = sets-length t in
+      let e = simp length-append at (ap length (sets-left says accepted)) in
       words-full (after .sets) (r .states) (rw n (omega arith))
 
   -- the words are all there
   all-words : States-ask (after .words) (r .states)
-  unfolding filled complement-words complement-automaton numbered
+  unfolding filled complement-automaton numbered
   all-words =
       let n = build-states says accepted in
       let k = indexed-n indexed in
       let m = indexed-m indexed in
-      let long = chained-length (complement-automaton t) (complement t .edges) in
-      let e = simp length-append at (ap length words-are) in
+      let long = words-length t in
+      let e = simp length-append at (ap length (words-left says accepted)) in
       record { counted = n ∙ sym k; sized = omega arith }
 
   edges-are : r .edges ≡ m-of (after .words)
@@ -90,7 +81,7 @@ module _
       (i : ℕ) → i < length (complement t .states) →
       built-state (after .words) (after .sets) i ≡ state-line i (state-at (system-of t) (complement t .states) i) (flags-word (complement-automaton t) i)
   unfolding built-state flags-of complement-automaton numbered
-  state-same i l = rw (indexed .flags i l, sets-are, state-back t (before .sets) i l)
+  state-same i l = rw (indexed .flags i l, sets-left says accepted, state-back t (before .sets) i l)
 
   edge-same :
       (i : ℕ) → i < length (complement t .edges) →
