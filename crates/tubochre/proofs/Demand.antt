@@ -27,10 +27,11 @@ use Rattle.complement.proofs.Third.{Parted, parted-words}
 use Rattle.lassos.specs.Decision.{decision, Lasso-says}
 use Rattle.lassos.specs.declared.Decision.{Decision}
 use Rattle.lassos.specs.declared.Decision.the-variants.{Taken, NotTaken, Refused}
+use Rattle.lassos.proofs.Answers.{says-taken, says-not-taken, says-refused, lasso-refused}
 use Rattle.tubochre.specs.Calls.{as-answer, Lasso-answers}
 use Rattle.tubochre.specs.declared.Answer.{Answer}
-use Rattle.tubochre.specs.Demand.{Reached-exactly, Second-demand, Refused-builds, Lasso-demand, Not-refused, Compared, Third-demand, Demands}
-use Rattle.tubochre.proofs.Answers.{says-taken, says-not, says-refused, lasso-demand}
+use Rattle.tubochre.specs.Demand.{Reached-exactly, Second-demand, Refused-builds, Not-refused, Compared, Third-demand, Demands}
+use Rattle.tubochre.proofs.Answers.{not-refused, lasso-demand}
 use Rattle.tubochre.proofs.Refusals.{Met, which-refusal, refused-checked, checked-refused, refused-states, states-refused, refused-words, words-refused, refused-none, none-refused, refused-most}
 
 -- THE COMPLEMENT of a pattern that passes is exactly what is reached
@@ -90,9 +91,9 @@ module _
 
   -- which refuses only by a number other than 0
   accepts : r .number ≡ 0 → Not-refused decided
-  unfolding Not-refused as-answer Lasso-demand
+  unfolding Not-refused as-answer
   accepts zero number refused =
-      let (met, from) = lasso-demand range t u v decided w w-now stands-for .refused number .0 refused in
+      let (met, some) = says-refused stands-for number .0 refused in
       let same : r .number ≡ number = ap (λ (x : Answer). x .number) (answers .answer ∙ ap as-answer refused) in
       omega arith
 
@@ -126,11 +127,11 @@ module _
       (Takes (meaning t) word × (d ≡ Taken) × (e ≡ NotTaken)) ⊎ (Takes (meaning c) word × (d ≡ NotTaken) × (e ≡ Taken))
   decisions (inl (taken, none)) d e w w-now z z-now says other h k =
       inl
-      (taken, says-taken says h taken, says-not other k none)
+      (taken, says-taken says .1 (not-refused says h, taken), says-not-taken other .1 (not-refused other k, none))
   decisions (inr (none, one)) d e w w-now z z-now says other h k =
       let taken : Takes (meaning c) word = record { run = one .run; accepting-run = one .accepting-run } in
       inr
-      (taken, says-not says h none, says-taken other k taken)
+      (taken, says-not-taken says .1 (not-refused says h, none), says-taken other .1 (not-refused other k, taken))
 
   answers :
       Parted (meaning t) (meaning c) word → (d e : Answer) (w w-now z z-now : List ℕ) → Lasso-answers range t u v d w w-now →
@@ -145,8 +146,8 @@ module _
   refusals :
       (d : Decision) (w w-now : List ℕ) (number : ℕ) → Lasso-says range t u v d w w-now ⊎ Lasso-says range c u v d w w-now →
       d ≡ Refused number → (number ≡ 14) ⊎ (number ≡ 16)
-  refusals d w w-now number (inl says) h = says-refused says (checked-wider t passed wider) lasso number h
-  refusals d w w-now number (inr says) h = says-refused says (words-valid t passed range fits) over-complement number h
+  refusals d w w-now number (inl says) h = lasso-refused says (checked-wider t passed wider) lasso number h
+  refusals d w w-now number (inr says) h = lasso-refused says (words-valid t passed range fits) over-complement number h
 
   no-run : Parted (meaning t) (meaning c) word →
       (Takes (meaning t) word × ((run : ℕ → ℕ) → Accepting-run (meaning c) word run → ⊥))
