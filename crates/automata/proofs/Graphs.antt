@@ -1,15 +1,16 @@
 -- Reaching in a finite graph: as many rounds as there are nodes find exactly the nodes that edges lead to. Assumes nothing.
-use mathlib.Core.Path.{_≡_, refl, ap}
+use mathlib.Core.Path.{_≡_, refl, sym, _∙_, ap}
 use mathlib.Core.Bool.{Bool, true, false, _&&_, _||_}
 use mathlib.Core.List.{List, [], _∷_, _++_}
-use mathlib.Core.Logic.{inl, inr}
+use mathlib.Core.Logic.{inl, inr, _↔_}
 use Prim.Native.Nat.{ℕ, zero, suc, _<_}
 use native.Mathlib.Omega.{arith}
 use lib.ListN.{length, getD}
 use Rattle.basics.specs.Bounded.{any}
+use Rattle.basics.specs.Star.{Star}
 use Rattle.basics.proofs.Booleans.{and-l, and-r, and-make, or-l, or-r, or-true}
 use Rattle.basics.proofs.Bounded.{any-find, any-make}
-use Rattle.basics.proofs.Growing.{Still, rounds-keep, still-by}
+use Rattle.basics.proofs.Growing.{grown-star}
 use Rattle.automata.specs.Decision.{tabulate, marked, row, grow, grown-nodes}
 
 pub tabulate-at : {A : Type 0} (k : ℕ) (f : ℕ → A) (i : ℕ) (d : A) → i < k → getD (tabulate k f) i d ≡ f i
@@ -48,64 +49,36 @@ pub tabulate-marked : (k : ℕ) (f : ℕ → Bool) (i : ℕ) → i < k → marke
 unfolding marked
 tabulate-marked k f i l = tabulate-at k f i false l
 
--- the nodes below n that edges lead to from a set
-pub data Reach (n : ℕ) (g : List (List Bool)) (s : List Bool) : ℕ → Type 0 where
-  start : {x : ℕ} → x < n → marked s x ≡ true → Reach n g s x
-  along : {x y : ℕ} → Reach n g s x → y < n → marked (row g x) y ≡ true → Reach n g s y
+-- an edge between nodes below n
+abbrev pub Joined : (n : ℕ) → (g : List (List Bool)) → (x y : ℕ) → Type 0
+Joined n g x y = (x < n) × (y < n) × (marked (row g x) y ≡ true)
 
-pub reach-below : {n : ℕ} {g : List (List Bool)} {s : List Bool} {x : ℕ} → Reach n g s x → x < n
-reach-below (start l e) = l
-reach-below (along r l e) = l
+module _ (n : ℕ) (g : List (List Bool)) (s : List Bool) where
+  -- the set after so many rounds, and whether an edge leads from its node x to y
+  abbrev after : (rounds : ℕ) → List Bool
+  after k = grown-nodes k n g s
 
-module _ (n : ℕ) (g : List (List Bool)) where
+  abbrev hit : (rounds x y : ℕ) → Bool
+  hit k x y = marked (after k) x && marked (row g x) y
+
   -- a node of the grown set was there, or an edge leads to it from the set
-  grow-marked :
-      (s : List Bool) (y : ℕ) → y < n →
-      marked (grow n g s) y ≡ (marked s y || any n (λ x. marked s x && marked (row g x) y))
-  unfolding grow
-  grow-marked s y l = tabulate-marked n (λ y. marked s y || any n (λ x. marked s x && marked (row g x) y)) y l
+  after-marked : (k y : ℕ) → y < n → marked (after (suc k)) y ≡ (marked (after k) y || any n (λ x. hit k x y))
+  unfolding grown-nodes grow
+  after-marked k y l = tabulate-marked n (λ y. marked (after k) y || any n (λ x. hit k x y)) y l
 
-  grow-keeps : (s : List Bool) (y : ℕ) → y < n → marked s y ≡ true → marked (grow n g s) y ≡ true
-  grow-keeps s y l e = rw (grow-marked s y l) (or-l (any n (λ x. marked s x && marked (row g x) y)) e)
-
-  grow-adds :
-      (s : List Bool) (x y : ℕ) → x < n → y < n → marked s x ≡ true → marked (row g x) y ≡ true →
-      marked (grow n g s) y ≡ true
-  grow-adds s x y k l e f =
-      rw (grow-marked s y l)
-      (or-r (marked s y) (any-make n (λ x. marked s x && marked (row g x) y) x k (and-make e f)))
-
-  module _ (s : List Bool) where
-    -- every marked node is reached
-    pub grown-reach : (k y : ℕ) → y < n → marked (grown-nodes k n g s) y ≡ true → Reach n g s y
-    unfolding grown-nodes
-    grown-reach zero y l e = start l e
-    grown-reach (suc k) y l e =
-        let t = grown-nodes k n g s in
-        let hit : ℕ → Bool = λ x. marked t x && marked (row g x) y in
-        elim (or-true (marked t y) (any n hit) (rw (grow-marked t y l) at e)) [
-          | inl h ↦ grown-reach k y l h
-          | inr h ↦
-              let (x, m, f) = any-find n hit h in
-              along (grown-reach k x m (and-l (marked (row g x) y) f)) l (and-r (marked t x) f)
-        ]
-
-    -- a round keeps what is marked, so that after at most n of them one adds nothing
-    abbrev after : (rounds node : ℕ) → Bool
-    after k y = marked (grown-nodes k n g s) y
-
-    kept : (k y : ℕ) → y < n → after k y ≡ true → after (suc k) y ≡ true
-    unfolding grown-nodes
-    kept k y l h = grow-keeps (grown-nodes k n g s) y l h
-
-    -- once a round adds nothing, every reached node is marked
-    still-reach : (k : ℕ) → Still n after kept k → (y : ℕ) → Reach n g s y → after k y ≡ true
-    unfolding grown-nodes
-    still-reach k h y (start l e) = rounds-keep n after kept 0 k y (omega arith) l e
-    still-reach k h y (along {x} r l e) =
-        h .no-more y l (grow-adds (grown-nodes k n g s) x y (reach-below r) l (still-reach k h x r) e)
-
-    pub reach-grown : (y : ℕ) → Reach n g s y → after n y ≡ true
-    reach-grown y r =
-        let (k, l, still) = still-by n after kept in
-        rounds-keep n after kept k n y l (reach-below r) (still-reach k still y r)
+  -- as many rounds as nodes mark exactly the nodes that edges lead to
+  pub grown-right :
+      (y : ℕ) → ((y < n) × (marked (after n) y ≡ true)) ↔ ((x : ℕ) × (x < n) × (marked s x ≡ true) × Star (Joined n g) x y)
+  unfolding grown-nodes
+  grown-right =
+      grown-star n (λ k y. marked (after k) y) (λ k y l e. after-marked k y l ∙ or-l (any n (λ x. hit k x y)) e)
+      (Joined n g) (λ x y (_, l, _). l)
+      (λ k x y m e (_, l, f).
+      after-marked k y l ∙ or-r (marked (after k) y) (any-make n (λ x. hit k x y) x m (and-make e f)))
+      (λ k y l e.
+      elim (or-true (marked (after k) y) (any n (λ x. hit k x y)) (sym (after-marked k y l) ∙ e)) [
+        | inl h ↦ inl h
+        | inr h ↦
+            let (x, m, f) = any-find n (λ x. hit k x y) h in
+            inr (x, m, and-l (marked (row g x) y) f, (m, l, and-r (marked (after k) x) f))
+      ])

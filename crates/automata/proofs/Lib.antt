@@ -7,4 +7,5 @@ pub mod Graphs
 pub mod Members
 pub mod Numbered
 pub mod Positions
+pub mod Product
 pub mod Same

@@ -11,4 +11,5 @@ pub mod Radix
 pub mod Refusing
 pub mod Rows
 pub mod Scans
+pub mod Star
 pub mod Upward

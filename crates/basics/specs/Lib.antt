@@ -2,4 +2,5 @@ pub mod Bounded
 pub mod Buffers
 pub mod Packed
 pub mod Rows
+pub mod Star
 pub mod Words

@@ -6,9 +6,10 @@ use mathlib.Core.Logic.{_⊎_, inl, inr}
 use Prim.Native.Nat.{ℕ, suc, _+_, _*_, _-_, _^_, _≤_, _<_}
 use native.Mathlib.Omega.{arith}
 use lib.ListN.{length, getD, set}
+use Rattle.basics.specs.Star.{onward}
 use Rattle.tables.specs.Access.{State-asks, Record-asks}
 use Rattle.tables.specs.Table.{n-of, m-of, head-of, target-of, next-of}
-use Rattle.lassos.specs.Graph.{Arc, onward, Node-reached}
+use Rattle.lassos.specs.Graph.{Arc, Node-reached}
 use Rattle.lassos.specs.Product.{Chain-to, node-letter, node-base, product-graph}
 use Rattle.lassos.specs.Search.{colour, stacked, cursor, risen, entered, advanced, Place, Search}
 use Rattle.lassos.specs.Steps.{Raise-asks, Node-asks, Chain-asks, Next-white, White-at, no-white, white-at, Enter-asks, Top-asks, Descended, deeper, all-visited}

@@ -6,8 +6,9 @@ use mathlib.Core.List.{List}
 use Prim.Native.Nat.{ℕ, suc, _+_, _*_, _-_, _%_, _^_, _≤_, _<_}
 use native.Mathlib.Omega.{arith}
 use lib.ListN.{length, getD}
+use Rattle.basics.specs.Star.{stay}
 use Rattle.tables.specs.Table.{head-of}
-use Rattle.lassos.specs.Graph.{Arc, stay}
+use Rattle.lassos.specs.Graph.{Arc}
 use Rattle.lassos.specs.Product.{node-letter, node-base, product-graph}
 use Rattle.lassos.specs.Search.{colour, waiting, blacks, Inner-says, Spread-over, None, Spread-says, Waiting, Since, Drained, met, none, spread}
 use Rattle.lassos.specs.Steps.{Spread-asks, Given, Spread-node-asks, Drain-asks, Meets-asks}

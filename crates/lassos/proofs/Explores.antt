@@ -11,12 +11,13 @@ use native.Mathlib.Numerals.{add-one}
 use lib.Arith.{digits-lt}
 use lib.Dec.{ltb}
 use lib.ListN.{length, getD}
+use Rattle.basics.specs.Star.{stay}
 use Rattle.basics.proofs.Booleans.{clash, and-l, and-r, and-make, eqb-eq, eq-eqb, ltb-lt, lt-ltb, gt-leb, le-leb, same-or}
 use Rattle.automata.specs.Lasso.{positions}
 use Rattle.automata.proofs.Positions.{next-below}
 use Rattle.tables.specs.Access.{State-asks}
 use Rattle.tables.specs.Table.{n-of, head-of, flags-of, is-initial, is-accepting}
-use Rattle.lassos.specs.Graph.{Graph, Arc, Bounded, stay}
+use Rattle.lassos.specs.Graph.{Graph, Arc, Bounded}
 use Rattle.lassos.specs.Product.{product-graph}
 use Rattle.lassos.specs.Search.{colour, stacked, whites, risen, entered, Search, Grows, Inner-says, met, none}
 use Rattle.lassos.specs.Steps.{Raise-asks, Given, Meets-asks, Top-asks, Descended, deeper, all-visited, Finished, closes, turns-black, turns-red, Enter-asks, Search-asks, Explored, found, exhausted, Try-asks, Try-says, tried, Searched, nothing}

@@ -7,9 +7,10 @@ use mathlib.Core.Logic.{_⊎_, inl, inr}
 use Prim.Native.Nat.{ℕ, suc, _+_, _*_, _≤_, _<_}
 use native.Mathlib.Omega.{arith}
 use lib.ListN.{length}
+use Rattle.basics.specs.Star.{stay, onward}
 use Rattle.basics.proofs.Booleans.{same-or, below-or}
 use Rattle.basics.proofs.Bounded.{one-entry-more}
-use Rattle.lassos.specs.Graph.{Graph, Arc, Bounded, Way, stay, onward}
+use Rattle.lassos.specs.Graph.{Graph, Arc, Bounded, Way}
 use Rattle.lassos.specs.Search.{colour, waiting, blacks, Redder, Red-closed, Inner-asks, Inner-says, Spread-over, None, Waiting, Since, Drained, met, none}
 use Rattle.lassos.specs.Width.{Width, white, grey, black, red}
 use Rattle.lassos.proofs.Colours.{coloured-le, coloured-less, redder-same, redder-redder, stays-red, was-grey, was-white, was-black, was-finished, stays-visited, red-or-new}

@@ -7,27 +7,23 @@ use mathlib.Core.Logic.{_⊎_, inl, inr}
 use Prim.Native.Nat.{ℕ, suc, _≤_, _<_}
 use native.Mathlib.Omega.{arith}
 use lib.ListN.{length}
+use Rattle.basics.specs.Star.{stay, onward}
 use Rattle.basics.proofs.Booleans.{clash, same-or}
 use Rattle.basics.proofs.Bounded.{one-entry-more}
+use Rattle.basics.proofs.Star.{star-keeps, star-star}
 use Rattle.basics.proofs.Upward.{upward}
-use Rattle.lassos.specs.Graph.{Graph, Arc, Bounded, Way, stay, onward, Node-reached, Cycle, Found}
+use Rattle.lassos.specs.Graph.{Graph, Arc, Bounded, Way, Node-reached, Cycle, Found}
 use Rattle.lassos.specs.Search.{colour, stacked, cursor, whites, Place, Stack, Red-closed, Search, Grows, Redder}
 use Rattle.lassos.specs.Width.{Width, white, grey, black, red}
 use Rattle.lassos.proofs.Colours.{coloured-less, grows-grows, grows-whites, stays-visited, stays-grey, was-grey, was-visited, was-finished}
 use Rattle.lassos.proofs.Stores.{Recolours, Enters, Advances}
 
--- WAYS
-pub way-way : {g : Graph} {x y z : ℕ} → Way g x y → Way g y z → Way g x z
-way-way p stay = p
-way-way p (onward z q e) = onward z (way-way p q) e
-
 -- what every edge hands on, every way does
 way-keeps :
     {g : Graph} → Bounded g → (P : ℕ → Type 0) → ((x y : ℕ) → x < g .size → P x → Arc g x y → P y) → {x y : ℕ} → x < g .size → P x →
     Way g x y → (y < g .size) × P y
-way-keeps closed P f l k stay = (l, k)
-way-keeps closed P f l k (onward {y} z p t) =
-    let q = way-keeps closed P f l k p in (closed .edge y z (q .0) t, f y z (q .0) (q .1) t)
+way-keeps {g} closed P f l k p =
+    star-keeps (λ y. (y < g .size) × P y) (λ y z t (m, h). (closed .edge y z m t, f y z m h t)) (l, k) p
 
 -- one node less on the stack
 pub record Left-off (wd : Width) (g : Graph) (w w′ : List ℕ) (d : ℕ) : Type 0 where
@@ -349,7 +345,7 @@ module _ {wd : Width} {g : Graph} (closed : Bounded g) where
         node = stacked (g .size) w d;
         reached = h .reached (stacked (g .size) w d) (h .stack .places d (omega arith) .inside) (let j = h .greys d (omega arith) in omega arith);
         accepts = a;
-        cycle = record { behind = z; leaves = t; returns = way-way p back };
+        cycle = record { behind = z; leaves = t; returns = star-star p back };
       }
 
   -- THE END: the stack is empty, so that every visited node is finished

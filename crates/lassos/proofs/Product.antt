@@ -10,6 +10,7 @@ use native.Mathlib.Nat.{mod-lt, mod-eq-of-lt, div-eq-of-lt, zero-add, zero-mul}
 use lib.Arith.{digits-lt, digits-div, digits-mod}
 use lib.Dec.{ltb, eqb}
 use lib.ListN.{length}
+use Rattle.basics.specs.Star.{Star}
 use Rattle.basics.proofs.Booleans.{and-l, and-r, and-make, or-l, or-r, eqb-self, eq-eqb, ltb-lt, lt-ltb, clash}
 use Rattle.automata.specs.Lasso.{positions, position-letter, next-position, Walk, Accepting-cycle}
 use Rattle.automata.proofs.Positions.{next-below}
@@ -113,18 +114,18 @@ module _ {l : Limits} {t : List ℕ} (valid : Valid l t) (u v : List ℕ) (o : 1
   -- WAYS are walks
   way-walk :
       {x y : ℕ} → Way (product-graph t u v) x y → Walk (meaning t) u v (x / n-of t) (x % n-of t) (y / n-of t) (y % n-of t)
-  way-walk Way.stay = Walk.stay
-  way-walk (Way.onward {y} z p h) =
+  way-walk Star.stay = Walk.stay
+  way-walk (Star.onward {y} z p h) =
       let e = leads-edge y z h in rw (e .0) (Walk.onward (z % n-of t) (way-walk p) (e .1))
 
   walk-way :
       {i p j q : ℕ} → p < n-of t → Walk (meaning t) u v i p j q →
       (q < n-of t) × Way (product-graph t u v) (i * n-of t + p) (j * n-of t + q)
-  walk-way b Walk.stay = (b, Way.stay)
+  walk-way b Walk.stay = (b, Star.stay)
   walk-way b (Walk.onward {j} {q} r w h) =
       let e = edge-leads j q r h in
       let s = walk-way b w in
-      (e .0, Way.onward (next-position u v j * n-of t + r) (s .1) (e .1))
+      (e .0, Star.onward (next-position u v j * n-of t + r) (s .1) (e .1))
 
   -- an accepting node on a cycle is an accepting cycle of the automaton
   pub found-cycle : Found (product-graph t u v) → Accepting-cycle (meaning t) u v

@@ -3,6 +3,7 @@
 use mathlib.Core.Path.{_≡_}
 use mathlib.Core.Bool.{Bool, true}
 use Prim.Native.Nat.{ℕ, _<_}
+use Rattle.basics.specs.Star.{Star}
 
 -- nodes are the numbers below size; the edges of a node hang on a chain of records, which begins at its first
 pub record Graph : Type 1 where
@@ -25,9 +26,8 @@ pub record Bounded (g : Graph) : Type 0 where
   pub start : (x : ℕ) → g .starts x ≡ true → x < g .size
 
 -- no edge, or several one behind the other
-pub data Way (g : Graph) (x : ℕ) : (y : ℕ) → Type 0 where
-  stay : Way g x x
-  onward : {y : ℕ} (z : ℕ) → Way g x y → Arc g y z → Way g x z
+abbrev pub Way : (g : Graph) → (x y : ℕ) → Type 0
+Way g x y = Star (Arc g) x y
 
 pub record Node-reached (g : Graph) (x : ℕ) : Type 0 where
   pub start : ℕ

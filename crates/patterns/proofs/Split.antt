@@ -81,6 +81,7 @@ module _ (a : Automaton) (closed : Closed a) where
             (and-r (has (accepting-states a) q) e, has-accepting a q (and-l (has (inner-of a) q) e) .1);
         met =
             λ w run path i h.
-            let f = accepting-has a (run i) (path .inside i) h in
-            has-and (accepting-states a) (inner-of a) (run i) ∙ and-make f (inner-accepting a (run i) f);
+            let l = path .inside i in
+            has-and (accepting-states a) (inner-of a) (run i)
+            ∙ and-make (accepting-has a (run i) l h) (inner-accepting a closed (run i) l h);
       }

@@ -2,12 +2,16 @@
 use mathlib.Core.Path.{_≡_}
 use mathlib.Core.Bool.{true}
 use Prim.Native.Nat.{ℕ, _<_}
+use Rattle.basics.specs.Star.{Star}
 use Rattle.automata.specs.Automaton.{Automaton}
 
--- edges lead from the first state to the second: none, or one more
-pub data Reaches (a : Automaton) (p : ℕ) : ℕ → Type 0 where
-  none : Reaches a p p
-  more : {q r : ℕ} (c : ℕ) → Reaches a p q → a .edge q c r ≡ true → Reaches a p r
+-- an edge on some letter leads from the first state to the second
+abbrev pub Leads : (a : Automaton) → (p q : ℕ) → Type 0
+Leads a p q = (c : ℕ) × (a .edge p c q ≡ true)
+
+-- edges lead from the first state to the second: none, or several one behind the other
+abbrev pub Reaches : (a : Automaton) → (p q : ℕ) → Type 0
+Reaches a p q = Star (Leads a) p q
 
 -- some accepting state is this one or reaches it
 pub record From-accepting (a : Automaton) (q : ℕ) : Type 0 where
