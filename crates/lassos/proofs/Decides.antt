@@ -14,8 +14,7 @@ use Rattle.basics.proofs.Clears.{zeros-length, front-cleared}
 use Rattle.basics.proofs.Packed.{packed-zero}
 use Rattle.automata.specs.Decision.{takes?}
 use Rattle.automata.specs.Lasso.{positions}
-use Rattle.automata.proofs.Cycles.{takes-cycle, cycle-takes}
-use Rattle.automata.proofs.Decision.{takes-right}
+use Rattle.automata.proofs.Decision.{takes-found}
 use Rattle.tables.specs.Table.{Limits, n-of, meaning}
 use Rattle.tables.proofs.Laws.{Valid, valid, meaning-closed}
 use Rattle.lassos.specs.Decision.{as-decision, decision, Takes-asks}
@@ -29,7 +28,7 @@ use Rattle.lassos.specs.declared.Decision.the-variants.{Taken, NotTaken,
 use Rattle.lassos.proofs.Colours.{coloured-le}
 use Rattle.lassos.proofs.Given.{size-is}
 use Rattle.lassos.proofs.Parts.{Accepted, accepted}
-use Rattle.lassos.proofs.Product.{found-cycle, cycle-found}
+use Rattle.lassos.proofs.Product.{found-cycle}
 use Rattle.lassos.proofs.Width.{colour-word}
 
 -- THE BEGINNING: all nodes are white, and the stack is empty
@@ -132,13 +131,11 @@ module _ {wd : Width} (fits : Width-fits wd) {t u v w : List ℕ} (a : Takes-ask
   takes-end (found f) =
       let o = not-refused .lasso .endless in
       let closed = meaning-closed sound in
-      sym (takes-right (meaning t) u v closed o .1 (cycle-takes closed o (found-cycle sound u v o f)))
+      sym (takes-found (meaning t) u v closed o .1 (found-cycle sound u v o .0 f))
   takes-end (nothing n) =
       let o = not-refused .lasso .endless in
       let closed = meaning-closed sound in
-      sym
-      (not-both (takes? (meaning t) u v)
-      (λ e. n (cycle-found sound u v o (takes-cycle o (takes-right (meaning t) u v closed o .0 e)))))
+      sym (not-both (takes? (meaning t) u v) (λ e. n (found-cycle sound u v o .1 (takes-found (meaning t) u v closed o .0 e))))
 
 -- THE ANSWERS by number
 pub as-refused : (r : ℕ) (b : Bool) → (r ≡ 0 → ⊥) → Refused r ≡ as-decision r b

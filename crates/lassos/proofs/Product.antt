@@ -3,20 +3,20 @@
 use mathlib.Core.Path.{_≡_, refl, sym, _∙_, ap}
 use mathlib.Core.Bool.{true, _&&_}
 use mathlib.Core.List.{List}
-use mathlib.Core.Logic.{_⊎_, inl, inr}
+use mathlib.Core.Logic.{_⊎_, inl, inr, _↔_}
 use Prim.Native.Nat.{ℕ, zero, suc, _+_, _*_, _/_, _%_, _≤_, _<_}
 use native.Mathlib.Omega.{arith}
-use native.Mathlib.Nat.{mod-lt, mod-eq-of-lt, div-eq-of-lt, zero-add, zero-mul}
+use native.Mathlib.Nat.{mod-lt, div-lt-iff-lt-mul, zero-add, zero-mul}
 use lib.Arith.{digits-lt, digits-div, digits-mod}
 use lib.Dec.{ltb, eqb}
 use lib.ListN.{length}
-use Rattle.basics.specs.Star.{Star}
 use Rattle.basics.proofs.Booleans.{and-l, and-r, and-make, or-l, or-r, eqb-self, eq-eqb, ltb-lt, lt-ltb, clash}
-use Rattle.automata.specs.Lasso.{positions, position-letter, next-position, Walk, Accepting-cycle}
+use Rattle.automata.specs.Lasso.{positions, position-letter, next-position, Accepting-cycle}
 use Rattle.automata.proofs.Positions.{next-below}
+use Rattle.automata.proofs.Product.{Accepting-node, product-cycle}
 use Rattle.tables.specs.Table.{Limits, n-of, m-of, head-of, letter-of, target-of, next-of, is-initial, chain-has, edge, meaning}
-use Rattle.tables.proofs.Laws.{Valid, chain-step, chain-cases}
-use Rattle.lassos.specs.Graph.{Arc, Bounded, Way, Found}
+use Rattle.tables.proofs.Laws.{Valid, chain-step, chain-cases, meaning-closed}
+use Rattle.lassos.specs.Graph.{Arc, Bounded, Found}
 use Rattle.lassos.specs.Product.{Chain-to, here, later, node-letter, node-base, product-graph}
 
 -- CHAINS
@@ -80,26 +80,22 @@ module _ {l : Limits} {t : List ℕ} (valid : Valid l t) (u v : List ℕ) (o : 1
       let position : y / n-of t ≡ b = ap (λ (z : ℕ). z / n-of t) (sym at) ∙ digits-div b (w .1) in
       (position, rw state (and-make (and-make (lt-ltb small) (lt-ltb (w .1))) (w .3)))
 
+  -- and back
   edge-leads :
-      (i p q : ℕ) → meaning t .edge p (position-letter u v i) q ≡ true →
-      (q < n-of t) × Arc (product-graph t u v) (i * n-of t + p) (next-position u v i * n-of t + q)
+      (i p q : ℕ) → i < positions u v → meaning t .edge p (position-letter u v i) q ≡ true →
+      Arc (product-graph t u v) (i * n-of t + p) (next-position u v i * n-of t + q)
   unfolding product-graph node-letter node-base meaning edge
-  edge-leads i p q h =
+  edge-leads i p q _ h =
       let ends = and-l (chain-has (m-of t) t (head-of t p) (position-letter u v i) q) h in
-      let lp = ltb-lt p (n-of t) (and-l (ltb q (n-of t)) ends) in
-      let lq = ltb-lt q (n-of t) (and-r (ltb p (n-of t)) ends) in (
-        lq,
-        rw (digits-div i lp, digits-mod i lp)
-            (edge-chain (m-of t) t (head-of t p) (position-letter u v i) (next-position u v i * n-of t) q (and-r (ltb p (n-of t) && ltb q (n-of t)) h)),
-      )
+      let l = ltb-lt p (n-of t) (and-l (ltb q (n-of t)) ends) in
+      rw (digits-div i l, digits-mod i l)
+      (edge-chain (m-of t) t (head-of t p) (position-letter u v i) (next-position u v i * n-of t) q (and-r (ltb p (n-of t) && ltb q (n-of t)) h))
 
   -- every edge and every start stays inside
   edge-inside : (x y : ℕ) → Arc (product-graph t u v) x y → y < product-graph t u v .size
-  unfolding product-graph node-base
+  unfolding product-graph
   edge-inside x y h =
-      let small : x % n-of t < n-of t = mod-lt x (valid .states-from) in
-      let w = chain-edge valid h (valid .head (x % n-of t) small) in
-      let at = w .2 in rw (← at) (digits-lt (next-below u v o (x / n-of t)) (w .1))
+      div-lt-iff-lt-mul (valid .states-from) .0 (rw (leads-edge x y h .0) (next-below u v o (x / n-of t)))
 
   start-inside : (x : ℕ) → product-graph t u v .starts x ≡ true → x < product-graph t u v .size
   unfolding product-graph positions
@@ -111,55 +107,33 @@ module _ {l : Limits} {t : List ℕ} (valid : Valid l t) (u v : List ℕ) (o : 1
   pub product-bounded : Bounded (product-graph t u v)
   product-bounded = record { edge = λ x y b h. edge-inside x y h; start = start-inside }
 
-  -- WAYS are walks
-  way-walk :
-      {x y : ℕ} → Way (product-graph t u v) x y → Walk (meaning t) u v (x / n-of t) (x % n-of t) (y / n-of t) (y % n-of t)
-  way-walk Star.stay = Walk.stay
-  way-walk (Star.onward {y} z p h) =
-      let e = leads-edge y z h in rw (e .0) (Walk.onward (z % n-of t) (way-walk p) (e .1))
-
-  walk-way :
-      {i p j q : ℕ} → p < n-of t → Walk (meaning t) u v i p j q →
-      (q < n-of t) × Way (product-graph t u v) (i * n-of t + p) (j * n-of t + q)
-  walk-way b Walk.stay = (b, Star.stay)
-  walk-way b (Walk.onward {j} {q} r w h) =
-      let e = edge-leads j q r h in
-      let s = walk-way b w in
-      (e .0, Star.onward (next-position u v j * n-of t + r) (s .1) (e .1))
-
-  -- an accepting node on a cycle is an accepting cycle of the automaton
-  pub found-cycle : Found (product-graph t u v) → Accepting-cycle (meaning t) u v
+  -- an accepting node that is reached and lies on a cycle, in the words of the graph and of the automaton
+  found-node : Found (product-graph t u v) ↔ Accepting-node (meaning t) (Arc (product-graph t u v))
   unfolding product-graph meaning
-  found-cycle f =
-      let s = f .reached .start in
-      let x = f .node in
-      let b = ltb-lt s (n-of t) (and-l (is-initial t s) (f .reached .begins)) in
-      let p = way-walk (f .reached .way) in
-      let e = leads-edge x (f .cycle .behind) (f .cycle .leaves) in
-      let q = way-walk (f .cycle .returns) in
-      record {
-        start = s;
-        position = x / n-of t;
-        state = x % n-of t;
-        behind = f .cycle .behind % n-of t;
-        begins = f .reached .begins;
-        reached = rw (div-eq-of-lt b, mod-eq-of-lt b) at p;
-        accepts = and-make (lt-ltb (mod-lt x (valid .states-from))) (f .accepts);
-        leaves = e .1;
-        returns = rw (e .0) at q;
-      }
+  found-node = (
+    (λ f.
+        record {
+          start = f .reached .start;
+          node = f .node;
+          behind = f .cycle .behind;
+          begins = f .reached .begins;
+          reached = f .reached .way;
+          accepts = and-make (lt-ltb (mod-lt (f .node) (valid .states-from))) (f .accepts);
+          leaves = f .cycle .leaves;
+          returns = f .cycle .returns;
+        }),
+    (λ f.
+        record {
+          node = f .node;
+          reached = record { start = f .start; begins = f .begins; way = f .reached };
+          accepts = and-r (ltb (f .node % n-of t) (n-of t)) (f .accepts);
+          cycle = record { behind = f .behind; leaves = f .leaves; returns = f .returns };
+        }),
+  )
 
-  -- and back
-  pub cycle-found : Accepting-cycle (meaning t) u v → Found (product-graph t u v)
-  unfolding product-graph meaning
-  cycle-found c =
-      let b = ltb-lt (c .start) (n-of t) (and-l (is-initial t (c .start)) (c .begins)) in
-      let p = walk-way b (c .reached) in
-      let e = edge-leads (c .position) (c .state) (c .behind) (c .leaves) in
-      let q = walk-way (e .0) (c .returns) in
-      record {
-        node = c .position * n-of t + c .state;
-        reached = record { start = c .start; begins = c .begins; way = rw (zero-mul, zero-add) at (p .1) };
-        accepts = rw (digits-mod (c .position) (p .0)) (and-r (ltb (c .state) (n-of t)) (c .accepts));
-        cycle = record { behind = next-position u v (c .position) * n-of t + c .behind; leaves = e .1; returns = q .1 };
-      }
+  -- there is one exactly if the automaton has an accepting cycle
+  pub found-cycle : Found (product-graph t u v) ↔ Accepting-cycle (meaning t) u v
+  unfolding meaning
+  found-cycle =
+      let (out, back) = product-cycle (meaning-closed valid) u v o (Arc (product-graph t u v)) leads-edge edge-leads in
+      ((λ f. out (found-node .0 f)), (λ c. found-node .1 (back c)))
