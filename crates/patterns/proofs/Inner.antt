@@ -65,16 +65,15 @@ module _ (a : Automaton) where
       let e : (ltb q (a .states) && a .accepting q) ≡ true = sym (has-set-of (a .states) (a .accepting) q) ∙ h in
       (ltb-lt q (a .states) (and-l (a .accepting q) e), and-r (ltb q (a .states)) e)
 
-  -- states of Q2 are states
-  inner-inside : (q : ℕ) → has (inner-of a) q ≡ true → q < a .states
-  unfolding inner-of
-  inner-inside q h = has-lt (a .states) (inner-of a) q (reached-lt (a .states) (accepting-states a) accepting-lt) h
+  -- so many rounds from the accepting states
+  abbrev after : (rounds : ℕ) → ℕ
+  after r = reached-in a r (accepting-states a)
+
+  -- they find states
+  after-inside : (r q : ℕ) → has (after r) q ≡ true → q < a .states
+  after-inside r q h = has-lt (a .states) (after r) q (reached-lt r (accepting-states a) accepting-lt) h
 
   module _ (closed : Closed a) where
-    -- so many rounds from the accepting states
-    abbrev after : (rounds : ℕ) → ℕ
-    after r = reached-in a r (accepting-states a)
-
     -- as many rounds as states find exactly what the accepting states reach
     inner-star :
         (q : ℕ) →
@@ -96,9 +95,10 @@ module _ (a : Automaton) where
 
     -- Q2 is the set of accepting states and all states that they reach
     pub inner-right : (q : ℕ) → (has (inner-of a) q ≡ true) ↔ From-accepting a q
+    unfolding inner-of
     inner-right q = (
       (λ h.
-          let (p, l, e, way) = inner-star q .0 (inner-inside q h, h) in
+          let (p, l, e, way) = inner-star q .0 (after-inside (a .states) q h, h) in
           record { source = p; inside = l; accepting = has-accepting p e .1; reaches = way }),
       (λ f. inner-star q .1 (f .source, f .inside, accepting-has (f .source) (f .inside) (f .accepting), f .reaches) .1),
     )
