@@ -13,39 +13,57 @@ use Rattle.basics.proofs.Bounded.{pigeonhole}
 use Rattle.basics.proofs.Radix.{digits-same}
 use Rattle.basics.proofs.Upward.{upward}
 use Rattle.automata.specs.Automaton.{Automaton, Run, Takes, Closed}
-use Rattle.automata.specs.Lasso.{letter-at, position-at, position-letter, next-position, positions, Walk, stay, onward, Accepting-cycle}
+use Rattle.automata.specs.Lasso.{letter-at, position-at, position-letter, next-position, Walk, stay, onward, Accepting-cycle}
+use Rattle.automata.specs.Decision.{nodes}
 use Rattle.automata.proofs.Positions.{position-zero, position-next, position-below, letter-position}
 
--- FROM A RUN TO A CYCLE: the number of a node gives its position and its state
+-- FROM A RUN TO A CYCLE
+module _ (a : Automaton) (u v : List ℕ) (o : 1 ≤ length v) where
+  -- among more places with a state than there are nodes, two have the same node: its number gives the position and the state
+  pub node-twice :
+      (place state : ℕ → ℕ) → ((k : ℕ) → k ≤ nodes a u v → state k < a .states) →
+      (i : ℕ) × (j : ℕ) × (i < j) × (j ≤ nodes a u v) × (position-at u v (place i) ≡ position-at u v (place j)) × (state i ≡ state j)
+  unfolding nodes
+  node-twice place state inside =
+      let (i, j, l, m, e) =
+      pigeonhole (nodes a u v) (λ k. position-at u v (place k) * a .states + state k)
+      (λ k l. digits-lt (position-below u v o (place k)) (inside k l)) in
+      let (p, q) = digits-same (position-at u v (place i)) (position-at u v (place j)) (inside i (omega arith)) (inside j m) e in
+      (i, j, l, m, p, q)
+
+  -- states at the places from the first to the last, with an edge from each to the next
+  module _ (run : ℕ → ℕ) (first last : ℕ)
+      (goes-on : (k : ℕ) → first ≤ k → k < last → a .edge (run k) (letter-at u v k) (run (suc k)) ≡ true) where
+    -- the edge from a place to the next, by position
+    edge-at : (k : ℕ) → first ≤ k → k < last → a .edge (run k) (position-letter u v (position-at u v k)) (run (suc k)) ≡ true
+    edge-at k l m = rw (letter-position u v o k) at (goes-on k l m)
+
+    -- they walk through the product
+    walk-along :
+        (i j : ℕ) → first ≤ i → i ≤ j → j ≤ last → Walk a u v (position-at u v i) (run i) (position-at u v j) (run j)
+    walk-along i j k l =
+        upward (λ j. j ≤ last → Walk a u v (position-at u v i) (run i) (position-at u v j) (run j)) i (λ _. stay)
+        (λ j m h b. rw (position-next u v j) (onward (run (suc j)) (h (omega arith)) (edge-at j (omega arith) b))) j l
+
+    -- the same accepting node at the first and the last place makes the cycle
+    pub cycle-between :
+        (start : ℕ) → a .initial start ≡ true → Walk a u v 0 start (position-at u v first) (run first) → first < last →
+        position-at u v first ≡ position-at u v last → run first ≡ run last → a .accepting (run first) ≡ true →
+        Accepting-cycle a u v
+    cycle-between start begins walk l p q e =
+        record {
+          start = start;
+          position = position-at u v first;
+          state = run first;
+          behind = run (suc first);
+          begins = begins;
+          reached = walk;
+          accepts = e;
+          leaves = edge-at first (omega arith) l;
+          returns = rw (← position-next u v first, p, q) (walk-along (suc first) last (omega arith) l (omega arith));
+        }
+
 module _ (a : Automaton) (u v : List ℕ) (o : 1 ≤ length v) (run : ℕ → ℕ) (is-run : Run a (letter-at u v) run) where
-  -- the edge from a place to the next, by position
-  edge-at : (i : ℕ) → a .edge (run i) (position-letter u v (position-at u v i)) (run (suc i)) ≡ true
-  edge-at i = rw (letter-position u v o i) at (is-run .goes-on i)
-
-  -- a run walks through the product
-  walk-along :
-      (i j : ℕ) → i ≤ j → Walk a u v (position-at u v i) (run i) (position-at u v j) (run j)
-  walk-along i j l =
-      upward (λ j. Walk a u v (position-at u v i) (run i) (position-at u v j) (run j)) i stay
-      (λ j _ h. rw (position-next u v j) (onward (run (suc j)) h (edge-at j))) j l
-
-  -- two places with the same accepting node make the cycle
-  cycle-between :
-      (i j : ℕ) → i < j → position-at u v i ≡ position-at u v j → run i ≡ run j → a .accepting (run i) ≡ true →
-      Accepting-cycle a u v
-  cycle-between i j l p q e =
-      record {
-        start = run 0;
-        position = position-at u v i;
-        state = run i;
-        behind = run (suc i);
-        begins = is-run .begins;
-        reached = rw (position-zero u v) at (walk-along 0 i (omega arith));
-        accepts = e;
-        leaves = edge-at i;
-        returns = rw (← position-next u v i, p, q) (walk-along (suc i) j l);
-      }
-
   -- the accepting places, one behind the other
   module _ (often : (i : ℕ) → (j : ℕ) × (i ≤ j) × (a .accepting (run j) ≡ true)) where
     place : ℕ → ℕ
@@ -67,21 +85,13 @@ module _ (a : Automaton) (u v : List ℕ) (o : 1 ≤ length v) (run : ℕ → �
           | inr ne ↦ let r = place-rises i j (omega arith) in omega arith
         ]
 
-    -- among more accepting places than there are nodes, two have the same node
+    -- two of them have the same node
     run-cycle : Accepting-cycle a u v
-    run-cycle = go (pigeonhole (positions u v * a .states) node (λ k l. below k))
-      where
-        node : ℕ → ℕ
-        node k = position-at u v (place k) * a .states + run (place k)
-
-        below : (k : ℕ) → node k < positions u v * a .states
-        below k = digits-lt (position-below u v o (place k)) (is-run .inside (place k))
-
-        go : (i : ℕ) × (j : ℕ) × (i < j) × (j ≤ positions u v * a .states) × (node i ≡ node j) → Accepting-cycle a u v
-        go (i, j, l, m, e) =
-            let (x, y) : ℕ × ℕ = (place i, place j) in
-            let (p, q) = digits-same (position-at u v x) (position-at u v y) (is-run .inside x) (is-run .inside y) e in
-            cycle-between x y (place-rises i j l) p q (place-accepts i)
+    run-cycle =
+        let (i, j, l, _, p, q) = node-twice a u v o place (λ k. run (place k)) (λ k _. is-run .inside (place k)) in
+        let to = walk-along a u v o run 0 (place i) (λ k _ _. is-run .goes-on k) 0 (place i) (omega arith) (omega arith) (omega arith) in
+        cycle-between a u v o run (place i) (place j) (λ k _ _. is-run .goes-on k) (run 0) (is-run .begins)
+        (rw (position-zero u v) at to) (place-rises i j l) p q (place-accepts i)
 
 -- an automaton that takes a lasso has an accepting cycle over it.
 -- The states of a run are states, so this does not need that the automaton is closed.

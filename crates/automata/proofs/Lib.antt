@@ -8,4 +8,6 @@ pub mod Members
 pub mod Numbered
 pub mod Positions
 pub mod Product
+pub mod Recurring
 pub mod Same
+pub mod Traces

@@ -12,7 +12,6 @@ pub mod Rational
 pub mod Reached
 pub mod Successors
 pub mod Targets
-pub mod Traces
 pub mod Tracked
 pub mod Unique
 pub mod Widening

@@ -12,13 +12,13 @@ use Rattle.basics.specs.Bounded.{each, any}
 use Rattle.basics.proofs.Booleans.{either, clash, and-l, and-r, and-make, or-l, or-r, or-true, not-false, true-not, not-both, eqb-eq, eqb-ne, eq-eqb, ne-eqb, below-or}
 use Rattle.basics.proofs.Bounded.{each-all, each-make, any-find, any-make, search-to}
 use Rattle.automata.specs.Automaton.{Automaton, Closed}
+use Rattle.automata.proofs.Traces.{reached, next, trace, reached-back, reached-on, reached-inside, next-edge, next-found, trace-add, trace-before}
 use Rattle.sets.specs.Sets.{has, set-of}
 use Rattle.sets.proofs.Members.{set-of-lt, has-lt, empty, set-of-back, set-of-make}
 use Rattle.ncsb.specs.Moves.{Moves, Spread, Split}
 use Rattle.ncsb.specs.Step.{Small, Leads, Start, Step, Accepting-ncsb-run}
 use Rattle.ncsb.specs.declared.Quadruple.{Quadruple}
 use Rattle.ncsb.proofs.Fine.{step-tracked}
-use Rattle.ncsb.proofs.Traces.{reached, next, trace, reached-back, reached-on, reached-inside, next-edge, next-found, trace-add, trace-inside}
 
 -- no mark stands on the path of the state within the bound
 safe : Automaton → Moves → (word : ℕ → ℕ) → (bound place state : ℕ) → Bool
@@ -282,7 +282,7 @@ module _ {a : Automaton} {d : Moves} (spread : Spread a d) (split : Split a d) (
       go (suc k, e) = (
         next a (w i) p,
         next-edge closed w (w i) p
-            (trace-inside closed w (suc i) (next a (w i) p) k (mark-inside (trace a w (suc i) (next a (w i) p) k) e)),
+            (trace-before closed w (suc i) (next a (w i) p) 0 k (omega arith) (mark-inside (trace a w (suc i) (next a (w i) p) k) e)),
       )
 
   rational-start : Start a d (rational a d w n 0)

@@ -1,14 +1,16 @@
 -- The paths of an automaton over a word: the states reached at each place, and the path that takes the first target at each letter.
--- In Q2, where there is at most one target, it is the only path. A path that has ended stands on no state. Assumes nothing.
+-- Where each state has at most one target, it is the only path. A path that has ended stands on no state. Assumes nothing.
 use mathlib.Core.Path.{_≡_}
 use mathlib.Core.Bool.{Bool, true, _&&_}
-use Prim.Native.Nat.{ℕ, zero, suc, _+_, _<_}
+use mathlib.Core.Logic.{inl, inr}
+use Prim.Native.Nat.{ℕ, zero, suc, _+_, _≤_, _<_}
+use native.Mathlib.Omega.{arith}
 use native.Mathlib.Nat.{zero-add, add-zero, suc-add, add-suc}
 use Rattle.basics.specs.Bounded.{any}
-use Rattle.basics.proofs.Booleans.{and-l, and-r, and-make}
+use Rattle.basics.proofs.Booleans.{and-l, and-r, and-make, same-or}
 use Rattle.basics.proofs.Bounded.{any-find, any-make}
 use Rattle.basics.proofs.Least.{first, first-holds, first-below}
 use Rattle.automata.specs.Automaton.{Automaton, Closed}
 
 -- some path from an initial state is in the state at the place
 unfoldable pub reached : Automaton → (word : ℕ → ℕ) → (place state : ℕ) → Bool
@@ -57,12 +59,23 @@ module _ {a : Automaton} (closed : Closed a) (w : ℕ → ℕ) where
   trace-add i q zero k = rw (zero-add k, add-zero i)
   trace-add i q (suc m) k = rw (suc-add m k, add-suc i m, ← suc-add i m) (trace-add (suc i) (next a (w i) q) m k)
 
-  -- where a path has not ended, it had not ended before
-  pub trace-inside : (i q k : ℕ) → trace a w i q k < a .states → q < a .states
+  -- where a path has not ended, an edge led on
+  pub trace-edge :
+      (i q k : ℕ) → trace a w i q (suc k) < a .states → a .edge (trace a w i q k) (w (i + k)) (trace a w i q (suc k)) ≡ true
   unfolding trace
-  trace-inside i q zero l = l
-  trace-inside i q (suc k) l =
-      closed .edge q (w i) (next a (w i) q) (next-edge (w i) q (trace-inside (suc i) (next a (w i) q) k l)) .0
+  trace-edge i q zero l = rw (add-zero i) (next-edge (w i) q l)
+  trace-edge i q (suc k) l = rw (add-suc i k, ← suc-add i k) (trace-edge (suc i) (next a (w i) q) k l)
+
+  -- so it had not ended before
+  pub trace-before : (i q j k : ℕ) → j ≤ k → trace a w i q k < a .states → trace a w i q j < a .states
+  trace-before i q j zero l m = let e : j ≡ 0 = omega arith in rw e m
+  trace-before i q j (suc k) l m =
+      elim (same-or j (suc k)) [
+        | inl e ↦ rw e m
+        | inr ne ↦
+            trace-before i q j k (omega arith)
+            (closed .edge (trace a w i q k) (w (i + k)) (trace a w i q (suc k)) (trace-edge i q k m) .0)
+      ]
 
   -- and it is reached where its first state is
   pub trace-reached :
@@ -70,6 +83,6 @@ module _ {a : Automaton} (closed : Closed a) (w : ℕ → ℕ) where
   unfolding trace
   trace-reached i q zero h l = rw (add-zero i) h
   trace-reached i q (suc k) h l =
-      rw (add-suc i k, ← suc-add i k)
-      (trace-reached (suc i) (next a (w i) q) k
-      (reached-on i q (next a (w i) q) h (next-edge (w i) q (trace-inside (suc i) (next a (w i) q) k l))) l)
+      rw (add-suc i k)
+      (reached-on (i + k) (trace a w i q k) (trace a w i q (suc k))
+      (trace-reached i q k h (trace-before i q k (suc k) (omega arith) l)) (trace-edge i q k l))
