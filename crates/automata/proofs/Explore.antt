@@ -14,7 +14,8 @@ use Rattle.automata.specs.System.{add-edge, add-all, by-letters, expand,
 use Rattle.automata.proofs.Members.{Prefix, prefix-self, prefix-then, prefix-length, prefix-take}
 use Rattle.automata.proofs.Members.{member-at, number-found, number-member, number-prefix, listed-prefix, state-prefix}
 use Rattle.automata.proofs.Members.{with-cases, with-prefix, with-number, with-listed, with-distinct, with-each, distinct-once}
-use Rattle.automata.proofs.Members.{with-states-prefix, with-states-listed, with-states-new, with-distinct}
+use Rattle.automata.proofs.Members.{with-states-listed, with-states-new}
+use Rattle.automata.proofs.Growth.{grows-all, grows-letters}
 
 -- every state of the second list is in the first
 pub record Covers {X : Type 0} (s : System X) (xs ys : List X) : Type 0 where
@@ -122,15 +123,6 @@ module _ {X : Type 0} (s : System X) where
   add-all-states i c [] b = refl
   add-all-states i c (y ∷ ys) b = add-all-states i c ys (add-edge (s .same) i c y b)
 
-  pub add-all-prefix : (i c : ℕ) (ys : List X) (b : Built X) → Prefix (b .states) (add-all (s .same) i c ys b .states)
-  add-all-prefix i c ys b = rw (add-all-states i c ys b) (with-states-prefix (s .same) ys (b .states))
-
-  pub by-letters-prefix : (limit i : ℕ) (x : X) (b : Built X) → Prefix (b .states) (by-letters s limit i x b .states)
-  unfolding by-letters
-  by-letters-prefix zero i x b = prefix-self (b .states)
-  by-letters-prefix (suc c) i x b =
-      prefix-then (by-letters-prefix c i x b) (add-all-prefix i c (s .nexts x c) (by-letters s c i x b))
-
   -- EXPLORING unfolded: one state is handled if there is one left, and else it has ended
   pub explore-step :
       (f i : ℕ) (b : Built X) → i < length (b .states) → explore-from (suc f) s i b ≡ explore-from f s (suc i) (expand s i b)
@@ -166,7 +158,7 @@ module _ {X : Type 0} (s : System X) where
     add-all-edges i c (y ∷ ys) b =
         let b′ = add-edge (s .same) i c y b in
         let n : number-of (s .same) y (add-all (s .same) i c ys b′ .states) ≡ number-of (s .same) y (b .states) =
-        number-prefix (s .same) y (add-all-prefix i c ys b′)
+        number-prefix (s .same) y (grows-all (s .same) i c ys b′ .states)
         (rw (with-number s decides y (b .states)) (with-listed s decides y (b .states)))
         ∙ with-number s decides y (b .states)
         in
@@ -184,7 +176,7 @@ module _ {X : Type 0} (s : System X) where
         elim (same-or c d) [
           | inl e ↦ rw e (add-all-covers i d (s .nexts x d) before)
           | inr ne ↦
-              covers-prefix (add-all-prefix i d (s .nexts x d) before) (by-letters-covers d i x b c (omega arith))
+              covers-prefix (grows-all (s .same) i d (s .nexts x d) before .states) (by-letters-covers d i x b c (omega arith))
         ]
 
     by-letters-edges :
@@ -195,7 +187,7 @@ module _ {X : Type 0} (s : System X) where
     by-letters-edges (suc c) i x b =
         let before = by-letters s c i x b in
         let all = add-all (s .same) i c (s .nexts x c) before .states in
-        let kept = edges-on-kept (add-all-prefix i c (s .nexts x c) before) c i x (by-letters-covers c i x b) in
+        let kept = edges-on-kept (grows-all (s .same) i c (s .nexts x c) before .states) c i x (by-letters-covers c i x b) in
         let new = edges-to (s .same) all i c (s .nexts x c) in
         add-all-edges i c (s .nexts x c) before
         ∙ ap (λ (es : List Edge). es ++ new) (by-letters-edges c i x b)
@@ -255,7 +247,7 @@ module _ {X : Type 0} (s : System X) where
 
     -- ONE STATE MORE is handled
     pub explored-step : (i : ℕ) (b : Built X) → i < length (b .states) → Explored s i b → Explored s (suc i) (expand s i b)
-    unfolding expand edges-of
+    unfolding expand by-letters edges-of
     explored-step i b l h =
         record {
           sound = sound-letters (s .letters) i x b (omega arith) (h .sound .reached i l) (h .sound);
@@ -272,7 +264,7 @@ module _ {X : Type 0} (s : System X) where
         x = state-at s (b .states) i
 
         p : Prefix (b .states) (by-letters s (s .letters) i x b .states)
-        p = by-letters-prefix (s .letters) i x b
+        p = grows-letters s 0 (s .letters) i x b (omega arith) .states
 
         covers :
             (k : ℕ) → k < suc i → (c : ℕ) → c < s .letters →

@@ -1,5 +1,5 @@
--- Exploring as its loops see it: what was found only grows, a successor is known or new, and what the loop over the states carries as its
--- invariant, its turn and its end. Assumes nothing.
+-- Exploring as its loops see it: a successor is known or new, the rest of exploring only adds, and what the loop over the states carries as
+-- its invariant, its turn and its end. Assumes nothing.
 use mathlib.Core.Path.{_≡_, refl, sym, _∙_}
 use mathlib.Core.Bool.{Bool}
 use mathlib.Core.List.{List, [], _∷_, _++_}
@@ -15,37 +15,11 @@ use Rattle.automata.specs.System.{System, Decides, state-at, Distinct, A
 use Rattle.automata.specs.System.{an-edge, Built, built, number-of}
 use Rattle.automata.specs.System.{add-edge, add-all, by-letters, expand, explore-from, begin, explore}
 use Rattle.automata.proofs.Graphs.{tabulate-snoc}
-use Rattle.automata.proofs.Members.{Prefix, prefix-self, prefix-append, prefix-then, prefix-length, with-prefix, with-known, with-new}
+use Rattle.automata.proofs.Growth.{Grows, grows-self, grows-then, grows-edge, grows-letters}
+use Rattle.automata.proofs.Members.{with-known, with-new}
 use Rattle.automata.proofs.Explore.{Explored, explore-step, explore-end, sound-at-most, explored-step, explored-begin}
 
--- GROWTH: the states and the edges of the second go on from those of the first
-pub record Grows {X : Type 0} (b later : Built X) : Type 0 where
-  pub states : Prefix (b .states) (later .states)
-  pub edges : Prefix (b .edges) (later .edges)
-
-pub grows-self : {X : Type 0} (b : Built X) → Grows b b
-grows-self b = record { states = prefix-self (b .states); edges = prefix-self (b .edges) }
-
-pub grows-then : {X : Type 0} {a b c : Built X} → Grows a b → Grows b c → Grows a c
-grows-then p q = record { states = prefix-then (p .states) (q .states); edges = prefix-then (p .edges) (q .edges) }
-
-pub grows-states : {X : Type 0} {a b : Built X} → Grows a b → length (a .states) ≤ length (b .states)
-grows-states p = prefix-length (p .states)
-
 module _ {X : Type 0} (same : X → X → Bool) where
-  pub grows-edge : (i c : ℕ) (y : X) (b : Built X) → Grows b (add-edge same i c y b)
-  unfolding add-edge built
-  grows-edge i c y b =
-      record {
-        states = with-prefix same y (b .states);
-        edges = prefix-append (b .edges) (an-edge i c (number-of same y (b .states)) ∷ []);
-      }
-
-  pub grows-all : (i c : ℕ) (ys : List X) (b : Built X) → Grows b (add-all same i c ys b)
-  unfolding add-all
-  grows-all i c [] b = grows-self b
-  grows-all i c (y ∷ ys) b = grows-then (grows-edge i c y b) (grows-all i c ys (add-edge same i c y b))
-
   -- SUCCESSORS one by one: a known one and a new one
   pub add-edge-known :
       (i c : ℕ) (y : X) (b : Built X) → number-of same y (b .states) < length (b .states) →
@@ -78,20 +52,15 @@ module _ {X : Type 0} (same : X → X → Bool) where
   grows-more y i c j k b l =
       upward (λ k. Grows (add-all same i c (tabulate j y) b) (add-all same i c (tabulate k y) b)) j
       (grows-self (add-all same i c (tabulate j y) b))
-      (λ k _ h. rw (add-all-more y i c k b) (grows-then h (grows-edge i c (y k) (add-all same i c (tabulate k y) b)))) k l
+      (λ k _ h. rw (add-all-more y i c k b) (grows-then h (grows-edge same i c (y k) (add-all same i c (tabulate k y) b)))) k l
 
 module _ {X : Type 0} (s : System X) where
-  pub grows-letters : (c d i : ℕ) (x : X) (b : Built X) → c ≤ d → Grows (by-letters s c i x b) (by-letters s d i x b)
-  unfolding by-letters
-  grows-letters c d i x b l =
-      upward (λ d. Grows (by-letters s c i x b) (by-letters s d i x b)) c (grows-self (by-letters s c i x b))
-      (λ d _ h. grows-then h (grows-all (s .same) i d (s .nexts x d) (by-letters s d i x b))) d l
-
+  -- by the letters of a state, by all its edges, and to the end of exploring, what was found only grows
   pub grows-spelled : (d i : ℕ) (x : X) (b : Built X) → Grows b (by-letters s d i x b)
   unfolding by-letters
-  grows-spelled d i x b = grows-letters 0 d i x b (omega arith)
+  grows-spelled d i x b = grows-letters s 0 d i x b (omega arith)
 
-  pub grows-expand : (i : ℕ) (b : Built X) → Grows b (expand s i b)
+  grows-expand : (i : ℕ) (b : Built X) → Grows b (expand s i b)
   unfolding expand
   grows-expand i b = grows-spelled (s .letters) i (state-at s (b .states) i) b
 

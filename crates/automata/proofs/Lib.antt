@@ -4,6 +4,7 @@ pub mod Decision
 pub mod Explore
 pub mod Exploring
 pub mod Graphs
+pub mod Growth
 pub mod Members
 pub mod Numbered
 pub mod Positions

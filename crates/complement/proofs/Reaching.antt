@@ -8,7 +8,7 @@ use native.Mathlib.Omega.{arith}
 use lib.ListN.{length}
 use Rattle.basics.proofs.Booleans.{clash}
 use Rattle.automata.specs.System.{Built}
-use Rattle.automata.proofs.Exploring.{Grows, grows-states}
+use Rattle.automata.proofs.Growth.{Grows, grows-states}
 use Rattle.complement.specs.Build.{Lent}
 use Rattle.complement.specs.Found.{Format, Shows, Ends, within, beyond, overfull, Turns, Step-asks}
 use Rattle.complement.specs.declared.explore.Progress.{Progress}

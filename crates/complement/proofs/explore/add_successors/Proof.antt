@@ -4,7 +4,8 @@ use Prim.Native.Nat.{_≤_, _-_}
 use native.Mathlib.Omega.{arith}
 use Rattle.automata.specs.Decision.{tabulate}
 use Rattle.automata.specs.System.{add-all}
-use Rattle.automata.proofs.Exploring.{grows-all, add-all-more}
+use Rattle.automata.proofs.Exploring.{add-all-more}
+use Rattle.automata.proofs.Growth.{grows-all}
 use Rattle.tables.specs.Table.{wide-range}
 use Rattle.ncsb.specs.Array.{nth-successor}
 use Rattle.ncsb.specs.Successors.{same}

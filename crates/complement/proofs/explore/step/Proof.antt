@@ -5,7 +5,8 @@ use native.Mathlib.Omega.{arith}
 use Rattle.sets.specs.Sets.{row-letters}
 use Rattle.sets.proofs.Grid.{narrow}
 use Rattle.automata.specs.System.{by-letters}
-use Rattle.automata.proofs.Exploring.{grows-letters, grows-spelled}
+use Rattle.automata.proofs.Exploring.{grows-spelled}
+use Rattle.automata.proofs.Growth.{grows-letters}
 use Rattle.ncsb.specs.Successors.{ncsb}
 use Rattle.complement.specs.Build.{lent}
 use Rattle.complement.specs.Found.{wide-quadruples, array-moves}
