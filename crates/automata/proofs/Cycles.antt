@@ -63,9 +63,9 @@ module _ (a : Automaton) (u v : List ℕ) (o : 1 ≤ length v) where
           returns = rw (← position-next u v first, p, q) (walk-along (suc first) last (omega arith) l (omega arith));
         }
 
-module _ (a : Automaton) (u v : List ℕ) (o : 1 ≤ length v) (run : ℕ → ℕ) (is-run : Run a (letter-at u v) run) where
-  -- the accepting places, one behind the other
-  module _ (often : (i : ℕ) → (j : ℕ) × (i ≤ j) × (a .accepting (run j) ≡ true)) where
+  -- the accepting places of a run, one behind the other
+  module _ (run : ℕ → ℕ) (is-run : Run a (letter-at u v) run)
+      (often : (i : ℕ) → (j : ℕ) × (i ≤ j) × (a .accepting (run j) ≡ true)) where
     place : ℕ → ℕ
     place zero = often 0 .0
     place (suc k) = often (suc (place k)) .0
@@ -88,10 +88,11 @@ module _ (a : Automaton) (u v : List ℕ) (o : 1 ≤ length v) (run : ℕ → �
     -- two of them have the same node
     run-cycle : Accepting-cycle a u v
     run-cycle =
-        let (i, j, l, _, p, q) = node-twice a u v o place (λ k. run (place k)) (λ k _. is-run .inside (place k)) in
-        let to = walk-along a u v o run 0 (place i) (λ k _ _. is-run .goes-on k) 0 (place i) (omega arith) (omega arith) (omega arith) in
-        cycle-between a u v o run (place i) (place j) (λ k _ _. is-run .goes-on k) (run 0) (is-run .begins)
-        (rw (position-zero u v) at to) (place-rises i j l) p q (place-accepts i)
+        let (i, j, l, _, p, q) = node-twice place (λ k. run (place k)) (λ k _. is-run .inside (place k)) in
+        let (x, y) : ℕ × ℕ = (place i, place j) in
+        let walk = walk-along run 0 x (λ k _ _. is-run .goes-on k) 0 x (omega arith) (omega arith) (omega arith) in
+        cycle-between run x y (λ k _ _. is-run .goes-on k) (run 0) (is-run .begins) (rw (position-zero u v) at walk)
+        (place-rises i j l) p q (place-accepts i)
 
 -- an automaton that takes a lasso has an accepting cycle over it.
 -- The states of a run are states, so this does not need that the automaton is closed.

@@ -8,14 +8,16 @@ use native.Mathlib.Nat.{mod-eq-of-lt, div-eq-of-lt, div-add-mod', zero-add, zero
 use lib.Arith.{digits-lt, digits-div, digits-mod}
 use lib.Dec.{eqb}
 use lib.ListN.{length}
+use Rattle.basics.specs.Tabulate.{tabulate}
 use Rattle.basics.proofs.Booleans.{either, clash, and-l, and-r, and-make, eqb-eq, eqb-self}
 use Rattle.basics.proofs.Bounded.{any-find, any-make}
+use Rattle.basics.proofs.Tabulate.{tabulate-at}
 use Rattle.automata.specs.Automaton.{Automaton, Takes, Closed}
 use Rattle.automata.specs.Lasso.{letter-at, position-letter, next-position, positions, Accepting-cycle}
-use Rattle.automata.specs.Decision.{tabulate, marked, row, grown-nodes, nodes, leads, product, starts, on-cycle, takes?}
-use Rattle.automata.proofs.Positions.{first-below, next-below}
-use Rattle.automata.proofs.Graphs.{tabulate-at, tabulate-marked, Joined, grown-right}
-use Rattle.automata.proofs.Product.{Accepting-node, product-cycle}
+use Rattle.automata.specs.Decision.{marked, row, grown-nodes, nodes, leads, product, starts, on-cycle, takes?}
+use Rattle.automata.proofs.Positions.{next-below}
+use Rattle.automata.proofs.Graphs.{tabulate-marked, Joined, grown-right}
+use Rattle.automata.proofs.Product.{Accepting-node, start-below, product-cycle}
 use Rattle.automata.proofs.Cycles.{takes-cycle, cycle-takes}
 
 -- THE PRODUCT as a graph
@@ -77,7 +79,7 @@ module _ (a : Automaton) (u v : List ℕ) where
     unfolding nodes
     initial-starts p e =
         let l = closed .initial p e in
-        let inside : p < positions u v * a .states = rw (zero-mul, zero-add) at (digits-lt {q = 0} (first-below u v o) l) in
+        let inside = start-below u v o l in
         (inside, rw (starts-marked p inside, div-eq-of-lt l, mod-eq-of-lt l) e)
 
   -- the nodes that are reached from a start

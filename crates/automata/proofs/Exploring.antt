@@ -8,13 +8,13 @@ use Prim.Native.Nat.{ℕ, zero, suc, _+_, _≤_, _<_}
 use native.Mathlib.Omega.{arith}
 use lib.Dec.{leb}
 use lib.ListN.{length}
+use Rattle.basics.specs.Tabulate.{tabulate}
 use Rattle.basics.proofs.Booleans.{either, leb-le, leb-gt}
+use Rattle.basics.proofs.Tabulate.{tabulate-snoc}
 use Rattle.basics.proofs.Upward.{upward}
-use Rattle.automata.specs.Decision.{tabulate}
 use Rattle.automata.specs.System.{System, Decides, state-at, Distinct, At-most}
 use Rattle.automata.specs.System.{an-edge, Built, built, number-of}
 use Rattle.automata.specs.System.{add-edge, add-all, by-letters, expand, explore-from, begin, explore}
-use Rattle.automata.proofs.Graphs.{tabulate-snoc}
 use Rattle.automata.proofs.Growth.{Grows, grows-self, grows-then, grows-edge, grows-letters}
 use Rattle.automata.proofs.Members.{with-known, with-new}
 use Rattle.automata.proofs.Explore.{Explored, explore-step, explore-end, sound-at-most, explored-step, explored-begin}

@@ -1,49 +1,17 @@
 -- Reaching in a finite graph: as many rounds as there are nodes find exactly the nodes that edges lead to. Assumes nothing.
-use mathlib.Core.Path.{_≡_, refl, sym, _∙_, ap}
+use mathlib.Core.Path.{_≡_, sym, _∙_}
 use mathlib.Core.Bool.{Bool, true, false, _&&_, _||_}
-use mathlib.Core.List.{List, [], _∷_, _++_}
+use mathlib.Core.List.{List}
 use mathlib.Core.Logic.{inl, inr, _↔_}
-use Prim.Native.Nat.{ℕ, zero, suc, _<_}
-use native.Mathlib.Omega.{arith}
-use lib.ListN.{length, getD}
+use Prim.Native.Nat.{ℕ, suc, _<_}
 use Rattle.basics.specs.Bounded.{any}
 use Rattle.basics.specs.Star.{Star}
+use Rattle.basics.specs.Tabulate.{tabulate}
 use Rattle.basics.proofs.Booleans.{and-l, and-r, and-make, or-l, or-r, or-true}
 use Rattle.basics.proofs.Bounded.{any-find, any-make}
 use Rattle.basics.proofs.Growing.{grown-star}
-use Rattle.automata.specs.Decision.{tabulate, marked, row, grow, grown-nodes}
-
-pub tabulate-at : {A : Type 0} (k : ℕ) (f : ℕ → A) (i : ℕ) (d : A) → i < k → getD (tabulate k f) i d ≡ f i
-unfolding tabulate
-tabulate-at zero f i d l = absurd (omega arith)
-tabulate-at (suc k) f zero d l = refl
-tabulate-at (suc k) f (suc i) d l = tabulate-at k (λ j. f (suc j)) i d (omega arith)
-
-pub tabulate-length : {A : Type 0} (k : ℕ) (f : ℕ → A) → length (tabulate k f) ≡ k
-unfolding tabulate
-tabulate-length zero f = refl
-tabulate-length (suc k) f = ap suc (tabulate-length k (λ i. f (suc i)))
-
--- one more at the end
-pub tabulate-snoc : {A : Type 0} (k : ℕ) (f : ℕ → A) → tabulate (suc k) f ≡ tabulate k f ++ (f k ∷ [])
-unfolding tabulate
-tabulate-snoc zero f = refl
-tabulate-snoc {A} (suc k) f = ap (λ (l : List A). f 0 ∷ l) (tabulate-snoc k (λ i. f (suc i)))
-
--- what is the same below the limit
-pub tabulate-same :
-    {A : Type 0} (k : ℕ) (f g : ℕ → A) → ((i : ℕ) → i < k → f i ≡ g i) → tabulate k f ≡ tabulate k g
-unfolding tabulate
-tabulate-same zero f g h = refl
-tabulate-same (suc k) f g h =
-    let first = h 0 (omega arith) in
-    let others = tabulate-same k (λ i. f (suc i)) (λ i. g (suc i)) (λ i l. h (suc i) (omega arith)) in cc
-
--- a list's own items
-pub tabulate-items : {A : Type 0} (xs : List A) (d : A) → tabulate (length xs) (λ i. getD xs i d) ≡ xs
-unfolding tabulate
-tabulate-items [] d = refl
-tabulate-items {A} (x ∷ xs) d = ap (λ (l : List A). x ∷ l) (tabulate-items xs d)
+use Rattle.basics.proofs.Tabulate.{tabulate-at}
+use Rattle.automata.specs.Decision.{marked, row, grow, grown-nodes}
 
 pub tabulate-marked : (k : ℕ) (f : ℕ → Bool) (i : ℕ) → i < k → marked (tabulate k f) i ≡ f i
 unfolding marked

@@ -7,8 +7,8 @@ use Prim.Native.Nat.{ℕ, zero, suc, _+_, _≤_, _<_}
 use native.Mathlib.Omega.{arith}
 use lib.ListN.{length, getD, take, drop, length-append, take-append-drop, List·getD-append}
 use lib.Seq.{append-snoc, getD-append-seam, take-append-seam}
+use Rattle.basics.specs.Tabulate.{tabulate}
 use Rattle.basics.proofs.Booleans.{either, lt-ltb, ge-ltb, below-or}
-use Rattle.automata.specs.Decision.{tabulate}
 use Rattle.automata.specs.System.{System, Decides, Member, here, there, state-at, Distinct, number-of, with-state, with-states}
 
 -- PREFIXES: the second list goes on from the first

@@ -6,7 +6,7 @@ use mathlib.Core.List.{List}
 use mathlib.Core.Logic.{_↔_}
 use Prim.Native.Nat.{ℕ, _+_, _*_, _/_, _%_, _≤_, _<_}
 use native.Mathlib.Nat.{mod-eq-of-lt, div-eq-of-lt, zero-add, zero-mul}
-use lib.Arith.{digits-mod}
+use lib.Arith.{digits-lt, digits-mod}
 use lib.ListN.{length}
 use Rattle.basics.specs.Star.{Star}
 use Rattle.basics.proofs.Star.{star-keeps}
@@ -24,6 +24,10 @@ pub record Accepting-node (a : Automaton) (E : ℕ → ℕ → Type 0) : Type 0 
   pub accepts : a .accepting (node % a .states) ≡ true
   pub leaves : E node behind
   pub returns : Star E behind node
+
+-- a state at the first position is a node, by its own number
+pub start-below : (u v : List ℕ) → 1 ≤ length v → {n p : ℕ} → p < n → p < positions u v * n
+start-below u v o l = rw (zero-mul, zero-add) at (digits-lt {q = 0} (first-below u v o) l)
 
 -- the relation leads from a node to another exactly where an edge of the automaton does, from its position to the next
 module _ {a : Automaton} (closed : Closed a) (u v : List ℕ) (o : 1 ≤ length v) (E : ℕ → ℕ → Type 0)

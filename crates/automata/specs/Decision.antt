@@ -1,18 +1,14 @@
 -- A computing decision whether an automaton takes a lasso: search in the product of its states with the lasso's positions.
 -- Assumes nothing: these are definitions.
 use mathlib.Core.Bool.{Bool, false, _&&_, _||_}
-use mathlib.Core.List.{List, [], _∷_}
+use mathlib.Core.List.{List, []}
 use Prim.Native.Nat.{ℕ, zero, suc, _*_, _/_, _%_}
 use lib.Dec.{eqb}
 use lib.ListN.{getD}
 use Rattle.basics.specs.Bounded.{any}
+use Rattle.basics.specs.Tabulate.{tabulate}
 use Rattle.automata.specs.Automaton.{Automaton}
 use Rattle.automata.specs.Lasso.{positions, position-letter, next-position}
-
--- f 0, f 1, … to the limit, computed once
-unfoldable pub tabulate : {A : Type 0} → (limit : ℕ) → (ℕ → A) → List A
-tabulate zero f = []
-tabulate (suc k) f = f 0 ∷ tabulate k (λ i. f (suc i))
 
 -- a set of nodes is a list of Booleans, and a graph has a row for each node: the set of those that an edge leads to.
 -- What a `let` binds is computed only where it is looked at.

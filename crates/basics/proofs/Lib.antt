@@ -12,4 +12,5 @@ pub mod Refusing
 pub mod Rows
 pub mod Scans
 pub mod Star
+pub mod Tabulate
 pub mod Upward

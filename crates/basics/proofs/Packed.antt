@@ -4,10 +4,10 @@ use mathlib.Core.List.{List}
 use mathlib.Core.Logic.{inl, inr}
 use Prim.Native.Nat.{ℕ, zero, suc, _+_, _*_, _/_, _%_, _^_, _≤_, _<_}
 use native.Mathlib.Omega.{arith}
-use native.Mathlib.Nat.{pow-zero, pow-suc, div-one, zero-div, zero-mod, mod-lt, mod-eq-of-lt, one-mul, mul-comm, mul-assoc, add-mul, div-add-mod', div-div-eq-div-mul, add-mul-div-right, div-lt-iff-lt-mul, add-mul-mod-self-right}
+use native.Mathlib.Nat.{pow-zero, pow-suc, mul-zero, mul-suc, div-one, zero-div, zero-mod, mod-lt, mod-eq-of-lt, one-mul, mul-comm, mul-assoc, add-mul, div-add-mod', div-div-eq-div-mul, add-mul-div-right, div-lt-iff-lt-mul, add-mul-mod-self-right}
 use lib.Arith.{digits-lt, digits-div, digits-mod}
 use lib.ListN.{length, getD, length-set}
-use lib.Pow.{pow-lt}
+use lib.Pow.{pow-lt, pow-add}
 use lib.Seq.{getD-set-same, getD-set-other}
 use Rattle.basics.specs.Packed.{digit, packed, raised}
 use Rattle.basics.proofs.Booleans.{same-or}
@@ -109,13 +109,10 @@ module _ (b : ℕ) (some : 1 ≤ b) where
                   rw (raised-beyond (y / k) far) refl
             ]
 
--- four to the power i, as shifts by pairs of bits count it
-pub pairs : (i : ℕ) → 4 ^ i ≡ 2 ^ (2 * i)
-pairs zero = rw (pow-zero 4, pow-zero 2) refl
-pairs (suc i) =
-    let twice : 2 * suc i ≡ suc (suc (2 * i)) = omega arith in
-    let h = pairs i in
-    rw (pow-suc 4 i, twice, pow-suc 2 (suc (2 * i)), pow-suc 2 (2 * i), h) (omega arith)
+-- a power of a power, as shifts by so many bits count it
+pub pow-pow : (a k i : ℕ) → (a ^ k) ^ i ≡ a ^ (k * i)
+pow-pow a k zero = rw (pow-zero (a ^ k), mul-zero k, pow-zero a) refl
+pow-pow a k (suc i) = rw (pow-suc (a ^ k) i, mul-suc k i, pow-add a (k * i) k, pow-pow a k i) refl
 
 -- 1 << t, in k digits
 pub shift-one : (k t : ℕ) → t < k → 1 * 2 ^ t % 2 ^ k ≡ 2 ^ t

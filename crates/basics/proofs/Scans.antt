@@ -10,38 +10,29 @@ use Rattle.basics.specs.Bounded.{each, any}
 use Rattle.basics.proofs.Booleans.{clash, not-both, le-leb, gt-leb, lt-ltb, ge-ltb}
 use Rattle.basics.proofs.Bounded.{each-all, each-make, any-none}
 
--- the test holds of every number passed
-pub record Scan (f : ℕ → Bool) (limit i : ℕ) : Type 0 where
+-- the test answers b of every number passed
+pub record Scan (b : Bool) (f : ℕ → Bool) (limit i : ℕ) : Type 0 where
   pub upto : i ≤ limit
-  pub passed : (j : ℕ) → j < i → f j ≡ true
+  pub passed : (j : ℕ) → j < i → f j ≡ b
 
-pub scan-start : {f : ℕ → Bool} {limit : ℕ} → Scan f limit 0
-scan-start = record { upto = omega arith; passed = λ j l. absurd (omega arith) }
+module _ {b : Bool} {f : ℕ → Bool} {limit : ℕ} where
+  pub scan-start : Scan b f limit 0
+  scan-start = record { upto = omega arith; passed = λ j l. absurd (omega arith) }
 
-pub scan-more : {f : ℕ → Bool} {limit i : ℕ} → Scan f limit i → i < limit → f i ≡ true → Scan f limit (i + 1)
-scan-more {f} {limit} {i} s l e =
-    record { upto = omega arith; passed = below-more (λ j. f j ≡ true) i (s .passed) e }
+  pub scan-more : {i : ℕ} → Scan b f limit i → i < limit → f i ≡ b → Scan b f limit (i + 1)
+  scan-more {i} s l e = record { upto = omega arith; passed = below-more (λ j. f j ≡ b) i (s .passed) e }
 
-pub scan-done : {f : ℕ → Bool} {limit i : ℕ} → Scan f limit i → limit ≤ i → true ≡ each limit f
-scan-done {f} {limit} s l = sym (each-make limit f (λ j m. s .passed j (omega arith)))
+-- to the end: it holds of each, or of none
+module _ {f : ℕ → Bool} {limit i : ℕ} where
+  pub scan-done : Scan true f limit i → limit ≤ i → true ≡ each limit f
+  scan-done s l = sym (each-make limit f (λ j m. s .passed j (omega arith)))
 
+  pub scan-none : Scan false f limit i → limit ≤ i → any limit f ≡ false
+  scan-none s l = any-none limit f (λ j m. s .passed j (omega arith))
+
+-- one that fails
 pub scan-fails : (f : ℕ → Bool) (limit i : ℕ) → i < limit → f i ≡ false → false ≡ each limit f
 scan-fails f limit i l e = sym (not-both (each limit f) (λ h. clash (each-all limit f h i l) e))
-
--- the test fails of every number passed
-pub record None-below (f : ℕ → Bool) (limit i : ℕ) : Type 0 where
-  pub upto : i ≤ limit
-  pub none : (j : ℕ) → j < i → f j ≡ false
-
-module _ (f : ℕ → Bool) (limit : ℕ) where
-  pub none-start : None-below f limit 0
-  none-start = record { upto = omega arith; none = λ j l. absurd (omega arith) }
-
-  pub none-turn : (i : ℕ) → i < limit → f i ≡ false → None-below f limit i → None-below f limit (i + 1)
-  none-turn i l e s = record { upto = omega arith; none = below-more (λ j. f j ≡ false) i (s .none) e }
-
-  pub none-end : (i : ℕ) → limit ≤ i → None-below f limit i → any limit f ≡ false
-  none-end i l s = any-none limit f (λ j m. s .none j (omega arith))
 
 -- a test of what was read, as the test of the words themselves
 module _ {a b x y : ℕ} (p : a ≡ x) (q : b ≡ y) where

@@ -3,4 +3,5 @@ pub mod Buffers
 pub mod Packed
 pub mod Rows
 pub mod Star
+pub mod Tabulate
 pub mod Words

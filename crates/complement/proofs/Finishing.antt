@@ -10,8 +10,8 @@ use lib.Seq.{take-all, take-length}
 use Rattle.basics.specs.Buffers.{filled}
 use Rattle.basics.proofs.Booleans.{lt-ltb}
 use Rattle.basics.proofs.Rows.{items-at, items-rows}
+use Rattle.basics.proofs.Tabulate.{tabulate-same, tabulate-items}
 use Rattle.automata.specs.System.{an-edge, edge-at, state-at, numbered}
-use Rattle.automata.proofs.Graphs.{tabulate-same, tabulate-items}
 use Rattle.tables.specs.Table.{Limits, table-words, Range-fits}
 use Rattle.ncsb.specs.Successors.{initials, ncsb}
 use Rattle.patterns.specs.declared.Shape.{Shape}

@@ -9,8 +9,8 @@ use lib.ListN.{length, getD, length-append}
 use lib.Seq.{sets, length-sets, take-all, take-append-le}
 use Rattle.basics.proofs.Booleans.{either, ltb-lt, ltb-ge}
 use Rattle.basics.proofs.Rows.{items-length, items-snoc}
+use Rattle.basics.proofs.Tabulate.{tabulate-same, tabulate-items}
 use Rattle.automata.specs.System.{Edge, Built}
-use Rattle.automata.proofs.Graphs.{tabulate-same, tabulate-items}
 use Rattle.tables.specs.Table.{Limits}
 use Rattle.ncsb.specs.Successors.{quadruple}
 use Rattle.ncsb.specs.declared.Quadruple.{Quadruple}

@@ -5,10 +5,10 @@ use mathlib.Core.List.{List}
 use Prim.Native.Nat.{ℕ, suc, _^_, _≤_, _<_}
 use native.Mathlib.Omega.{arith}
 use lib.ListN.{length, getD}
-use Rattle.automata.specs.Decision.{tabulate}
+use Rattle.basics.specs.Tabulate.{tabulate}
+use Rattle.basics.proofs.Tabulate.{tabulate-same, tabulate-items}
 use Rattle.automata.specs.System.{add-edge, add-all}
 use Rattle.automata.proofs.Exploring.{add-all-more, grows-more}
-use Rattle.automata.proofs.Graphs.{tabulate-same, tabulate-items}
 use Rattle.sets.specs.Sets.{set-states, size}
 use Rattle.tables.specs.Table.{Limits}
 use Rattle.ncsb.specs.Array.{from-array, asks, blocked-by, nth-successor}

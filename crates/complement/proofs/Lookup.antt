@@ -4,7 +4,7 @@ use mathlib.Core.Bool.{Bool}
 use mathlib.Core.List.{List}
 use Prim.Native.Nat.{ℕ, _≤_, _<_}
 use native.Mathlib.Omega.{arith}
-use Rattle.automata.proofs.Graphs.{tabulate-length}
+use Rattle.basics.proofs.Tabulate.{tabulate-length}
 use Rattle.automata.proofs.Members.{number-le}
 use Rattle.tables.specs.Table.{Limits}
 use Rattle.ncsb.specs.Successors.{same}

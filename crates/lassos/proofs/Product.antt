@@ -6,14 +6,14 @@ use mathlib.Core.List.{List}
 use mathlib.Core.Logic.{_⊎_, inl, inr, _↔_}
 use Prim.Native.Nat.{ℕ, zero, suc, _+_, _*_, _/_, _%_, _≤_, _<_}
 use native.Mathlib.Omega.{arith}
-use native.Mathlib.Nat.{mod-lt, div-lt-iff-lt-mul, zero-add, zero-mul}
-use lib.Arith.{digits-lt, digits-div, digits-mod}
+use native.Mathlib.Nat.{mod-lt, div-lt-iff-lt-mul}
+use lib.Arith.{digits-div, digits-mod}
 use lib.Dec.{ltb, eqb}
 use lib.ListN.{length}
 use Rattle.basics.proofs.Booleans.{and-l, and-r, and-make, or-l, or-r, eqb-self, eq-eqb, ltb-lt, lt-ltb, clash}
 use Rattle.automata.specs.Lasso.{positions, position-letter, next-position, Accepting-cycle}
 use Rattle.automata.proofs.Positions.{next-below}
-use Rattle.automata.proofs.Product.{Accepting-node, product-cycle}
+use Rattle.automata.proofs.Product.{Accepting-node, start-below, product-cycle}
 use Rattle.tables.specs.Table.{Limits, n-of, m-of, head-of, letter-of, target-of, next-of, is-initial, chain-has, edge, meaning}
 use Rattle.tables.proofs.Laws.{Valid, chain-step, chain-cases, meaning-closed}
 use Rattle.lassos.specs.Graph.{Arc, Bounded, Found}
@@ -98,11 +98,8 @@ module _ {l : Limits} {t : List ℕ} (valid : Valid l t) (u v : List ℕ) (o : 1
       div-lt-iff-lt-mul (valid .states-from) .0 (rw (leads-edge x y h .0) (next-below u v o (x / n-of t)))
 
   start-inside : (x : ℕ) → product-graph t u v .starts x ≡ true → x < product-graph t u v .size
-  unfolding product-graph positions
-  start-inside x h =
-      let b = ltb-lt x (n-of t) (and-l (is-initial t x) h) in
-      let z : 0 < length u + length v = omega arith in
-      rw (zero-mul, zero-add) at (digits-lt {q = 0} {r = x} z b)
+  unfolding product-graph
+  start-inside x h = start-below u v o (ltb-lt x (n-of t) (and-l (is-initial t x) h))
 
   pub product-bounded : Bounded (product-graph t u v)
   product-bounded = record { edge = λ x y b h. edge-inside x y h; start = start-inside }

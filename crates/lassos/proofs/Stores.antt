@@ -7,7 +7,7 @@ use native.Mathlib.Nat.{mod-lt, mod-eq-of-lt}
 use lib.ListN.{length, getD, set, length-set}
 use lib.Seq.{getD-set-same, getD-set-other}
 use Rattle.basics.specs.Packed.{digit, packed, raised}
-use Rattle.basics.proofs.Packed.{pairs, digit-fits, packed-raised, packed-others, raised-length, raised-beyond}
+use Rattle.basics.proofs.Packed.{pow-pow, digit-fits, packed-raised, packed-others, raised-length, raised-beyond}
 use Rattle.lassos.specs.Search.{colour, stacked, cursor, waiting, risen, entered, advanced, reddened}
 use Rattle.lassos.specs.Steps.{Raise-asks}
 use Rattle.lassos.specs.Width.{Width, white, grey, black, red, colour-bits, colours, word-colours, Width-fits}
@@ -18,7 +18,7 @@ pub colour-read :
     (wd : Width) (w : List ℕ) (x : ℕ) →
     getD w (x / word-colours wd) 0 / 2 ^ (colour-bits * (x % word-colours wd)) % colours ≡ colour wd w x
 unfolding colour packed digit
-colour-read wd w x = rw (pairs (x % word-colours wd)) refl
+colour-read wd w x = rw (pow-pow 2 colour-bits (x % word-colours wd)) refl
 
 module _ {wd : Width} (fits : Width-fits wd) {w : List ℕ} {x by : ℕ} (a : Raise-asks wd w x by)
     (word : getD w (x / word-colours wd) 0 < 2 ^ wd .work-bits) where
@@ -34,7 +34,7 @@ module _ {wd : Width} (fits : Width-fits wd) {w : List ℕ} {x by : ℕ} (a : Ra
   shifted : by * 2 ^ (colour-bits * (x % word-colours wd)) % 2 ^ wd .work-bits ≡ by * colours ^ (x % word-colours wd)
   shifted =
       let small : by * colours ^ (x % word-colours wd) < 2 ^ wd .work-bits = (let k = sum-fits in omega arith) in
-      rw (← pairs (x % word-colours wd)) (mod-eq-of-lt small)
+      rw (← pow-pow 2 colour-bits (x % word-colours wd)) (mod-eq-of-lt small)
 
   pub raise-fits :
       getD w (x / word-colours wd) 0 + by * 2 ^ (colour-bits * (x % word-colours wd)) % 2 ^ wd .work-bits < 2 ^ wd .work-bits

@@ -3,13 +3,13 @@ use mathlib.Core.Path.{_≡_, refl, _∙_, ap}
 use Prim.Native.Nat.{ℕ, _/_, _^_, _<_}
 use native.Mathlib.Omega.{arith}
 use native.Mathlib.Nat.{div-le-self}
-use Rattle.basics.proofs.Packed.{pairs}
+use Rattle.basics.proofs.Packed.{pow-pow}
 use Rattle.tables.specs.Table.{wide-range}
-use Rattle.lassos.specs.Width.{Width, width-16, colours, word-colours, Width-fits}
+use Rattle.lassos.specs.Width.{Width, width-16, colour-bits, colours, word-colours, Width-fits}
 
 -- the numbers of a work word are those with as many digits, to the base of the colours, as it holds colours
 pub word-filled : {wd : Width} → Width-fits wd → colours ^ word-colours wd ≡ 2 ^ wd .work-bits
-word-filled {wd} fits = pairs (word-colours wd) ∙ ap (λ b. 2 ^ b) (fits .filled)
+word-filled {wd} fits = pow-pow 2 colour-bits (word-colours wd) ∙ ap (λ b. 2 ^ b) (fits .filled)
 
 -- the word that a node's colour lies in is one of as many words as there are nodes
 pub colour-word : (wd : Width) {x n : ℕ} → x < n → x / word-colours wd < n

@@ -6,8 +6,8 @@ use native.Mathlib.Omega.{arith}
 use lib.ListN.{length, getD, drop, set, length-drop}
 use lib.Seq.{getD-append-add, getD-drop}
 use Rattle.basics.specs.Buffers.{filled}
+use Rattle.basics.proofs.Tabulate.{tabulate-length, tabulate-at, tabulate-same}
 use Rattle.automata.specs.System.{an-edge, edge-at}
-use Rattle.automata.proofs.Graphs.{tabulate-length, tabulate-at, tabulate-same}
 use Rattle.tables.specs.Table.{flags}
 use Rattle.layout.specs.Chained.{flags-word, chained-words}
 use Rattle.layout.specs.Steps.{Lay-out-asks, Moved, Cleared, moved-edges, Link-asks, Linked, with-counts}

@@ -9,10 +9,10 @@ use native.Mathlib.Omega.{arith}
 use lib.Dec.{ltb, eqb}
 use lib.ListN.{length, getD, drop, set, length-set}
 use lib.Seq.{getD-set-same, getD-set-other, getD-drop}
+use Rattle.basics.specs.Tabulate.{tabulate}
 use Rattle.basics.proofs.Booleans.{either, and-make, and-false-l, and-false-r, eqb-eq, eq-eqb, eqb-ne, ne-eqb, ltb-lt, lt-ltb, ge-ltb, same-or}
-use Rattle.automata.specs.Decision.{tabulate}
+use Rattle.basics.proofs.Tabulate.{tabulate-length, tabulate-at, tabulate-snoc}
 use Rattle.automata.specs.System.{an-edge, edge-at}
-use Rattle.automata.proofs.Graphs.{tabulate-length, tabulate-at, tabulate-snoc}
 use Rattle.layout.specs.Chained.{first-record, next-record}
 use Rattle.layout.specs.Steps.{behind, with-head, moved-edges, Link-asks, Link-one-asks, linked-one, Linked}
 use Rattle.layout.specs.Triples.{triple-at, triples-of}

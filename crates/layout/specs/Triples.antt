@@ -4,8 +4,8 @@ use mathlib.Core.Bool.{false}
 use mathlib.Core.List.{List}
 use Prim.Native.Nat.{ℕ, _+_, _*_}
 use lib.ListN.{getD}
+use Rattle.basics.specs.Tabulate.{tabulate}
 use Rattle.automata.specs.Automaton.{Automaton}
-use Rattle.automata.specs.Decision.{tabulate}
 use Rattle.automata.specs.System.{Edge, an-edge}
 
 unfoldable pub triple-at : (words : List ℕ) → (e : ℕ) → Edge

@@ -12,7 +12,7 @@ use Rattle.basics.specs.Bounded.{each, any}
 use Rattle.basics.specs.Buffers.{or-else}
 use Rattle.basics.proofs.Booleans.{either, clash, and-l, and-r, and-make, not-true, not-false, not-both, lt-ltb, ge-ltb}
 use Rattle.basics.proofs.Bounded.{each-all, each-make, any-make, any-find, any-no}
-use Rattle.basics.proofs.Scans.{None-below, none-turn, none-end}
+use Rattle.basics.proofs.Scans.{Scan, scan-more, scan-none}
 use Rattle.automata.specs.Automaton.{Automaton}
 use Rattle.sets.specs.Sets.{set-states, has, size}
 use Rattle.sets.proofs.Size.{size-ones, size-past}
@@ -35,15 +35,15 @@ module _ (row : List ℕ) (letters : ℕ) where
 
   pub row-turn :
       (letter : ℕ) → letter < letters → getD row letter 0 < 2 ^ set-states → ones (getD row letter 0) ≤ 1 →
-      None-below (two-targets row) letters letter → None-below (two-targets row) letters (letter + 1)
+      Scan false (two-targets row) letters letter → Scan false (two-targets row) letters (letter + 1)
   unfolding two-targets
-  row-turn letter l small h =
+  row-turn letter l small h s =
       let e = size-ones set-states (getD row letter 0) small in
-      none-turn (two-targets row) letters letter l (ge-ltb {m = 1} {n = size set-states (getD row letter 0)} (omega arith))
+      scan-more s l (ge-ltb {m = 1} {n = size set-states (getD row letter 0)} (omega arith))
 
-  pub row-end : (letter : ℕ) → letters ≤ letter → None-below (two-targets row) letters letter → row-forked letters row ≡ false
+  pub row-end : (letter : ℕ) → letters ≤ letter → Scan false (two-targets row) letters letter → row-forked letters row ≡ false
   unfolding row-forked
-  row-end letter past w = none-end (two-targets row) letters letter past w
+  row-end letter past s = scan-none s past
 
 -- a state that is not in Q2 does not fork, and one that is forks where its row does
 pub outer-even : (set state : ℕ) (b : Bool) → set / 2 ^ state % 2 ≡ 0 → (has set state && b) ≡ false
@@ -70,16 +70,16 @@ module _ (masks : List (List ℕ)) (shape : Shape) where
   pub states-turn :
       (state : ℕ) (b : Bool) → state < shape .states →
       b ≡ (has (shape .inner) state && row-forked (shape .letters) (getD masks state [])) → b ≡ false →
-      None-below (state-forked masks shape) (shape .states) state →
-      None-below (state-forked masks shape) (shape .states) (state + 1)
+      Scan false (state-forked masks shape) (shape .states) state →
+      Scan false (state-forked masks shape) (shape .states) (state + 1)
   unfolding state-forked
-  states-turn state b l e h = none-turn (state-forked masks shape) (shape .states) state l (sym e ∙ h)
+  states-turn state b l e h s = scan-more s l (sym e ∙ h)
 
   pub states-end :
-      (state : ℕ) → shape .states ≤ state → None-below (state-forked masks shape) (shape .states) state →
+      (state : ℕ) → shape .states ≤ state → Scan false (state-forked masks shape) (shape .states) state →
       masks-fork masks shape ≡ false
   unfolding masks-fork state-forked
-  states-end state past w = none-end (state-forked masks shape) (shape .states) state past w
+  states-end state past s = scan-none s past
 
 -- THE TEST OVER THE MASKS IS THE TEST OVER THE EDGES
 module _ (a : Automaton) (f : Fits-masks a) where

@@ -8,12 +8,12 @@ use native.Mathlib.Omega.{arith}
 use borrow.Author.Count.{below-more}
 use lib.ListN.{length, getD, set, replicate, length-set, length-replicate, getD-replicate, List·getD-eq-default}
 use lib.Seq.{getD-set-same, getD-set-other, ext-getD}
+use Rattle.basics.specs.Tabulate.{tabulate}
 use Rattle.basics.proofs.Booleans.{not-both, below-or}
 use Rattle.basics.proofs.Clears.{zeros-at}
+use Rattle.basics.proofs.Tabulate.{tabulate-at, tabulate-length}
 use Rattle.sets.specs.Sets.{set-states, row-letters}
 use Rattle.automata.specs.Automaton.{Automaton, Closed}
-use Rattle.automata.specs.Decision.{tabulate}
-use Rattle.automata.proofs.Graphs.{tabulate-at, tabulate-length}
 use Rattle.sets.proofs.Members.{empty, set-of-lt}
 use Rattle.tables.specs.Table.{pattern-range, table-refusal, n-of, meaning}
 use Rattle.tables.proofs.Laws.{valid, meaning-closed}

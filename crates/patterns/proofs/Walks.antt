@@ -10,11 +10,11 @@ use lib.Pow.{pow-pos, pow-lt}
 use lib.Bits.{bitOr, or-lt}
 use lib.ListN.{length, getD, set, replicate, length-set, length-replicate}
 use lib.Seq.{getD-set-same, getD-set-other, ext-getD}
+use Rattle.basics.specs.Tabulate.{tabulate}
 use Rattle.basics.proofs.Booleans.{either, eq-eqb, eqb-eq, eqb-ne, lt-ltb, ne-eqb, or-assoc, or-none}
 use Rattle.basics.proofs.Clears.{zeros-at}
 use Rattle.basics.proofs.Packed.{shift-one}
-use Rattle.automata.specs.Decision.{tabulate}
-use Rattle.automata.proofs.Graphs.{tabulate-at, tabulate-length}
+use Rattle.basics.proofs.Tabulate.{tabulate-at, tabulate-length}
 use Rattle.sets.specs.Sets.{set-states, row-letters, has}
 use Rattle.sets.proofs.Members.{has-zero, has-or, has-single, ext, set-of-lt}
 use Rattle.tables.specs.Access.{State-asks, Record-asks}

@@ -5,7 +5,7 @@ use mathlib.Core.List.{List, []}
 use Prim.Native.Nat.{ℕ, zero, suc, _<_}
 use lib.Bits.{bitOr}
 use lib.ListN.{getD}
-use Rattle.automata.specs.Decision.{tabulate}
+use Rattle.basics.specs.Tabulate.{tabulate}
 use Rattle.sets.specs.Sets.{set-states, row-letters, union}
 use Rattle.tables.specs.Table.{pattern-range, table-refusal, n-of}
 use Rattle.ncsb.specs.Moves.{Moves}

@@ -9,6 +9,7 @@ use lassos::Decision;
 use lassos::decide_lasso;
 use patterns::Checked;
 use patterns::check_pattern;
+use tables::table_words;
 
 // Room for 256 states and nine letters.
 fn answer(table: &[u16], prefix: &[u8], cycle: &[u8]) -> Decision {
@@ -82,7 +83,7 @@ fn try_complement(tally: Tally, table: &[u16], letters: usize, draw: Draw) -> Ta
     if counts.number != 0 {
         return tally.disagreed();
     }
-    let used = 3 + 2 * counts.states as usize + 3 * counts.edges as usize;
+    let used = table_words(counts.states as usize, counts.edges as usize);
     if used > 4096 {
         return tally.disagreed();
     }

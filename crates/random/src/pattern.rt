@@ -1,5 +1,6 @@
 // Random semi-deterministic patterns, laid out as chained tables.
 use crate::draw::Draw;
+use tables::table_words;
 ghost use Prim.Native.Nat.{_≤_};
 ghost use Rattle.random.specs.Plans.{Small-plan};
 
@@ -32,7 +33,7 @@ pub(crate) fn table_length(plan: Plan) -> usize
     requires { ⌜ Small-plan (plan .states) (plan .records) (plan .inner) ⌝ }
     ensures { λ r. ⌜ r ≤ 146 ⌝ }
 {
-    3 + 2 * plan.states + 3 * plan.records
+    table_words(plan.states, plan.records)
 }
 
 fn put(table: &mut [u16], at: usize, word: usize) {

@@ -4,7 +4,7 @@ use mathlib.Core.List.{List, flatMap}
 use Prim.Native.Nat.{ℕ, _+_, _*_, _/_}
 use lib.ListN.{length, getD}
 use lib.Seq.{sets}
-use Rattle.automata.specs.Decision.{tabulate}
+use Rattle.basics.specs.Tabulate.{tabulate}
 use Rattle.ncsb.specs.Successors.{quadruple, four-sets}
 use Rattle.ncsb.specs.declared.Quadruple.{Quadruple}
 

@@ -8,7 +8,7 @@ use native.Mathlib.Omega.{arith}
 use lib.ListN.{length, getD, set, length-set}
 use lib.Seq.{getD-set-same, getD-set-other, ext-getD}
 use Rattle.basics.proofs.Booleans.{same-or}
-use Rattle.automata.proofs.Graphs.{tabulate-length, tabulate-at}
+use Rattle.basics.proofs.Tabulate.{tabulate-length, tabulate-at}
 use Rattle.ncsb.specs.declared.Quadruple.{Quadruple}
 use Rattle.records.specs.Records.{blank, fitted}
 

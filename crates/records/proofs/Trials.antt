@@ -3,7 +3,7 @@ use mathlib.Core.Path.{_≡_, refl}
 use mathlib.Core.List.{List, [], _∷_}
 use Prim.Native.Nat.{ℕ}
 use lib.ListN.{take}
-use Rattle.automata.specs.Decision.{tabulate}
+use Rattle.basics.specs.Tabulate.{tabulate}
 use Rattle.automata.specs.System.{number-of}
 use Rattle.ncsb.specs.Successors.{quadruple, same}
 use Rattle.record_words.specs.Record.{record-words, full-records, quadruple-at, records-of}

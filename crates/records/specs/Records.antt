@@ -2,7 +2,7 @@
 use mathlib.Core.List.{List}
 use Prim.Native.Nat.{ℕ}
 use lib.ListN.{getD}
-use Rattle.automata.specs.Decision.{tabulate}
+use Rattle.basics.specs.Tabulate.{tabulate}
 use Rattle.ncsb.specs.Successors.{quadruple}
 use Rattle.ncsb.specs.declared.Quadruple.{Quadruple}
 use Rattle.record_words.specs.Record.{full-records, records-of}

@@ -8,11 +8,12 @@ use lib.ListN.{length}
 use Rattle.basics.specs.Bounded.{each, any, count}
 use Rattle.basics.specs.Buffers.{or-else}
 use Rattle.basics.specs.Rows.{rows}
+use Rattle.basics.specs.Tabulate.{tabulate}
 use Rattle.basics.proofs.Booleans.{and-l, and-r, eqb-eq, leb-le, true-not}
 use Rattle.basics.proofs.Bounded.{each-all}
 use Rattle.sets.specs.Sets.{has, size, without, set-of, union, subsets}
 use Rattle.automata.specs.Automaton.{Closed}
-use Rattle.automata.specs.Decision.{takes?, nodes, product, starts, leads, grown-nodes, grow, row, marked, tabulate, on-cycle}
+use Rattle.automata.specs.Decision.{takes?, nodes, product, starts, leads, grown-nodes, grow, row, marked, on-cycle}
 use Rattle.automata.specs.Lasso.{positions, position-letter, next-position}
 use Rattle.automata.specs.System.{an-edge, built, number-of, with-state, with-states, add-edge, add-all, by-letters, expand, state-at, explore-from, begin, explore, edge-at, listed, numbered}
 use Rattle.automata.proofs.Decision.{takes-right, takes-not}

@@ -2,8 +2,8 @@
 use mathlib.Core.Path.{_≡_, refl}
 use mathlib.Core.List.{List, [], _∷_, map}
 use Rattle.basics.specs.Bounded.{each, any, count}
+use Rattle.basics.specs.Tabulate.{tabulate}
 use Rattle.sets.specs.Sets.{has, size, without, set-of, union, subsets, nth-subset}
-use Rattle.automata.specs.Decision.{tabulate}
 use Rattle.tables.specs.Rows.{pattern-A, pattern-B}
 use Rattle.tables.specs.Table.{n-of, k-of, m-of, flags-of, head-of, record-at, letter-of, target-of, next-of, is-initial, is-accepting, chain-has, edge, meaning}
 use Rattle.ncsb.specs.Array.{from-array, nth-initial, asks, blocked-by, nth-successor}

@@ -3,8 +3,8 @@
 use mathlib.Core.Bool.{true, false}
 use mathlib.Core.List.{List, [], _∷_}
 use Prim.Native.Nat.{ℕ, _^_}
+use Rattle.basics.specs.Tabulate.{tabulate}
 use Rattle.sets.specs.Sets.{set-states, size}
-use Rattle.automata.specs.Decision.{tabulate}
 use Rattle.tables.specs.Rows.{pattern-A, pattern-B}
 use Rattle.tables.specs.Table.{meaning}
 use Rattle.ncsb.specs.Array.{from-array, nth-initial, asks, blocked-by, nth-successor}

@@ -177,7 +177,7 @@ pub names-wrong :
 names-wrong good {links = links} i l e far = wrong far (sym (scan-fails good links i l e))
 
 pub names-all :
-    {k : ℕ} {good : ℕ → Bool} {link : ℕ → ℕ} {i links m names : ℕ} {before after : List ℕ} → Scan good links i →
+    {k : ℕ} {good : ℕ → Bool} {link : ℕ → ℕ} {i links m names : ℕ} {before after : List ℕ} → Scan true good links i →
     Marked k link i m names before after → links ≤ i → Names k good link links m before after names
 names-all {i = i} {links = links} s p l =
     let upto = s .upto in

@@ -14,9 +14,9 @@ use crate::filling::filled;
 use crate::lasso::decide;
 use crate::scan::behind;
 use crate::scan::decimal;
-use complement::Counts;
 use complement::build_complement;
 use patterns::check_pattern;
+use tables::table_words;
 
 // WHAT IS ASKED OF A TABLE
 
@@ -39,14 +39,11 @@ fn build(table: &[u16], text: &[u8], at: usize) {
     );
 }
 
-fn table_words(counts: Counts) -> usize {
-    3 + 2 * counts.states as usize + 3 * counts.edges as usize
-}
-
 fn decide_over_complement(table: &[u16], text: &[u8], at: usize) {
     let mut words = [7u16; 64];
     let mut sets = [7u32; 64];
-    let used = table_words(build_complement(table, &mut words, &mut sets));
+    let counts = build_complement(table, &mut words, &mut sets);
+    let used = table_words(counts.states as usize, counts.edges as usize);
     if used <= 64 {
         decide(&words[0..used], text, at);
     }

@@ -11,9 +11,9 @@ use Rattle.basics.proofs.Booleans.{either, eqb-eq, eqb-ne, ne-eqb}
 use Rattle.tables.specs.Table.{Limits}
 use Rattle.patterns.specs.Check.{check-refusal}
 use Rattle.patterns.proofs.Answers.{check-most}
-use Rattle.complement.specs.Build.{Room, room-refusal, build-refusal}
+use Rattle.complement.specs.Build.{Room, build-refusal}
 use Rattle.complement.specs.Complement.{complement}
-use Rattle.complement.proofs.Room.{states-over, table-over, all-fits, room-cases}
+use Rattle.complement.proofs.Room.{Room-case, states-over, table-over, all-fits, room-cases}
 use Rattle.tubochre.specs.Demand.{Too-many-states, Too-many-words}
 
 -- what fits is not too much
@@ -21,20 +21,14 @@ none-above : {a b c d : ℕ} → b ≤ a → d ≤ c → (a < b) ⊎ (c < d) →
 none-above few fewer (inl l) = omega arith
 none-above few fewer (inr l) = omega arith
 
--- WHICH REFUSAL IS MET
+-- WHICH REFUSAL IS MET: the check's, or what the room says
 pub data Met (range : Limits) (t : List ℕ) (room : Room) (number : ℕ) : Type 0 where
   by-check : check-refusal t ≡ number → 1 ≤ number → number ≤ 10 → Met range t room number
-  by-states : check-refusal t ≡ 0 → Too-many-states range t room → number ≡ 11 → Met range t room number
-  by-words : check-refusal t ≡ 0 → (Too-many-states range t room → ⊥) → Too-many-words range t room → number ≡ 12 → Met range t room number
-  by-none : check-refusal t ≡ 0 → (Too-many-states range t room → ⊥) → (Too-many-words range t room → ⊥) → number ≡ 0 → Met range t room number
+  by-room :
+      check-refusal t ≡ 0 → Room-case range room (length (complement t .states)) (length (complement t .edges)) number →
+      Met range t room number
 
 module _ (range : Limits) (t : List ℕ) (room : Room) where
-  abbrev n : ℕ
-  n = length (complement t .states)
-
-  abbrev m : ℕ
-  m = length (complement t .edges)
-
   check-met : (check-refusal t ≡ 0 → ⊥) → Met range t room (build-refusal range t room)
   unfolding build-refusal or-else
   check-met ne =
@@ -46,22 +40,13 @@ module _ (range : Limits) (t : List ℕ) (room : Room) where
       positive zero ne = absurd (ne refl)
       positive (suc k) ne = omega arith
 
-  room-met : check-refusal t ≡ 0 → Met range t room (room-refusal range room n m)
-  unfolding Too-many-states Too-many-words
-  room-met passed =
-      elim (room-cases range room n m) [
-        | states-over many e ↦ by-states passed many e
-        | table-over few fewer many e ↦ by-words passed (none-above few fewer) many e
-        | all-fits few fewer edges words e ↦ by-none passed (none-above few fewer) (none-above edges words) e
-      ]
-
   pub which-refusal : Met range t room (build-refusal range t room)
   unfolding build-refusal or-else
   which-refusal =
       elim (either (eqb (check-refusal t) 0)) [
         | inl e ↦
             let passed = eqb-eq (check-refusal t) 0 e in
-            let same : build-refusal range t room ≡ room-refusal range room n m = rw passed refl in rw same (room-met passed)
+            rw passed (by-room passed (room-cases range room (length (complement t .states)) (length (complement t .edges))))
         | inr e ↦ check-met (eqb-ne (check-refusal t) 0 e)
       ]
 
@@ -69,58 +54,64 @@ module _ (range : Limits) (t : List ℕ) (room : Room) where
 module _ {range : Limits} {t : List ℕ} {room : Room} {number : ℕ} where
   pub refused-most : Met range t room number → number ≤ 12
   refused-most (by-check e some few) = omega arith
-  refused-most (by-states passed many e) = omega arith
-  refused-most (by-words passed fit many e) = omega arith
-  refused-most (by-none passed fit fits e) = omega arith
+  refused-most (by-room passed (states-over many e)) = omega arith
+  refused-most (by-room passed (table-over few fewer many e)) = omega arith
+  refused-most (by-room passed (all-fits few fewer edges words e)) = omega arith
 
   pub refused-checked : Met range t room number → (k : ℕ) → 1 ≤ k → k ≤ 10 → number ≡ k → check-refusal t ≡ k
   refused-checked (by-check e some few) k from to same = e ∙ same
-  refused-checked (by-states passed many e) k from to same = absurd (omega arith)
-  refused-checked (by-words passed fit many e) k from to same = absurd (omega arith)
-  refused-checked (by-none passed fit fits e) k from to same = absurd (omega arith)
+  refused-checked (by-room passed (states-over many e)) k from to same = absurd (omega arith)
+  refused-checked (by-room passed (table-over few fewer many e)) k from to same = absurd (omega arith)
+  refused-checked (by-room passed (all-fits few fewer edges words e)) k from to same = absurd (omega arith)
 
   pub checked-refused : Met range t room number → (k : ℕ) → 1 ≤ k → check-refusal t ≡ k → number ≡ k
   checked-refused (by-check e some few) k from same = omega arith
-  checked-refused (by-states passed many e) k from same = absurd (omega arith)
-  checked-refused (by-words passed fit many e) k from same = absurd (omega arith)
-  checked-refused (by-none passed fit fits e) k from same = absurd (omega arith)
+  checked-refused (by-room passed (states-over many e)) k from same = absurd (omega arith)
+  checked-refused (by-room passed (table-over few fewer many e)) k from same = absurd (omega arith)
+  checked-refused (by-room passed (all-fits few fewer edges words e)) k from same = absurd (omega arith)
 
   pub refused-states : Met range t room number → number ≡ 11 → (check-refusal t ≡ 0) × Too-many-states range t room
+  unfolding Too-many-states
   refused-states (by-check e some few) same = absurd (omega arith)
-  refused-states (by-states passed many e) same = (passed, many)
-  refused-states (by-words passed fit many e) same = absurd (omega arith)
-  refused-states (by-none passed fit fits e) same = absurd (omega arith)
+  refused-states (by-room passed (states-over many e)) same = (passed, many)
+  refused-states (by-room passed (table-over few fewer many e)) same = absurd (omega arith)
+  refused-states (by-room passed (all-fits few fewer edges words e)) same = absurd (omega arith)
 
   pub states-refused : Met range t room number → (check-refusal t ≡ 0) × Too-many-states range t room → number ≡ 11
+  unfolding Too-many-states
   states-refused (by-check e some few) (passed, many) = absurd (omega arith)
-  states-refused (by-states passed many e) case = e
-  states-refused (by-words passed fit over e) (passes, many) = absurd (fit many)
-  states-refused (by-none passed fit fits e) (passes, many) = absurd (fit many)
+  states-refused (by-room passed (states-over many e)) case = e
+  states-refused (by-room passed (table-over few fewer over e)) (passes, many) = absurd (none-above few fewer many)
+  states-refused (by-room passed (all-fits few fewer edges words e)) (passes, many) = absurd (none-above few fewer many)
 
   pub refused-words :
       Met range t room number → number ≡ 12 → (check-refusal t ≡ 0) × (Too-many-states range t room → ⊥) × Too-many-words range t room
+  unfolding Too-many-states Too-many-words
   refused-words (by-check e some few) same = absurd (omega arith)
-  refused-words (by-states passed many e) same = absurd (omega arith)
-  refused-words (by-words passed fit many e) same = (passed, fit, many)
-  refused-words (by-none passed fit fits e) same = absurd (omega arith)
+  refused-words (by-room passed (states-over many e)) same = absurd (omega arith)
+  refused-words (by-room passed (table-over few fewer many e)) same = (passed, none-above few fewer, many)
+  refused-words (by-room passed (all-fits few fewer edges words e)) same = absurd (omega arith)
 
   pub words-refused :
       Met range t room number → (check-refusal t ≡ 0) × (Too-many-states range t room → ⊥) × Too-many-words range t room → number ≡ 12
+  unfolding Too-many-states Too-many-words
   words-refused (by-check e some few) (passed, fit, many) = absurd (omega arith)
-  words-refused (by-states passed over e) (passes, fit, many) = absurd (fit over)
-  words-refused (by-words passed fit many e) case = e
-  words-refused (by-none passed fit fits e) (passes, fit-too, many) = absurd (fits many)
+  words-refused (by-room passed (states-over over e)) (passes, fit, many) = absurd (fit over)
+  words-refused (by-room passed (table-over few fewer many e)) case = e
+  words-refused (by-room passed (all-fits few fewer edges words e)) (passes, fit, many) = absurd (none-above edges words many)
 
   pub refused-none :
       Met range t room number → number ≡ 0 → (check-refusal t ≡ 0) × (Too-many-states range t room → ⊥) × (Too-many-words range t room → ⊥)
+  unfolding Too-many-states Too-many-words
   refused-none (by-check e some few) same = absurd (omega arith)
-  refused-none (by-states passed many e) same = absurd (omega arith)
-  refused-none (by-words passed fit many e) same = absurd (omega arith)
-  refused-none (by-none passed fit fits e) same = (passed, fit, fits)
+  refused-none (by-room passed (states-over many e)) same = absurd (omega arith)
+  refused-none (by-room passed (table-over few fewer many e)) same = absurd (omega arith)
+  refused-none (by-room passed (all-fits few fewer edges words e)) same = (passed, none-above few fewer, none-above edges words)
 
   pub none-refused :
       Met range t room number → (check-refusal t ≡ 0) × (Too-many-states range t room → ⊥) × (Too-many-words range t room → ⊥) → number ≡ 0
+  unfolding Too-many-states Too-many-words
   none-refused (by-check e some few) (passed, fit, fits) = absurd (omega arith)
-  none-refused (by-states passed over e) (passes, fit, fits) = absurd (fit over)
-  none-refused (by-words passed fit over e) (passes, fit-too, fits) = absurd (fits over)
-  none-refused (by-none passed fit fits e) case = e
+  none-refused (by-room passed (states-over over e)) (passes, fit, fits) = absurd (fit over)
+  none-refused (by-room passed (table-over few fewer over e)) (passes, fit, fits) = absurd (fits over)
+  none-refused (by-room passed (all-fits few fewer edges words e)) case = e

@@ -1,4 +1,5 @@
 -- `lassos::letters_below` meets its contract. The invariant: the letters so far are below k. Assumes nothing.
+use mathlib.Core.Bool.{true}
 use Prim.Native.Nat.{_-_}
 use native.Mathlib.Omega.{arith}
 use lib.Dec.{ltb}
@@ -11,7 +12,7 @@ use Rattle.lassos.proofs.letters_below.Statement.{statement}
 use Rattle.lassos.proofs.letters_below.Tie as tie
 
 abbrev Inv-loop : tie.InvT-loop
-Inv-loop part k i₀ i = Scan (λ j. ltb (getD part j 0) k) (length part) i
+Inv-loop part k i₀ i = Scan true (λ j. ltb (getD part j 0) k) (length part) i
 
 abbrev μ-loop : tie.MeasureT-loop
 μ-loop part k i₀ i = length part - i

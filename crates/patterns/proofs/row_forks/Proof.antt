@@ -1,10 +1,11 @@
 -- `patterns::row_forks` meets its contract. The invariant: no letter below `letter` has two targets. Assumes nothing.
 use mathlib.Core.Path.{sym}
+use mathlib.Core.Bool.{false}
 use Prim.Native.Nat.{_-_}
 use native.Mathlib.Omega.{arith}
 use borrow.Author.Needs.{needs}
 use lib.ListN.{getD}
-use Rattle.basics.proofs.Scans.{None-below, none-start}
+use Rattle.basics.proofs.Scans.{Scan, scan-start}
 use Rattle.patterns.specs.Shape.{two-targets}
 use Rattle.patterns.proofs.Forks.{row-hit, row-turn, row-end}
 use mir.Syntax.{w32}
@@ -13,13 +14,13 @@ use Rattle.patterns.proofs.row_forks.Statement.{statement}
 use Rattle.patterns.proofs.row_forks.Tie as tie
 
 abbrev Inv-loop : tie.InvT-loop
-Inv-loop letters row letter₀ letter = None-below (two-targets row) letters letter
+Inv-loop letters row letter₀ letter = Scan false (two-targets row) letters letter
 
 abbrev μ-loop : tie.MeasureT-loop
 μ-loop letters row letter₀ letter = letters - letter
 
 loop-holds : tie.Need-loop-holds Inv-loop μ-loop
-loop-holds c = none-start _ _
+loop-holds c = scan-start
 
 mul-if1 : tie.Need-mul-if1 Inv-loop μ-loop
 mul-if1 c = omega arith

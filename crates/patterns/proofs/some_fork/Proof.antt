@@ -1,20 +1,21 @@
 -- `patterns::some_fork` meets its contract. The invariant: no state below `state` forks. Assumes nothing.
 use mathlib.Core.Path.{sym}
+use mathlib.Core.Bool.{false}
 use Prim.Native.Nat.{_-_}
 use native.Mathlib.Omega.{arith}
-use Rattle.basics.proofs.Scans.{None-below, none-start}
+use Rattle.basics.proofs.Scans.{Scan, scan-start}
 use Rattle.patterns.proofs.Forks.{state-forked, states-hit, states-turn, states-end}
 use Rattle.patterns.proofs.some_fork.Statement.{statement}
 use Rattle.patterns.proofs.some_fork.Tie as tie
 
 abbrev Inv-loop : tie.InvT-loop
-Inv-loop masks shape states state₀ state = None-below (state-forked masks shape) states state
+Inv-loop masks shape states state₀ state = Scan false (state-forked masks shape) states state
 
 abbrev μ-loop : tie.MeasureT-loop
 μ-loop masks shape states state₀ state = states - state
 
 loop-holds : tie.Need-loop-holds Inv-loop μ-loop
-loop-holds c = none-start _ _
+loop-holds c = scan-start
 
 mul-state-forks : tie.Need-mul-state-forks Inv-loop μ-loop
 mul-state-forks c = let begun : tie.Start Inv-loop μ-loop = search in omega (arith, begun .pre .states)

@@ -51,7 +51,7 @@ use denote.Triple.Spec.{Meets, tripleOf}
 use denote.Triple.Table.{entered, cited}
 use denote.Triple.Walked.{says, Stays, stay-none, stay-none-slice, walkOf, goes-none, goes-none-slice, Walks, ends-at, walked, walk-meets}
 use denote.Exit.{yes}
-use Rattle.basics.proofs.Scans.{none-start, none-turn}
+use Rattle.basics.proofs.Scans.{scan-start, scan-more}
 use Rattle.basics.proofs.Booleans.{T-true, T-false, lt-ltb, ge-ltb, below-or}
 use Rattle.automata.specs.System.{number-of}
 use Rattle.ncsb.specs.Successors.{same}
@@ -207,7 +207,7 @@ module _ {M : Type 1} (𝓤 : URA M) (H : Heap 𝓤) (A : Atoms 𝓤) (W : Given
         (λ not-x. skips ! $ exec ! C Λ En counts (anyQ (Turned (k, le, s))) $
         assigns-last ! (bin ! (load ! (from ! (stop !)) (look ! 14 refl)) (lit ! tt) (record { fits = next-fits })) (from ! (stop !)) (store ! 14 refl (tt, record { fits = next-fits })) $
         forget ! 4 refl $ forget ! 6 refl $ forget ! 8 refl $ forget ! 10 refl $ forget ! 12 refl $
-        again ! Nearer At (k, le, s) (k + 1, next-le, none-turn _ _ k less (sym e ∙ T-false r not-x) s) nearer))))))
+        again ! Nearer At (k, le, s) (k + 1, next-le, scan-more s less (sym e ∙ T-false r not-x)) nearer))))))
       where
         small : k < 2 ^ 64
         small = let g = gn .0 in omega arith
@@ -250,7 +250,7 @@ module _ {M : Type 1} (𝓤 : URA M) (H : Heap 𝓤) (A : Atoms 𝓤) (W : Given
       looks-slice ! tt Q.the-row (Is Q.the-row) (shows 𝓤 H A Q.the-row) (LL.vals Q.the-type Q′.the-laws) (LL.tells Q.the-type Q′.the-laws) (LL.copy Q.the-type Q′.the-copy 𝓤 H A W) ys b o (λ q′.
       -- [the run; what shuts; the fractured borrow; true; res; what x owns; the locals]
       keep ! (0 ∷ 1 ∷ 2 ∷ 4 ∷ 6 ∷ 7 ∷ 8 ∷ 9 ∷ 10 ∷ 11 ∷ 12 ∷ 13 ∷ 14 ∷ 15 ∷ 16 ∷ 17 ∷ 18 ∷ 19 ∷ 20 ∷ 21 ∷ 22 ∷ 23 ∷ []) $
-      first ! $ blocks ! $ loops ! 𝓣 Nearer Nearer-wf (At 𝓣 known gn q′ l₀ l₁ l₂ l₃ l₄ l₅ l₆ l₇ l₈) (turns 𝓣 known gn q′ l₀ l₁ l₂ l₃ l₄ l₅ l₆ l₇ l₈) (0, zero-le, none-start _ _)))))))))))
+      first ! $ blocks ! $ loops ! 𝓣 Nearer Nearer-wf (At 𝓣 known gn q′ l₀ l₁ l₂ l₃ l₄ l₅ l₆ l₇ l₈) (turns 𝓣 known gn q′ l₀ l₁ l₂ l₃ l₄ l₅ l₆ l₇ l₈) (0, zero-le, scan-start)))))))))))
 
 module _ {M : Type 1} (𝓤 : URA M) (H : Heap 𝓤) (A : Atoms 𝓤) (W : Given 𝓤 H A) (mem : Memory → SProp 𝓤) (run : Routine → Fun 𝓤) (𝓣 : Tables 𝓤 H) (known : Triple 𝓤 (𝓣 .C #ncsb·equals) (Equals 𝓤 H A mem run)) where
   find-walks : Walks 𝓤 H A find.ended stayed (WpFn 𝓤 H (𝓣 .C) (𝓣 .Λ) code.function) (find.clauses 𝓤 H A mem run)

@@ -1,4 +1,5 @@
 -- `tables::flags_good` meets its contract: the loop tests the flags of one state after the other. Assumes nothing.
+use mathlib.Core.Bool.{true}
 use borrow.Author.Needs.{needs}
 use native.Mathlib.Omega.{arith}
 use Prim.Native.Nat.{_-_}
@@ -10,7 +11,7 @@ use Rattle.tables.proofs.flags_good.Statement.{statement}
 use Rattle.tables.proofs.flags_good.Tie as tie
 
 abbrev Inv-loop : tie.InvT-loop
-Inv-loop table n q₀ q = Scan (flag-good table) (n-of table) q
+Inv-loop table n q₀ q = Scan true (flag-good table) (n-of table) q
 
 abbrev μ-loop : tie.MeasureT-loop
 μ-loop table n q₀ q = n - q

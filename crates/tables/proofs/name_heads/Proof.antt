@@ -1,4 +1,5 @@
 -- `tables::name_heads` meets its contract: the loop tests and marks the head of one state after the other. Assumes nothing.
+use mathlib.Core.Bool.{true}
 use borrow.Author.Needs.{needs}
 use native.Mathlib.Omega.{arith}
 use Prim.Native.Nat.{_-_}
@@ -13,7 +14,7 @@ use Rattle.tables.proofs.name_heads.Tie as tie
 
 abbrev Inv-loop : tie.InvT-loop
 Inv-loop table seen₀ n m names₀ q₀ seen names q =
-    Scan (head-good table) (n-of table) q × Marked mark-words (head-of table) q (m-of table) names seen₀ seen
+    Scan true (head-good table) (n-of table) q × Marked mark-words (head-of table) q (m-of table) names seen₀ seen
 
 abbrev μ-loop : tie.MeasureT-loop
 μ-loop table seen₀ n m names₀ q₀ seen names q = n - q

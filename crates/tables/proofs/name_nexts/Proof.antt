@@ -1,4 +1,5 @@
 -- `tables::name_nexts` meets its contract: the loop tests and marks the next of one record after the other. Assumes nothing.
+use mathlib.Core.Bool.{true}
 use borrow.Author.Needs.{needs}
 use native.Mathlib.Omega.{arith}
 use native.Mathlib.Numerals.{add-one}
@@ -15,7 +16,7 @@ use Rattle.tables.proofs.name_nexts.Tie as tie
 
 abbrev Inv-loop : tie.InvT-loop
 Inv-loop table seen₀ n m names₀ i₀ seen names i =
-    Scan (next-good table) (m-of table) i × Marked mark-words (λ j. next-of table (suc j)) i (m-of table) names seen₀ seen
+    Scan true (next-good table) (m-of table) i × Marked mark-words (λ j. next-of table (suc j)) i (m-of table) names seen₀ seen
 
 abbrev μ-loop : tie.MeasureT-loop
 μ-loop table seen₀ n m names₀ i₀ seen names i = m - i

@@ -1,4 +1,5 @@
 -- `tables::records_good` meets its contract: the loop tests letter and target of one record after the other. Assumes nothing.
+use mathlib.Core.Bool.{true}
 use borrow.Author.Needs.{needs}
 use native.Mathlib.Omega.{arith}
 use Prim.Native.Nat.{_-_}
@@ -10,7 +11,7 @@ use Rattle.tables.proofs.records_good.Statement.{statement}
 use Rattle.tables.proofs.records_good.Tie as tie
 
 abbrev Inv-loop : tie.InvT-loop
-Inv-loop table n k m i₀ i = Scan (record-good table) (m-of table) i
+Inv-loop table n k m i₀ i = Scan true (record-good table) (m-of table) i
 
 abbrev μ-loop : tie.MeasureT-loop
 μ-loop table n k m i₀ i = m - i

@@ -2,7 +2,7 @@
 use mathlib.Core.Path.{refl, _∙_}
 use Prim.Native.Nat.{_≤_, _-_}
 use native.Mathlib.Omega.{arith}
-use Rattle.automata.specs.Decision.{tabulate}
+use Rattle.basics.specs.Tabulate.{tabulate}
 use Rattle.automata.specs.System.{add-all}
 use Rattle.automata.proofs.Exploring.{add-all-more}
 use Rattle.automata.proofs.Growth.{grows-all}

@@ -1,7 +1,8 @@
 -- `find` is a scan of the first records. The invariant: none of those passed is x. Assumes nothing.
+use mathlib.Core.Bool.{false}
 use Prim.Native.Nat.{_-_}
 use native.Mathlib.Omega.{arith}
-use Rattle.basics.proofs.Scans.{None-below, none-start, none-turn}
+use Rattle.basics.proofs.Scans.{Scan, scan-start, scan-more}
 use Rattle.automata.proofs.Members.{number-met, number-missed}
 use Rattle.ncsb.specs.Successors.{same}
 use Rattle.record_words.specs.Record.{quadruple-at, records-of}
@@ -11,14 +12,14 @@ use Rattle.complement.proofs.records.find.Statement.{statement}
 use Rattle.complement.proofs.records.find.Tie as tie
 
 abbrev Inv-loop : tie.InvT-loop
-Inv-loop sets count x number₀ number = None-below (λ i. same x (quadruple-at sets i)) count number
+Inv-loop sets count x number₀ number = Scan false (λ i. same x (quadruple-at sets i)) count number
 
 abbrev μ-loop : tie.MeasureT-loop
 μ-loop sets count x number₀ number = count - number
 
 -- THE NEEDS
 loop-holds : tie.Need-loop-holds Inv-loop μ-loop
-loop-holds c = none-start _ _
+loop-holds c = scan-start
 
 load-requires : tie.Need-load-requires Inv-loop μ-loop
 load-requires c κs =
@@ -37,7 +38,7 @@ returns c =
     let turn : tie.At-loop Inv-loop μ-loop = search in
     let start : tie.Start Inv-loop μ-loop = search in
     let args = start .args in
-    number-met same (args .x) _ _ (quadruple-at (args .sets .now)) (one .loop-test .taken) (turn .loop .inv .none)
+    number-met same (args .x) _ _ (quadruple-at (args .sets .now)) (one .loop-test .taken) (turn .loop .inv .passed)
     (compared (args .x) (at .equals .ensures) (loaded .load .ensures) (c .if1 .taken))
 
 add-number : tie.Need-add-number Inv-loop μ-loop
@@ -53,8 +54,8 @@ loop-again c =
     let one : tie.In-loop Inv-loop μ-loop = search in
     let turn : tie.At-loop Inv-loop μ-loop = search in
     let start : tie.Start Inv-loop μ-loop = search in
-    none-turn _ _ _ (one .loop-test .taken)
-    (compared (start .args .x) (at .equals .ensures) (loaded .load .ensures) (c .if1 .left)) (turn .loop .inv)
+    scan-more (turn .loop .inv) (one .loop-test .taken)
+    (compared (start .args .x) (at .equals .ensures) (loaded .load .ensures) (c .if1 .left))
 
 returns-2 : tie.Need-returns-2 Inv-loop μ-loop
 unfolding looked-up records-of
@@ -63,7 +64,7 @@ returns-2 c =
     let begun : tie.Start Inv-loop μ-loop = search in
     let args = begun .args in
     let all = c .loop-test .left in
-    number-missed same (args .x) _ (quadruple-at (args .sets .now)) (λ i m. at-loop .loop .inv .none i (omega arith))
+    number-missed same (args .x) _ (quadruple-at (args .sets .now)) (λ i m. at-loop .loop .inv .passed i (omega arith))
 
 pub find-spec : {M : Type 1} → statement M
 find-spec =

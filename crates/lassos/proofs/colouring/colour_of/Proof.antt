@@ -1,4 +1,4 @@
--- `lassos::colouring::colour_of` meets its contract: a shift by pairs of bits divides by a power of four. Assumes nothing.
+-- `lassos::colouring::colour_of` meets its contract: a shift by as many bits as the colours below it take divides by a power of their number. Assumes nothing.
 use borrow.Author.Needs.{needs}
 use Rattle.lassos.specs.Width.{width-16}
 use Rattle.lassos.proofs.Stores.{colour-read}
