@@ -15,7 +15,8 @@ use Rattle.ncsb.specs.Array.{from-array, asks, blocked-by, nth-successor}
 use Rattle.ncsb.specs.Successors.{quadruple, same, blocked, successors}
 use Rattle.ncsb.specs.declared.Asked.{Asked}
 use Rattle.ncsb.specs.declared.Quadruple.{Quadruple}
-use Rattle.ncsb.proofs.Choices.{blocked-same, none-blocked, choices-count, choice-successor}
+use Rattle.ncsb.proofs.Choices.{blocked-same, choices-count, choice-successor}
+use Rattle.ncsb.proofs.Successors.{successors-none}
 use Rattle.patterns.specs.declared.Shape.{Shape}
 use Rattle.complement.specs.Build.{Lent}
 use Rattle.complement.specs.Found.{quadruples, within, Turns, array-moves}
@@ -38,7 +39,7 @@ module _
   letter-blocked e =
       record {
         from = λ b shows.
-            rw (none-blocked m (shape .marks) (shape .inner) x c (sym stops ∙ e)) (within shows);
+            rw (successors-none (from-array m 0 (shape .marks) (shape .inner)) x c (sym stops ∙ e)) (within shows);
       }
 
   module _ (goes : stopped ≡ false) {choices : ℕ} (counted : choices ≡ 2 ^ size set-states (asked .free)) where

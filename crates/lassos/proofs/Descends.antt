@@ -11,7 +11,7 @@ use Rattle.tables.specs.Access.{State-asks, Record-asks}
 use Rattle.tables.specs.Table.{n-of, m-of, head-of, target-of, next-of}
 use Rattle.lassos.specs.Graph.{Arc, Node-reached}
 use Rattle.lassos.specs.Product.{Chain-to, node-letter, node-base, product-graph}
-use Rattle.lassos.specs.Search.{colour, stacked, cursor, risen, entered, advanced, Place, Search}
+use Rattle.lassos.specs.Search.{colour, stacked, cursor, risen, entered, advanced, Stack-place, Search}
 use Rattle.lassos.specs.Steps.{Raise-asks, Node-asks, Chain-asks, Next-white, White-at, no-white, white-at, Enter-asks, Top-asks, Descended, deeper, all-visited}
 use Rattle.lassos.specs.Width.{Width, white, grey}
 use Rattle.lassos.proofs.Chains.{reads-record, chain-inside}
@@ -47,7 +47,7 @@ module _ {wd : Width} {t u v w : List ℕ} {states size x depth : ℕ} (a : Top-
   cursor-is = rw (a .given .sized)
 
   -- its place: its node, and what its cursor holds
-  top-place : Place wd (product-graph t u v) w x (getD w (2 * size + (depth - 1)) 0)
+  top-place : Stack-place wd (product-graph t u v) w x (getD w (2 * size + (depth - 1)) 0)
   top-place = rw (a .top, cursor-is) (a .search .stack .places (depth - 1) top-index)
 
   pub top-inside : x < product-graph t u v .size

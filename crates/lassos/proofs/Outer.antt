@@ -13,7 +13,7 @@ use Rattle.basics.proofs.Bounded.{one-entry-more}
 use Rattle.basics.proofs.Star.{star-keeps, star-star}
 use Rattle.basics.proofs.Upward.{upward}
 use Rattle.lassos.specs.Graph.{Graph, Arc, Bounded, Way, Node-reached, Cycle, Found}
-use Rattle.lassos.specs.Search.{colour, stacked, cursor, whites, Place, Stack, Red-closed, Search, Grows, Redder}
+use Rattle.lassos.specs.Search.{colour, stacked, cursor, whites, Stack-place, Stack, Red-closed, Search, Grows, Redder}
 use Rattle.lassos.specs.Width.{Width, white, grey, black, red}
 use Rattle.lassos.proofs.Colours.{coloured-less, grows-grows, grows-whites, stays-visited, stays-grey, was-grey, was-visited, was-finished}
 use Rattle.lassos.proofs.Stores.{Recolours, Enters, Advances}
@@ -33,7 +33,7 @@ pub record Left-off (wd : Width) (g : Graph) (w w′ : List ℕ) (d : ℕ) : Typ
 -- THE STACK, or the lower part of it: the same nodes, each at a place again
 stack-same :
     {wd : Width} {g : Graph} {w w′ : List ℕ} {d d′ : ℕ} → Stack wd g w d → d′ ≤ d → ((i : ℕ) → i < d′ → stacked (g .size) w′ i ≡ stacked (g .size) w i) →
-    ((i : ℕ) → i < d′ → Place wd g w′ (stacked (g .size) w i) (cursor (g .size) w′ i)) → Stack wd g w′ d′
+    ((i : ℕ) → i < d′ → Stack-place wd g w′ (stacked (g .size) w i) (cursor (g .size) w′ i)) → Stack wd g w′ d′
 stack-same h l same place =
     record {
       places = λ i b. rw (same i b) (place i b);
@@ -43,7 +43,7 @@ stack-same h l same place =
 
 module _ {wd : Width} {g : Graph} (closed : Bounded g) where
   -- a place stays one where visited nodes stay visited
-  place-grows : {w w′ : List ℕ} {x r : ℕ} → Grows wd (g .size) w w′ → Place wd g w x r → Place wd g w′ x r
+  place-grows : {w w′ : List ℕ} {x r : ℕ} → Grows wd (g .size) w w′ → Stack-place wd g w x r → Stack-place wd g w′ x r
   place-grows {x = x} e p =
       record {
         inside = p .inside;
@@ -155,7 +155,7 @@ module _ {wd : Width} {g : Graph} (closed : Bounded g) where
         ((y : ℕ) → g .Ahead x (cursor (g .size) w p) y → (grey ≤ colour wd w y) ⊎ g .Ahead x r y) → Search wd g w′ d
     advance-keeps {x} at-x small fewer passed =
         let fits : d ≤ g .size = (let k = h .room in omega arith) in
-        let moved : Place wd g w x (cursor (g .size) w p) → Place wd g w x r =
+        let moved : Stack-place wd g w x (cursor (g .size) w p) → Stack-place wd g w x r =
         λ q.
         (record {
           inside = q .inside;

@@ -57,7 +57,7 @@ unfoldable pub reddened : Width → (size : ℕ) → (words : List ℕ) → (nod
 reddened wd n w x i = set (risen wd w x 1) (3 * n + i) x
 
 -- a place of the stack: a node, and the record of its chain that its cursor stands at; its targets are visited or still ahead
-pub record Place (wd : Width) (g : Graph) (w : List ℕ) (node number : ℕ) : Type 0 where
+pub record Stack-place (wd : Width) (g : Graph) (w : List ℕ) (node number : ℕ) : Type 0 where
   pub inside : node < g .size
   pub number-to : number ≤ g .last
   pub on-chain : (y : ℕ) → g .Ahead node number y → Arc g node y
@@ -65,7 +65,7 @@ pub record Place (wd : Width) (g : Graph) (w : List ℕ) (node number : ℕ) : T
 
 -- the stack: so many places, their nodes distinct, each with an edge to the next
 pub record Stack (wd : Width) (g : Graph) (w : List ℕ) (depth : ℕ) : Type 0 where
-  pub places : (i : ℕ) → i < depth → Place wd g w (stacked (g .size) w i) (cursor (g .size) w i)
+  pub places : (i : ℕ) → i < depth → Stack-place wd g w (stacked (g .size) w i) (cursor (g .size) w i)
   pub distinct : (i j : ℕ) → i < j → j < depth → stacked (g .size) w i ≡ stacked (g .size) w j → ⊥
   pub linked : (i : ℕ) → suc i < depth → Arc g (stacked (g .size) w i) (stacked (g .size) w (suc i))
 

@@ -10,6 +10,7 @@ use Rattle.basics.proofs.Booleans.{eq-eqb, ne-eqb}
 use Rattle.automata.specs.System.{an-edge}
 use Rattle.tables.specs.Access.{Record-asks}
 use Rattle.tables.specs.Table.{flags-of, letter-of, target-of}
+use Rattle.tables.proofs.Laws.{record-inside}
 use Rattle.ncsb.specs.declared.Quadruple.{Quadruple}
 use Rattle.record_words.specs.Record.{quadruple-at}
 use Rattle.complement.specs.declared.Counts.{Counts}
@@ -68,8 +69,7 @@ pub record Sourcing (w : List ℕ) (m : ℕ) (o : List ℕ) (at i source place :
 -- record i + 1 is one of them
 pub record-asked : {w : List ℕ} {n m i : ℕ} → Sourced w n m → i < m → Record-asks w n (i + 1)
 record-asked asked l =
-    let e = asked .records in
-    record { counted = asked .asks .counted; from-one = omega arith; number-to = omega arith; sized = asked .asks .sized }
+    let e = asked .records in record-inside (asked .asks .counted) (asked .asks .sized) (omega arith)
 
 pub sourcing-start : {w o : List ℕ} {m at x : ℕ} → at ≤ length o → x ≡ first-source w 0 → Sourcing w m o at 0 x at o
 unfolding source-of

@@ -1,7 +1,7 @@
 -- The choices of a step, one by one: the successor for a choice is the successor with that number, and there are as many of them. The same of
 -- initial quadruples. All of it over the table by state and by letter that the code reads. Assumes nothing.
 use mathlib.Core.Path.{_≡_, refl, sym, _∙_, ap}
-use mathlib.Core.Bool.{true, false}
+use mathlib.Core.Bool.{false}
 use mathlib.Core.List.{List, []}
 use Prim.Native.Nat.{ℕ, _^_, _≤_, _<_}
 use native.Mathlib.Omega.{arith}
@@ -16,7 +16,7 @@ use Rattle.ncsb.specs.declared.Quadruple.{Quadruple}
 use Rattle.ncsb.proofs.Array.{blocked-asked, nth-initial-at, nth-successor-at}
 use Rattle.ncsb.proofs.Initials.{initials-length}
 use Rattle.ncsb.proofs.Parting.{choices-length, choice-there}
-use Rattle.ncsb.proofs.Successors.{successors-none, successors-some, successors-length}
+use Rattle.ncsb.proofs.Successors.{successors-some, successors-length}
 
 pub choices-fit : (s : ℕ) → 2 ^ size set-states s ≤ 2 ^ set-states
 choices-fit s = pow-mono (size-le set-states s)
@@ -28,9 +28,6 @@ module _ (m : List (List ℕ)) (f q2 : ℕ) (x : Quadruple) (c : ℕ) where
       blocked-by (from-array m 0 f 0) x c a ≡ blocked (from-array m 0 f q2) x c
   unfolding from-array blocked-by dead-end
   blocked-same e = rw e (blocked-asked (from-array m 0 f q2) x c)
-
-  pub none-blocked : blocked (from-array m 0 f q2) x c ≡ true → successors (from-array m 0 f q2) x c ≡ []
-  none-blocked = successors-none (from-array m 0 f q2) x c
 
   pub choices-count :
       {a : Asked} → a ≡ asks (from-array m 0 f q2) x c → blocked (from-array m 0 f q2) x c ≡ false →

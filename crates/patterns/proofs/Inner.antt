@@ -14,7 +14,7 @@ use Rattle.automata.specs.Automaton.{Automaton, Closed}
 use Rattle.sets.specs.Sets.{has}
 use Rattle.sets.proofs.Members.{has-set-of, set-of-lt, set-of-make, has-lt}
 use Rattle.patterns.specs.Pattern.{accepting-states, grown, reached-in, inner-of}
-use Rattle.patterns.specs.Reach.{Leads, Reaches, From-accepting}
+use Rattle.patterns.specs.Reach.{Some-edge, Reaches, From-accepting}
 
 module _ (a : Automaton) where
   -- an edge leads from the set to the state
@@ -28,7 +28,7 @@ module _ (a : Automaton) where
       any-make (a .states) (λ p. has s p && any (a .letters) (λ c. a .edge p c q)) p (ends .0)
       (and-make h (any-make (a .letters) (λ c. a .edge p c q) c (ends .1) e))
 
-  pub led-find : (s q : ℕ) → led s q ≡ true → (p : ℕ) × (has s p ≡ true) × Leads a p q
+  pub led-find : (s q : ℕ) → led s q ≡ true → (p : ℕ) × (has s p ≡ true) × Some-edge a p q
   unfolding led
   led-find s q h =
       let r = any-find (a .states) (λ p. has s p && any (a .letters) (λ c. a .edge p c q)) h in
@@ -83,7 +83,7 @@ module _ (a : Automaton) where
     inner-star =
         grown-star (a .states) (λ r q. has (after r) q)
         (λ r q l h. has-grown (after r) q ∙ and-make (lt-ltb l) (or-l (led (after r) q) h))
-        (Leads a) (λ p q (c, e). closed .edge p c q e .2)
+        (Some-edge a) (λ p q (c, e). closed .edge p c q e .2)
         (λ r p q _ h (c, e).
         has-grown (after r) q
         ∙ and-make (lt-ltb (closed .edge p c q e .2)) (or-r (has (after r) q) (led-make closed (after r) p c q h e)))

@@ -5,11 +5,11 @@ use mathlib.Core.Bool.{Bool, true, false, _&&_, _||_, not, cond}
 use mathlib.Core.Logic.{inl, inr}
 use Prim.Native.Nat.{ℕ, zero, suc, _+_, _-_, _*_, _/_, _%_, _^_, _≤_, _<_, min, max}
 use native.Mathlib.Omega.{arith}
-use native.Mathlib.Nat.{pow-suc, div-div-eq-div-mul, div-eq-of-lt, one-mul, pow-succ', div-one, add-comm, add-zero, zero-add, lt-of-lt-of-le, lt-of-le-of-lt, sub-le}
+use native.Mathlib.Nat.{pow-suc, div-div-eq-div-mul, div-eq-of-lt, pow-succ', div-one, add-comm, zero-add, lt-of-lt-of-le, lt-of-le-of-lt, sub-le}
 use lib.Dec.{eqb, ltb, eqb·zero-suc, eqb·suc-zero, eqb·suc-suc}
 use lib.Arith.{mod-mul}
 use lib.Pow.{pow-pos, pow-mono}
-use lib.Bits.{bitAnd, bitOr, and-step, or-step, and-le-l, or-lt, or-shifted, or-disjoint}
+use lib.Bits.{bitAnd, bitOr, and-step, or-step, and-le-l, or-lt, or-disjoint}
 use Rattle.basics.specs.Bounded.{any}
 use Rattle.basics.proofs.Booleans.{either, and-r, and-make, clash, eqb-eq, eq-eqb, eqb-ne, ne-eqb, lt-ltb, ge-ltb, or-none, same-truth, same-or, below-or, below-suc}
 use Rattle.basics.proofs.Bounded.{search-to}
@@ -165,12 +165,6 @@ has-nonzero s q h e = clash h (empty-no s q e)
 pub has-some : (k s : ℕ) → s < 2 ^ k → (s ≡ 0 → ⊥) → (q : ℕ) × (q < k) × (has s q ≡ true)
 has-some k s l n = elim (search-to k (has s)) [ inl r ↦ r | inr none ↦ absurd (n (empty k s l none)) ]
 
--- a set below 2 ^ k with the state k added
-pub has-top : (k s q : ℕ) → s < 2 ^ k → has (2 ^ k + s) q ≡ (eqb k q || has s q)
-has-top k s q l =
-    let e : bitOr (2 ^ k) s ≡ 2 ^ k + s = rw (one-mul (2 ^ k)) at (or-shifted 1 k s l) in
-    cc (e, has-or (2 ^ k) s q, has-single k q)
-
 -- two sets have no state in common exactly if their meet is empty
 pub apart-make : (a b : ℕ) → ((q : ℕ) → has a q ≡ true → has b q ≡ false) → bitAnd a b ≡ 0
 apart-make a b apart =
@@ -199,6 +193,10 @@ has-put true t s q out =
     has-sum (2 ^ t) s (λ p m. rw (← eqb-eq t p (sym (has-single t p) ∙ m)) out) q in cc (h, has-single t q)
 has-put false t s q out = rw (zero-add s)
 
+-- state k put into a set of smaller ones
+pub has-top : (k s q : ℕ) → s < 2 ^ k → has (2 ^ k + s) q ≡ (eqb k q || has s q)
+has-top k s q l = has-put true k s q (has-out k s k l (omega arith))
+
 mod-low : (k s : ℕ) → s % 2 ^ suc k ≡ s / 2 % 2 ^ k * 2 + s % 2
 mod-low k s = rw (pow-suc 2 k) (mod-mul s (pow-pos k) (omega arith))
 
@@ -223,17 +221,13 @@ set-of-lt (suc k) f =
     let p = pow-suc 2 k in
     elim (either (f k)) [ inl e ↦ rw e (omega arith) | inr e ↦ rw e (omega arith) ]
 
--- one more state, where it passes
-has-added : (k s : ℕ) (b : Bool) (q : ℕ) → s < 2 ^ k → has (s + cond b (2 ^ k) 0) q ≡ (b && eqb k q || has s q)
-has-added k s true q l = rw (add-comm s (2 ^ k)) (has-top k s q l)
-has-added k s false q l = rw (add-zero s)
-
 pub has-set-of : (k : ℕ) (f : ℕ → Bool) (q : ℕ) → has (set-of k f) q ≡ (ltb q k && f q)
 unfolding set-of
 has-set-of zero f q = let e : ltb q 0 ≡ false = ge-ltb {m = q} {n = 0} (omega arith) in rw e (has-zero q)
 has-set-of (suc k) f q =
     let ih = has-set-of k f q in
-    let a = has-added k (set-of k f) (f k) q (set-of-lt k f) in
+    let a = has-put (f k) k (set-of k f) q (has-out k (set-of k f) k (set-of-lt k f) (omega arith)) in
+    let turned = add-comm (set-of k f) (cond (f k) (2 ^ k) 0) in
     elim (either (eqb k q)) [
       | inl e ↦
           let same = eqb-eq k q e in

@@ -4,7 +4,7 @@ use mathlib.Core.Path.{_≡_, refl, sym, _∙_}
 use mathlib.Core.Bool.{Bool, true, false, _&&_, _||_, not}
 use mathlib.Core.List.{List}
 use mathlib.Core.Logic.{_⊎_, inl, inr}
-use Prim.Native.Nat.{ℕ, zero, suc, _-_, _^_, _≤_, _<_}
+use Prim.Native.Nat.{ℕ, zero, suc, _+_, _-_, _^_, _≤_, _<_}
 use native.Mathlib.Omega.{arith}
 use lib.Dec.{ltb, leb, eqb}
 use lib.ListN.{length, getD, List·getD-eq-default}
@@ -17,7 +17,7 @@ use Rattle.basics.proofs.Bounded.{each-all, each-make}
 use Rattle.basics.proofs.Refusing.{passed, or-else-none}
 use Rattle.basics.proofs.Upward.{from-one}
 use Rattle.automata.specs.Automaton.{Closed}
-use Rattle.tables.specs.Access.{State-asks, Record-asks}
+use Rattle.tables.specs.Access.{Sized, State-asks, Record-asks}
 use Rattle.tables.proofs.Places.{Word-place, states-place, letters-place, records-place, flags-place, head-place, letter-place, target-place, next-place, beyond-place, place-of, letter-at, target-at, next-at}
 use Rattle.tables.specs.Table.{most-letters, Limits, Wider, Range-fits, pattern-range, wide-range, table-words, n-of, k-of, m-of, flags-of, head-of, letter-of, target-of, next-of, is-initial, chain-has, edge, meaning, sizes-refusal, flag-good, flags-good, records-good, named, head-good, heads-good, leads-on, nexts-good, chains-good, table-refusal}
 
@@ -194,6 +194,10 @@ pattern-is-wide t = passes-wider pattern-range wide-range t wide-patterns
 pub wide-fits : Range-fits word-bits wide-range
 unfolding wide-range
 wide-fits = record { states-fit = omega arith; records-fit = omega arith; letters-fit = omega arith }
+
+-- a record that a loop from 0 on has come to
+pub record-inside : {t : List ℕ} {states i : ℕ} → states ≡ n-of t → Sized t → i < m-of t → Record-asks t states (i + 1)
+record-inside e sized l = record { counted = e; from-one = omega arith; number-to = omega arith; sized = sized }
 
 -- what reading a state or a record of a table that passes asks
 module _ (r : Limits) (t : List ℕ) (passes : table-refusal r t ≡ 0) where

@@ -10,6 +10,7 @@ use Rattle.basics.proofs.Scans.{Scan, scan-start, scan-more}
 use Rattle.tables.specs.Marks.{mark-words, Mark-asks, Marked}
 use Rattle.tables.specs.Table.{m-of, next-of, next-good}
 use Rattle.tables.proofs.Checks.{next-fails, next-passes, next-small}
+use Rattle.tables.proofs.Laws.{record-inside}
 use Rattle.tables.proofs.Marking.{markable, marked-start, marked-few, marked-more, marked-twice, names-wrong, names-all}
 use Rattle.tables.proofs.name_nexts.Statement.{statement}
 use Rattle.tables.proofs.name_nexts.Tie as tie
@@ -61,12 +62,8 @@ add-next-of c = omega arith
 next-of-requires : tie.Need-next-of-requires Inv-loop μ-loop
 next-of-requires c κs =
     let after-states-of : tie.After-states-of Inv-loop μ-loop = search in
-    record {
-      counted = after-states-of .states-of .ensures .is;
-      from-one = omega arith;
-      number-to = omega arith;
-      sized = omega arith;
-    }
+    let start : tie.Start Inv-loop μ-loop = search in
+    record-inside (after-states-of .states-of .ensures .is) (start .pre .0) (omega arith)
 
 add-next-good : tie.Need-add-next-good Inv-loop μ-loop
 add-next-good c = omega arith

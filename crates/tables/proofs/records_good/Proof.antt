@@ -7,6 +7,7 @@ use denote.Ref.{now}
 use Rattle.basics.proofs.Scans.{Scan, scan-start, scan-more, scan-done}
 use Rattle.tables.specs.Table.{m-of, record-good, records-good}
 use Rattle.tables.proofs.Checks.{letter-bad, target-bad, record-passes}
+use Rattle.tables.proofs.Laws.{record-inside}
 use Rattle.tables.proofs.records_good.Statement.{statement}
 use Rattle.tables.proofs.records_good.Tie as tie
 
@@ -34,12 +35,8 @@ add-letter-of c = omega arith
 letter-of-requires : tie.Need-letter-of-requires Inv-loop μ-loop
 letter-of-requires c κs =
     let after-states-of : tie.After-states-of Inv-loop μ-loop = search in
-    record {
-      counted = after-states-of .states-of .ensures .is;
-      from-one = omega arith;
-      number-to = omega arith;
-      sized = omega arith;
-    }
+    let start : tie.Start Inv-loop μ-loop = search in
+    record-inside (after-states-of .states-of .ensures .is) (start .pre) (omega arith)
 
 returns : tie.Need-returns Inv-loop μ-loop
 returns c =
@@ -59,12 +56,8 @@ add-target-of c = omega arith
 target-of-requires : tie.Need-target-of-requires Inv-loop μ-loop
 target-of-requires c κs =
     let after-states-of : tie.After-states-of Inv-loop μ-loop = search in
-    record {
-      counted = after-states-of .states-of .ensures .is;
-      from-one = omega arith;
-      number-to = omega arith;
-      sized = omega arith;
-    }
+    let start : tie.Start Inv-loop μ-loop = search in
+    record-inside (after-states-of .states-of .ensures .is) (start .pre) (omega arith)
 
 returns-2 : tie.Need-returns-2 Inv-loop μ-loop
 returns-2 c =
