@@ -47,11 +47,11 @@ pub record Explored {X : Type 0} (s : System X) (limit : ℕ) (b : Built X) : Ty
   pub edges : b .edges ≡ edges-of s (b .states) limit
 
 -- EDGES BY RECORD NUMBER when one more is appended
-edge-kept : (es more : List Edge) (r : ℕ) → r < length es → edge-at (es ++ more) r ≡ edge-at es r
+pub edge-kept : (es more : List Edge) (r : ℕ) → r < length es → edge-at (es ++ more) r ≡ edge-at es r
 unfolding edge-at
 edge-kept es more r l = List·getD-append es more (an-edge 0 0 0) r l
 
-edge-last : (es : List Edge) (e : Edge) → edge-at (es ++ (e ∷ [])) (length es) ≡ e
+pub edge-last : (es : List Edge) (e : Edge) → edge-at (es ++ (e ∷ [])) (length es) ≡ e
 unfolding edge-at
 edge-last es e = getD-append-seam es e [] (an-edge 0 0 0)
 

@@ -7,9 +7,10 @@ use Prim.Native.Nat.{ℕ, zero, suc, _+_, _≤_, _<_}
 use native.Mathlib.Omega.{arith}
 use native.Mathlib.Nat.{zero-add, add-zero, suc-add, add-suc}
 use Rattle.basics.specs.Bounded.{any}
+use Rattle.basics.specs.Least.{least}
 use Rattle.basics.proofs.Booleans.{and-l, and-r, and-make, same-or}
 use Rattle.basics.proofs.Bounded.{any-find, any-make}
-use Rattle.basics.proofs.Least.{first, first-holds, first-below}
+use Rattle.basics.proofs.Least.{least-holds, least-below}
 use Rattle.automata.specs.Automaton.{Automaton, Closed}
 
 -- some path from an initial state is in the state at the place
@@ -19,7 +20,7 @@ reached a w (suc i) q = any (a .states) (λ p. reached a w i p && a .edge p (w i
 
 -- the first target, or no state
 pub next : Automaton → (letter state : ℕ) → ℕ
-next a c p = first (a .states) (a .edge p c)
+next a c p = least (a .states) (a .edge p c)
 
 -- where the path that begins at a place and a state is after some steps
 unfoldable pub trace : Automaton → (word : ℕ → ℕ) → (place state steps : ℕ) → ℕ
@@ -47,11 +48,11 @@ module _ {a : Automaton} (closed : Closed a) (w : ℕ → ℕ) where
   -- the next state of a path that goes on
   pub next-edge : (c p : ℕ) → next a c p < a .states → a .edge p c (next a c p) ≡ true
   unfolding next
-  next-edge c p l = first-holds (a .states) (a .edge p c) l
+  next-edge c p l = least-holds (a .states) (a .edge p c) l
 
   pub next-found : (c p q : ℕ) → a .edge p c q ≡ true → next a c p < a .states
   unfolding next
-  next-found c p q e = first-below (a .states) (a .edge p c) q (closed .edge p c q e .2) e
+  next-found c p q e = least-below (a .states) (a .edge p c) q (closed .edge p c q e .2) e
 
   -- a path goes on from where it is
   pub trace-add : (i q m k : ℕ) → trace a w i q (m + k) ≡ trace a w (i + m) (trace a w i q m) k

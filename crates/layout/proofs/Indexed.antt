@@ -23,7 +23,7 @@ pub record Indexed (a : Automaton) (es : List Edge) (w : List ℕ) : Type 0 wher
   pub letters : getD w 1 0 ≡ a .letters
   pub records : getD w 2 0 ≡ length es
   pub flags : (i : ℕ) → i < a .states → getD w (3 + 2 * i) 0 ≡ flags-word a i
-  pub head : (i : ℕ) → i < a .states → getD w (4 + 2 * i) 0 ≡ first-record 1 i es
+  pub head : (i : ℕ) → i < a .states → getD w (4 + 2 * i) 0 ≡ first-record i es
   pub letter : (r : ℕ) → r < length es → getD w (3 + 2 * a .states + 3 * r) 0 ≡ edge-at es r .letter
   pub target : (r : ℕ) → r < length es → getD w (4 + 2 * a .states + 3 * r) 0 ≡ edge-at es r .target
   pub next : (r : ℕ) → r < length es → getD w (5 + 2 * a .states + 3 * r) 0 ≡ next-record es r
@@ -47,7 +47,7 @@ module _ {a : Automaton} {es : List Edge} {w : List ℕ} (x : Indexed a es w) wh
   unfolding flags-of
   indexed-flags = x .flags
 
-  pub indexed-head : (i : ℕ) → i < a .states → head-of w i ≡ first-record 1 i es
+  pub indexed-head : (i : ℕ) → i < a .states → head-of w i ≡ first-record i es
   unfolding head-of
   indexed-head = x .head
 

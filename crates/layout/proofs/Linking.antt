@@ -9,6 +9,7 @@ use native.Mathlib.Omega.{arith}
 use lib.Dec.{ltb, eqb}
 use lib.ListN.{length, getD, drop, set, length-set}
 use lib.Seq.{getD-set-same, getD-set-other, getD-drop}
+use Rattle.basics.specs.Least.{least}
 use Rattle.basics.specs.Tabulate.{tabulate}
 use Rattle.basics.proofs.Booleans.{either, and-make, and-false-l, and-false-r, eqb-eq, eq-eqb, eqb-ne, ne-eqb, ltb-lt, lt-ltb, ge-ltb, same-or}
 use Rattle.basics.proofs.Tabulate.{tabulate-length, tabulate-at, tabulate-snoc}
@@ -107,9 +108,9 @@ moved-source w n m e l =
 -- one edge more: its source gets it as its head, if it has none
 moved-first :
     (w : List ℕ) (n r q : ℕ) →
-    first-record 1 q (moved-edges w n (suc r)) ≡
-    cond (eqb (first-record 1 q (moved-edges w n r)) 0) (cond (eqb (getD w (5 + 2 * n + 3 * r) 0) q) (suc r) 0)
-    (first-record 1 q (moved-edges w n r))
+    first-record q (moved-edges w n (suc r)) ≡
+    cond (eqb (first-record q (moved-edges w n r)) 0) (cond (eqb (getD w (5 + 2 * n + 3 * r) 0) q) (suc r) 0)
+    (first-record q (moved-edges w n r))
 unfolding moved-edges triple-at an-edge
 moved-first w n r q =
     let es = triples-of (drop (2 * n) w) r in
@@ -118,7 +119,7 @@ moved-first w n r q =
     let source : f .source ≡ getD w (5 + 2 * n + 3 * r) 0 = rw (getD-drop (2 * n) w (5 + 3 * r) 0, at) in
     let long = tabulate-length r (triple-at (drop (2 * n) w)) in
     let number : 1 + length es ≡ suc r = omega arith in
-    rw (tabulate-snoc r (triple-at (drop (2 * n) w))) (first-snoc 0 q es f ∙ cc (source, number))
+    rw (tabulate-snoc r (triple-at (drop (2 * n) w))) (first-snoc q es f ∙ cc (source, number))
 
 -- a head that is not zero stays, and a zero gets what another state's turn gives: nothing
 stays : (x y : ℕ) {b : Bool} → b ≡ false → x ≡ cond (eqb x 0) (cond b y 0) x
@@ -183,7 +184,7 @@ module _ {bits : ℕ} (n m r : ℕ) (w v : List ℕ) (ask : Link-asks bits w n m
       ∙ getD-set-same v place next 0 (omega arith)
       ∙ behind-next
 
-  turn-head : (q : ℕ) → q < n → getD (linked-one n m r v) (4 + 2 * q) 0 ≡ first-record 1 q (moved-edges w n (suc r))
+  turn-head : (q : ℕ) → q < n → getD (linked-one n m r v) (4 + 2 * q) 0 ≡ first-record q (moved-edges w n (suc r))
   unfolding linked-one
   turn-head q a =
       let place = 5 + 2 * n + 3 * r in
@@ -191,7 +192,7 @@ module _ {bits : ℕ} (n m r : ℕ) (w v : List ℕ) (ask : Link-asks bits w n m
       let u = set v place (behind n m r v) in
       let ok = link-asks-one in
       let same : getD v place 0 ≡ getD w place 0 = waits r (omega arith) in
-      let before : getD u (4 + 2 * q) 0 ≡ first-record 1 q (moved-edges w n r) =
+      let before : getD u (4 + 2 * q) 0 ≡ first-record q (moved-edges w n r) =
       getD-set-other v place (4 + 2 * q) (behind n m r v) 0 (omega arith) ∙ h .heads q a in
       elim (either (eqb (getD w place 0) q)) [
         | inl e ↦
@@ -203,7 +204,7 @@ module _ {bits : ℕ} (n m r : ℕ) (w v : List ℕ) (ask : Link-asks bits w n m
             let ne = eqb-ne (getD w place 0) q e in
             with-head-other (4 + 2 * s) (suc r) u (4 + 2 * q) (omega arith)
             ∙ before
-            ∙ rw (moved-first w n r q) (stays (first-record 1 q (moved-edges w n r)) (suc r) e)
+            ∙ rw (moved-first w n r q) (stays (first-record q (moved-edges w n r)) (suc r) e)
       ]
 
   link-turn : Linked n m (suc r) w (linked-one n m r v)
@@ -231,7 +232,7 @@ pub record Linking (n m r : ℕ) (w v : List ℕ) : Type 0 where
   pub linked : Linked n m r w v
 
 pub linking-start : {bits n m : ℕ} {w : List ℕ} → Link-asks bits w n m → Linking n m 0 w w
-unfolding moved-edges tabulate first-record
+unfolding moved-edges tabulate first-record least
 linking-start ask =
     record {
       done = omega arith;

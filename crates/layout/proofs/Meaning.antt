@@ -108,17 +108,17 @@ module _ (a : Automaton) (es : List Edge) where
 
     pub chained-edge : (i c j : ℕ) → i < a .states → edge (chained-words a es) i c j ≡ listed i c j es
     unfolding edge
-    chained-edge i c j l = rw (indexed-m laid, indexed-head laid i l) (go (first-is 1 i es))
+    chained-edge i c j l = rw (indexed-m laid, indexed-head laid i l) (go (first-is i es))
       where
         go :
-            First 1 i es (first-record 1 i es) →
-            chain-has (length es) (chained-words a es) (first-record 1 i es) c j ≡ listed i c j es
+            First i es (first-record i es) →
+            chain-has (length es) (chained-words a es) (first-record i es) c j ≡ listed i c j es
         go (absent z before) =
             let out : listed i c j es ≡ false =
             not-both (listed i c j es) (λ h. let w = listed-find i c j es h in before (w .0) (w .1) (w .2)) in
             rw z (chain-ends (length es) (chained-words a es) c j ∙ sym out)
         go (first-at d z m h before) =
-            let at : first-record 1 i es ≡ suc d = omega arith in
+            let at : first-record i es ≡ suc d = omega arith in
             rw at
             (same-truth (chain-has (length es) (chained-words a es) (suc d) c j) (listed i c j es)
             (λ p. rw h at (chain-listed (length es) d c j m p))

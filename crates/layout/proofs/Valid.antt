@@ -19,8 +19,8 @@ use Rattle.layout.proofs.Firsts.{absent, first-at, first-is, ends, goes
 use Rattle.layout.proofs.Indexed.{Indexed, indexed-n, indexed-k, indexed-m, indexed-flags, indexed-head, indexed-letter, indexed-target, indexed-next, chained-indexed}
 use Rattle.layout.proofs.Words.{chained-length}
 
-head-small : (i : ℕ) (es : List Edge) → first-record 1 i es ≤ length es
-head-small i es = elim (first-is 1 i es) [ absent z before ↦ omega arith | first-at e z l h before ↦ omega arith ]
+head-small : (i : ℕ) (es : List Edge) → first-record i es ≤ length es
+head-small i es = elim (first-is i es) [ absent z before ↦ omega arith | first-at e z l h before ↦ omega arith ]
 
 next-small : (es : List Edge) (r : ℕ) → next-record es r ≤ length es
 next-small es r = elim (next-is es r) [ ends z stop ↦ omega arith | goes-on z l h ↦ omega arith ]
@@ -37,7 +37,7 @@ module _ (l : Limits) (a : Automaton) (es : List Edge) (o : Orderly a es) where
   chained-once r m =
       let t = chained-words a es in
       let heads =
-      count-same (a .states) (λ q. eqb (head-of t q) (suc r)) (λ q. eqb (first-record 1 q es) (suc r))
+      count-same (a .states) (λ q. eqb (head-of t q) (suc r)) (λ q. eqb (first-record q es) (suc r))
       (λ q i. let e = indexed-head laid q i in cc) in
       let nexts =
       count-same (length es) (λ i. eqb (next-of t (suc i)) (suc r)) (λ i. eqb (next-record es i) (suc r))

@@ -4,15 +4,16 @@ use mathlib.Core.List.{List, [], _∷_, _++_}
 use Prim.Native.Nat.{ℕ, suc}
 use lib.Dec.{ltb, eqb}
 use lib.ListN.{length}
+use Rattle.basics.specs.Least.{least}
 use Rattle.basics.specs.Rows.{rows}
 use Rattle.automata.specs.Automaton.{Automaton}
 use Rattle.automata.specs.System.{Edge, edge-at}
 use Rattle.tables.specs.Table.{flags}
 
--- the number of the first record with this source, counted from r; zero where there is none
-unfoldable pub first-record : (r source : ℕ) → List Edge → ℕ
-first-record r i [] = 0
-first-record r i (e ∷ es) = cond (eqb (e .source) i) r (first-record (suc r) i es)
+-- the number of the first record with this source; zero where there is none
+unfoldable pub first-record : (source : ℕ) → List Edge → ℕ
+first-record i es =
+    let e = least (length es) (λ e. eqb (edge-at es e .source) i) in cond (ltb e (length es)) (suc e) 0
 
 -- the record behind record r + 1, if it has the same source; zero ends the chain
 unfoldable pub next-record : (es : List Edge) → (r : ℕ) → ℕ
@@ -24,7 +25,7 @@ unfoldable pub flags-word : Automaton → (state : ℕ) → ℕ
 flags-word a i = flags (a .initial i) (a .accepting i)
 
 unfoldable pub state-row : Automaton → List Edge → (state : ℕ) → List ℕ
-state-row a es i = flags-word a i ∷ first-record 1 i es ∷ []
+state-row a es i = flags-word a i ∷ first-record i es ∷ []
 
 unfoldable pub record-row : List Edge → (r : ℕ) → List ℕ
 record-row es r = edge-at es r .letter ∷ edge-at es r .target ∷ next-record es r ∷ []

@@ -67,7 +67,7 @@ linked-one n m r w =
 
 -- so for the first edges, those below a count: heads and nexts are those of docs/RULES.md, and every other word is as it was
 pub record Linked (states edges count : ℕ) (w v : List ℕ) : Type 0 where
-  pub heads : (q : ℕ) → q < states → getD v (4 + 2 * q) 0 ≡ first-record 1 q (moved-edges w states count)
+  pub heads : (q : ℕ) → q < states → getD v (4 + 2 * q) 0 ≡ first-record q (moved-edges w states count)
   pub nexts :
       (r : ℕ) → r < count → getD v (5 + 2 * states + 3 * r) 0 ≡ next-record (moved-edges w states edges) r
   pub others :

@@ -1,14 +1,16 @@
 -- Laws of the sources of records in a table whose chains run through consecutive records. Assumes nothing.
-use mathlib.Core.Path.{_≡_, refl, sym, _∙_, ap}
-use mathlib.Core.Bool.{Bool, true, false, cond}
+use mathlib.Core.Path.{_≡_, refl, sym, _∙_}
+use mathlib.Core.Bool.{true, false, cond}
 use mathlib.Core.List.{List}
 use mathlib.Core.Logic.{inl, inr}
-use Prim.Native.Nat.{ℕ, zero, suc, _+_, _-_, _≤_, _<_}
+use Prim.Native.Nat.{ℕ, zero, suc, _+_, _≤_, _<_}
 use native.Mathlib.Numerals.{add-one}
 use native.Mathlib.Omega.{arith}
 use lib.Dec.{eqb}
 use lib.ListN.{length}
+use Rattle.basics.specs.Least.{least-from}
 use Rattle.basics.proofs.Booleans.{eq-eqb, ne-eqb, below-or}
+use Rattle.basics.proofs.Least.{least-from-is, least-here, least-later, least-past}
 use Rattle.automata.specs.Automaton.{Automaton}
 use Rattle.automata.specs.System.{Edge, edge-at}
 use Rattle.tables.specs.Access.{State-asks}
@@ -17,17 +19,16 @@ use Rattle.layout.specs.Chained.{next-record}
 use Rattle.layout.specs.Orderly.{Orderly}
 use Rattle.layout.proofs.Firsts.{first-is, absent, first-at, Next, next-is, ends, goes-on, rising}
 use Rattle.layout.proofs.Indexed.{Indexed, indexed-n, indexed-head, indexed-next}
-use Rattle.listing_text.specs.Built.{with-chain, first-source, source-behind, source-of, States-ask}
+use Rattle.listing_text.specs.Built.{has-chain, first-source, source-behind, source-of, States-ask}
 
--- by the head of the first of them
-chain-here : (w : List ℕ) (k i : ℕ) → (head-of w i ≡ 0 → ⊥) → with-chain w (suc k) i ≡ i
-unfolding with-chain
-chain-here w k i h =
-    ap (λ (b : Bool). elim b [ true ↦ with-chain w k (suc i) | false ↦ i ]) (ne-eqb (head-of w i) 0 h)
+-- a state has a chain exactly if its head is not zero
+has-one : (w : List ℕ) (q : ℕ) → (head-of w q ≡ 0 → ⊥) → has-chain w q ≡ true
+unfolding has-chain
+has-one w q h = let e = ne-eqb (head-of w q) 0 h in rw e
 
-chain-later : (w : List ℕ) (k i : ℕ) → head-of w i ≡ 0 → with-chain w (suc k) i ≡ with-chain w k (suc i)
-unfolding with-chain
-chain-later w k i h = ap (λ (b : Bool). elim b [ true ↦ with-chain w k (suc i) | false ↦ i ]) (eq-eqb h)
+has-none : (w : List ℕ) (q : ℕ) → head-of w q ≡ 0 → has-chain w q ≡ false
+unfolding has-chain
+has-none w q h = let e = eq-eqb h in rw e
 
 -- what reading a state's head asks
 pub source-reads : {w : List ℕ} {n i : ℕ} → States-ask w n → i < n → State-asks w i
@@ -35,25 +36,21 @@ source-reads a l = let e = a .counted in record { inside = omega arith; sized = 
 
 -- THE LOOP OF `first_source`: what is looked for lies from `state` on
 module _ {w : List ℕ} {n : ℕ} (a : States-ask w n) (from : ℕ) where
-  pub source-start : with-chain w (n - from) from ≡ first-source w from
-  unfolding first-source
-  source-start = rw (a .counted)
-
   pub source-found :
-      {i x : ℕ} → i < n → x ≡ head-of w i → (x ≡ 0 → ⊥) → with-chain w (n - i) i ≡ first-source w from → i ≡ first-source w from
+      {i x : ℕ} → i < n → x ≡ head-of w i → (x ≡ 0 → ⊥) → least-from (n-of w) i (has-chain w) ≡ first-source w from →
+      i ≡ first-source w from
   source-found {i} l e h p =
-      let k : n - i ≡ suc (n - suc i) = omega arith in sym (chain-here w (n - suc i) i (λ q. h (e ∙ q))) ∙ (rw k at p)
+      let count = a .counted in sym (least-here (n-of w) i (has-chain w) (omega arith) (has-one w i (λ q. h (e ∙ q)))) ∙ p
 
   pub source-turn :
-      {i x : ℕ} → i < n → x ≡ head-of w i → x ≡ 0 → with-chain w (n - i) i ≡ first-source w from →
-      with-chain w (n - (i + 1)) (i + 1) ≡ first-source w from
+      {i x : ℕ} → i < n → x ≡ head-of w i → x ≡ 0 → least-from (n-of w) i (has-chain w) ≡ first-source w from →
+      least-from (n-of w) (i + 1) (has-chain w) ≡ first-source w from
   source-turn {i} l e h p =
-      let k : n - i ≡ suc (n - suc i) = omega arith in
-      rw add-one (sym (chain-later w (n - suc i) i (sym e ∙ h)) ∙ (rw k at p))
+      let count = a .counted in
+      rw add-one (sym (least-later (n-of w) i (has-chain w) (omega arith) (has-none w i (sym e ∙ h))) ∙ p)
 
-  pub source-end : {i : ℕ} → n ≤ i → with-chain w (n - i) i ≡ first-source w from → i ≡ first-source w from
-  unfolding with-chain
-  source-end {i} l p = let z : n - i ≡ 0 = omega arith in rw z at p
+  pub source-end : {i : ℕ} → n ≤ i → least-from (n-of w) i (has-chain w) ≡ first-source w from → i ≡ first-source w from
+  source-end {i} l p = let count = a .counted in sym (least-past (n-of w) i (has-chain w) (omega arith)) ∙ p
 
 -- EACH WAY OF `source_behind`
 pub behind-same : (w : List ℕ) (i r : ℕ) {x : ℕ} → x ≡ next-of w r → (x ≡ 0 → ⊥) → i ≡ source-behind w i r
@@ -64,31 +61,17 @@ pub behind-next : (w : List ℕ) (i r : ℕ) {x : ℕ} → x ≡ next-of w r →
 unfolding source-behind
 behind-next w i r e h = let t : eqb (next-of w r) 0 ≡ true = eq-eqb (sym e ∙ h) in rw (add-one, t)
 
--- THE SOURCES OF ORDERLY EDGES. Where no state before j has a chain and j has one, j is found.
-chain-found :
-    (w : List ℕ) (k i j : ℕ) → i ≤ j → j < i + k → ((q : ℕ) → i ≤ q → q < j → head-of w q ≡ 0) → (head-of w j ≡ 0 → ⊥) →
-    with-chain w k i ≡ j
-chain-found w zero i j l m before here = absurd (omega arith)
-chain-found w (suc k) i j l m before here =
-    elim (below-or i j) [
-      | inl s ↦
-          chain-later w k i (before i (omega arith) s)
-          ∙ chain-found w k (suc i) j s (omega arith) (λ q a b. before q (omega arith) b) here
-      | inr g ↦
-          let e : i ≡ j = omega arith in
-          chain-here w k i (rw e here) ∙ e
-    ]
-
+-- THE SOURCES OF ORDERLY EDGES
 module _ {a : Automaton} {es : List Edge} (o : Orderly a es) {w : List ℕ} (x : Indexed a es w) where
   -- a state without edges has no chain, and one with edges has
   no-chain : (q : ℕ) → q < a .states → ((e : ℕ) → e < length es → edge-at es e .source ≡ q → ⊥) → head-of w q ≡ 0
   no-chain q l h =
-      elim (first-is 1 q es) [ absent z before ↦ indexed-head x q l ∙ z | first-at e z m s before ↦ absurd (h e m s) ]
+      elim (first-is q es) [ absent z before ↦ indexed-head x q l ∙ z | first-at e z m s before ↦ absurd (h e m s) ]
 
   a-chain : (r : ℕ) → r < length es → head-of w (edge-at es r .source) ≡ 0 → ⊥
   a-chain r l h =
       let p = indexed-head x (edge-at es r .source) (o .source r l) in
-      elim (first-is 1 (edge-at es r .source) es) [ absent z before ↦ before r l refl | first-at e z m s before ↦ omega arith ]
+      elim (first-is (edge-at es r .source) es) [ absent z before ↦ before r l refl | first-at e z m s before ↦ omega arith ]
 
   -- the first state from i on with a chain is the source of record r + 1, if the sources before it are smaller than i
   record-source :
@@ -98,15 +81,15 @@ module _ {a : Automaton} {es : List Edge} (o : Orderly a es) {w : List ℕ} (x :
   record-source i r l m small =
       let n = indexed-n x in
       let s = o .source r l in
-      chain-found w (n-of w - i) i (edge-at es r .source) m (omega arith)
+      least-from-is (n-of w) i (has-chain w) (edge-at es r .source) m (omega arith) (has-one w (edge-at es r .source) (a-chain r l))
       (λ q p u.
-      no-chain q (omega arith)
+      has-none w q
+      (no-chain q (omega arith)
       (λ e k f.
       elim (below-or e r) [
         | inl c ↦ let y = small e c in omega arith
         | inr c ↦ let y = rising o r e c k in omega arith
-      ]))
-      (a-chain r l)
+      ])))
 
   pub source-right : (r : ℕ) → r < length es → source-of w r ≡ edge-at es r .source
   unfolding source-of source-behind

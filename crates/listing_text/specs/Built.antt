@@ -1,9 +1,10 @@
 -- The lines of an accepted build, from the words and the sets that it left. Assumes nothing: these are definitions.
 use mathlib.Core.Path.{_≡_}
-use mathlib.Core.Bool.{true, false, cond}
+use mathlib.Core.Bool.{Bool, not, cond}
 use mathlib.Core.List.{List, _++_}
-use Prim.Native.Nat.{ℕ, zero, suc, _-_, _≤_, _<_}
+use Prim.Native.Nat.{ℕ, zero, suc, _≤_, _<_}
 use lib.Dec.{eqb}
+use Rattle.basics.specs.Least.{least-from}
 use Rattle.basics.specs.Rows.{rows}
 use Rattle.automata.specs.System.{an-edge}
 use Rattle.tables.specs.Access.{Sized, State-asks}
@@ -14,13 +15,13 @@ use Rattle.listing_text.specs.Listing.{most-states, most-words, refused-
 use Rattle.listing_text.specs.Output.{text-bytes, output-bytes}
 
 -- SOURCES. A build's chains run through consecutive records, so the sources of its records rise.
--- the first state from i on that has a chain, among so many; the state behind them where none has
-unfoldable pub with-chain : (words : List ℕ) → (left from : ℕ) → ℕ
-with-chain w zero i = i
-with-chain w (suc k) i = elim (eqb (head-of w i) 0) [ true ↦ with-chain w k (suc i) | false ↦ i ]
+-- a state has a chain
+unfoldable pub has-chain : (words : List ℕ) → (state : ℕ) → Bool
+has-chain w q = not (eqb (head-of w q) 0)
 
+-- the first state from i on that has one; the state behind the last where none has
 unfoldable pub first-source : (words : List ℕ) → (from : ℕ) → ℕ
-first-source w i = with-chain w (n-of w - i) i
+first-source w i = least-from (n-of w) i (has-chain w)
 
 -- the source of the record behind record r, whose own source is i
 unfoldable pub source-behind : (words : List ℕ) → (source number : ℕ) → ℕ

@@ -7,6 +7,7 @@ use lib.Dec.{leb, eqb}
 use lib.ListN.{length}
 use Rattle.basics.specs.Bounded.{each, any, count}
 use Rattle.basics.specs.Buffers.{or-else}
+use Rattle.basics.specs.Least.{least}
 use Rattle.basics.specs.Rows.{rows}
 use Rattle.basics.specs.Tabulate.{tabulate}
 use Rattle.basics.proofs.Booleans.{and-l, and-r, eqb-eq, leb-le, true-not}
@@ -71,7 +72,7 @@ piece-test (complement-only t u v) = lasso-test (complement-words t) t u v
 
 -- the one computation
 pieces-pass : each (length pieces) (λ i. piece-test (piece i)) ≡ true
-unfolding same-words complement-test lasso-test piece-test each any count or-else rows has size without set-of union subsets takes? nodes product starts leads grown-nodes grow row marked tabulate on-cycle positions position-letter next-position an-edge built number-of with-state with-states add-edge add-all by-letters expand state-at explore-from begin explore edge-at listed numbered pattern-A pattern-B no-initial forked doubled pattern-range wide-range n-of k-of m-of flags flags-of head-of record-at letter-of target-of next-of is-initial is-accepting chain-has edge meaning flags-good records-good named heads-good nexts-good chains-good table-refusal quadruple four-sets same accepting targets initial-free initial-for initials next-N entering staying-safe staying leaving tracked dead-end blocked free next-B successor-for successors ncsb check-refusal targets-of initial-states accepting-states grown reached-in inner-of marks-of forks semi-deterministic moves first-record next-record flags-word state-row record-row chained-words room-refusal build-refusal bound system-of complement complement-automaton complement-words words-of sets-words digits decimal line ascii listing-bounds refused-line counts-line listing-room state-line edge-line accepted-text answered listing-of listing is-blank is-digit between under-way fault ended longer with-byte scan numbers-of read-numbers pieces piece
+unfolding same-words complement-test lasso-test piece-test each any count or-else rows has size without set-of union subsets takes? nodes product starts leads grown-nodes grow row marked tabulate on-cycle positions position-letter next-position an-edge built number-of with-state with-states add-edge add-all by-letters expand state-at explore-from begin explore edge-at listed numbered pattern-A pattern-B no-initial forked doubled pattern-range wide-range n-of k-of m-of flags flags-of head-of record-at letter-of target-of next-of is-initial is-accepting chain-has edge meaning flags-good records-good named heads-good nexts-good chains-good table-refusal quadruple four-sets same accepting targets initial-free initial-for initials next-N entering staying-safe staying leaving tracked dead-end blocked free next-B successor-for successors ncsb check-refusal targets-of initial-states accepting-states grown reached-in inner-of marks-of forks semi-deterministic moves least first-record next-record flags-word state-row record-row chained-words room-refusal build-refusal bound system-of complement complement-automaton complement-words words-of sets-words digits decimal line ascii listing-bounds refused-line counts-line listing-room state-line edge-line accepted-text answered listing-of listing is-blank is-digit between under-way fault ended longer with-byte scan numbers-of read-numbers pieces piece
 pieces-pass = refl
 
 complement-right : (t : List ℕ) (n m : ℕ) (s c : List ℕ) → complement-test t n m s c ≡ true → Gives t n m s c

@@ -1,21 +1,24 @@
 -- `first_source` passes over the states without a chain. The invariant: what is looked for lies from `state` on. Assumes nothing.
-use mathlib.Core.Path.{_≡_}
+use mathlib.Core.Path.{_≡_, refl}
 use Prim.Native.Nat.{_-_}
 use native.Mathlib.Omega.{arith}
 use borrow.Author.Needs.{needs}
-use Rattle.listing_text.specs.Built.{with-chain, first-source}
-use Rattle.listing_text.proofs.Sources.{source-reads, source-start, source-found, source-turn, source-end}
+use Rattle.basics.specs.Least.{least-from}
+use Rattle.tables.specs.Table.{n-of}
+use Rattle.listing_text.specs.Built.{has-chain, first-source}
+use Rattle.listing_text.proofs.Sources.{source-reads, source-found, source-turn, source-end}
 use Rattle.listing_text.proofs.built.first_source.Statement.{statement}
 use Rattle.listing_text.proofs.built.first_source.Tie as tie
 
 abbrev Inv-loop : tie.InvT-loop
-Inv-loop words states from state₀ state = with-chain words (states - state) state ≡ first-source words from
+Inv-loop words states from state₀ state = least-from (n-of words) state (has-chain words) ≡ first-source words from
 
 abbrev μ-loop : tie.MeasureT-loop
 μ-loop words states from state₀ state = states - state
 
 loop-holds : tie.Need-loop-holds Inv-loop μ-loop
-loop-holds c = let start : tie.Start Inv-loop μ-loop = search in source-start (start .pre) (start .args .from)
+unfolding first-source
+loop-holds c = refl
 
 head-of-requires : tie.Need-head-of-requires Inv-loop μ-loop
 head-of-requires c κs = let start : tie.Start Inv-loop μ-loop = search in source-reads (start .pre) (c .loop-test .taken)
