@@ -28,7 +28,7 @@ module _ {wd : Width} {w : List ℕ} {n x r d : ℕ} (a : Enter-asks wd w n x r 
       let z = a .is-white in
       record { inside = colour-word wd (let l = a .inside in let k = a .long in omega arith); within = omega arith }
 
-  pub entered-is : {w1 : List ℕ} → w1 ≡ risen wd w x 1 → set (set w1 (n + d) x) (2 * n + d) r ≡ entered wd n w x r d
+  pub entered-is : {w1 : List ℕ} → w1 ≡ risen wd w x (grey - white) → set (set w1 (n + d) x) (2 * n + d) r ≡ entered wd n w x r d
   unfolding entered
   entered-is up = rw up
 

@@ -21,7 +21,7 @@ use Rattle.lassos.specs.Graph.{Graph, Arc, Bounded}
 use Rattle.lassos.specs.Product.{product-graph}
 use Rattle.lassos.specs.Search.{colour, stacked, whites, risen, entered, Search, Grows, Inner-says, met, none}
 use Rattle.lassos.specs.Steps.{Raise-asks, Given, Meets-asks, Top-asks, Descended, deeper, all-visited, Finished, closes, turns-black, turns-red, Enter-asks, Search-asks, Explored, found, exhausted, Try-asks, Try-says, tried, Searched, nothing}
-use Rattle.lassos.specs.Width.{Width, white, grey, red, word-colours, Few}
+use Rattle.lassos.specs.Width.{Width, white, grey, black, red, word-colours, Few}
 use Rattle.lassos.proofs.Colours.{grows-grows, grows-same, grows-whites, stays-grey}
 use Rattle.lassos.proofs.Descends.{top-inside, top-grey}
 use Rattle.lassos.proofs.Given.{size-is, given-bounded, given-reads, given-some, given-small, given-first, given-state}
@@ -54,7 +54,7 @@ module _ {wd : Width} {t u v w : List ℕ} {states size x : ℕ} (a : Meets-asks
   finish-some = let k = given-some (a .given) in let e = a .given .counted in omega arith
 
   module _ {f : ℕ} (is-flags : f ≡ flags-of t (x % states)) where
-    pub finish-black : f < 2 → {w1 : List ℕ} → w1 ≡ risen wd w x 1 → Finished wd (product-graph t u v) x w w1 false
+    pub finish-black : f < 2 → {w1 : List ℕ} → w1 ≡ risen wd w x (black - grey) → Finished wd (product-graph t u v) x w w1 false
     unfolding product-graph is-accepting
     finish-black l up =
         let e : f ≡ flags-of t (x % n-of t) = rw (a .given .counted) at is-flags in
@@ -68,7 +68,7 @@ module _ {wd : Width} {t u v w : List ℕ} {states size x : ℕ} (a : Meets-asks
 
   pub finish-red :
       {w1 w2 : List ℕ} {r : Bool} → length w1 ≡ length w → Inner-says wd (product-graph t u v) x w w1 r → r ≡ false →
-      w2 ≡ risen wd w1 x 2 → Finished wd (product-graph t u v) x w w2 false
+      w2 ≡ risen wd w1 x (red - grey) → Finished wd (product-graph t u v) x w w2 false
   finish-red {w1} s h e up = turns-red w1 s (rw e at h) up
 
 -- THE STACK IS EMPTIED: the invariant

@@ -2,7 +2,7 @@
 use mathlib.Core.Path.{_≡_, refl, sym, _∙_}
 use mathlib.Core.List.{List}
 use mathlib.Core.Logic.{_⊎_, inl, inr}
-use Prim.Native.Nat.{ℕ, _+_, _*_, _/_, _≤_, _<_}
+use Prim.Native.Nat.{ℕ, _+_, _*_, _-_, _/_, _≤_, _<_}
 use native.Mathlib.Omega.{arith}
 use native.Mathlib.Numerals.{add-one}
 use lib.ListN.{length, set}
@@ -51,7 +51,7 @@ module _ (wd : Width) (t : List ℕ) (size letter base r : ℕ) (w : List ℕ) (
     follow-grey s e = grey-met (sym p ∙ s) (sym target-colour ∙ e) refl
 
     pub follow-black :
-        {w1 : List ℕ} → x ≡ letter → c ≡ black → w1 ≡ risen wd w (base + y) 1 →
+        {w1 : List ℕ} → x ≡ letter → c ≡ black → w1 ≡ risen wd w (base + y) (red - black) →
         Follow-says wd t size letter base r w (set w1 (3 * size + wait) (base + y)) wait (wait + 1)
     unfolding reddened
     follow-black s e up = black-met (sym p ∙ s) (sym target-colour ∙ e) (rw (up, n)) refl

@@ -1,7 +1,7 @@
 -- What a store in one block of the work words changes, and that it changes nothing else. Assumes nothing.
 use mathlib.Core.Path.{_≡_, refl, _∙_}
 use mathlib.Core.List.{List}
-use Prim.Native.Nat.{ℕ, _+_, _*_, _/_, _%_, _^_, _≤_, _<_}
+use Prim.Native.Nat.{ℕ, _+_, _*_, _-_, _/_, _%_, _^_, _≤_, _<_}
 use native.Mathlib.Omega.{arith}
 use native.Mathlib.Nat.{mod-lt, mod-eq-of-lt}
 use lib.ListN.{length, getD, set, length-set}
@@ -99,9 +99,9 @@ module _ (wd : Width) (n : ℕ) (w : List ℕ) (x r d : ℕ) (long : 4 * n ≤ l
   pub enters : Enters wd n w (entered wd n w x r d) x r d
   unfolding stacked cursor entered
   enters =
-      let w1 = risen wd w x 1 in
+      let w1 = risen wd w x (grey - white) in
       let w2 = set w1 (n + d) x in
-      let turned = recolours wd n w x 1 long l is-white (omega arith) in
+      let turned = recolours wd n w x (grey - white) long l is-white (omega arith) in
       let e1 = turned .size in
       let e2 : length w2 ≡ length w1 = length-set w1 (n + d) x in
       record {
@@ -161,8 +161,8 @@ module _ (wd : Width) (n : ℕ) (w : List ℕ) (x i : ℕ) (long : 4 * n ≤ len
   pub reddens : Reddens wd n w (reddened wd n w x i) x i
   unfolding stacked cursor waiting reddened
   reddens =
-      let w1 = risen wd w x 1 in
-      let turned = recolours wd n w x 1 long l is-black (omega arith) in
+      let w1 = risen wd w x (red - black) in
+      let turned = recolours wd n w x (red - black) long l is-black (omega arith) in
       let e1 = turned .size in
       record {
         here = store-colours wd w1 (3 * n + i) x x (omega arith) ∙ turned .here;

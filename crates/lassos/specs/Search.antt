@@ -3,7 +3,7 @@ use mathlib.Core.Path.{_≡_}
 use mathlib.Core.Bool.{Bool, true, false}
 use mathlib.Core.List.{List}
 use mathlib.Core.Logic.{_⊎_}
-use Prim.Native.Nat.{ℕ, suc, _+_, _*_, _≤_, _<_}
+use Prim.Native.Nat.{ℕ, suc, _+_, _*_, _-_, _≤_, _<_}
 use lib.Dec.{eqb}
 use lib.ListN.{length, getD, set}
 use Rattle.basics.specs.Bounded.{count}
@@ -46,7 +46,7 @@ risen wd w x c = raised colours (word-colours wd) w x c
 
 -- a white node turns grey, lies on the stack, and its cursor stands at its first record
 unfoldable pub entered : Width → (size : ℕ) → (words : List ℕ) → (node first depth : ℕ) → List ℕ
-entered wd n w x r d = set (set (risen wd w x 1) (n + d) x) (2 * n + d) r
+entered wd n w x r d = set (set (risen wd w x (grey - white)) (n + d) x) (2 * n + d) r
 
 -- the cursor of a place moves on
 unfoldable pub advanced : (size : ℕ) → (words : List ℕ) → (index number : ℕ) → List ℕ
@@ -54,7 +54,7 @@ advanced n w i r = set w (2 * n + i) r
 
 -- a black node turns red and waits
 unfoldable pub reddened : Width → (size : ℕ) → (words : List ℕ) → (node wait : ℕ) → List ℕ
-reddened wd n w x i = set (risen wd w x 1) (3 * n + i) x
+reddened wd n w x i = set (risen wd w x (red - black)) (3 * n + i) x
 
 -- a place of the stack: a node, and the record of its chain that its cursor stands at; its targets are visited or still ahead
 pub record Stack-place (wd : Width) (g : Graph) (w : List ℕ) (node number : ℕ) : Type 0 where

@@ -132,8 +132,8 @@ pub data Descended (wd : Width) (g : Graph) (w w-now : List ℕ) (node depth : �
 -- a finished node turns black, or, if it accepts, red after an inner search that met no grey node
 pub data Finished (wd : Width) (g : Graph) (node : ℕ) (w w-now : List ℕ) : (r : Bool) → Type 0 where
   closes : g .accepts node ≡ true → Inner-says wd g node w w-now true → Finished wd g node w w-now true
-  turns-black : g .accepts node ≡ false → w-now ≡ risen wd w node 1 → Finished wd g node w w-now false
-  turns-red : (w-red : List ℕ) → length w-red ≡ length w → Inner-says wd g node w w-red false → w-now ≡ risen wd w-red node 2 → Finished wd g node w w-now false
+  turns-black : g .accepts node ≡ false → w-now ≡ risen wd w node (black - grey) → Finished wd g node w w-now false
+  turns-red : (w-red : List ℕ) → length w-red ≡ length w → Inner-says wd g node w w-red false → w-now ≡ risen wd w-red node (red - grey) → Finished wd g node w w-now false
 
 -- THE SEARCH from the nodes on the stack
 pub record Search-asks (wd : Width) (t u v w : List ℕ) (states size depth : ℕ) : Type 0 where

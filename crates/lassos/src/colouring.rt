@@ -18,6 +18,15 @@ pub(crate) const BLACK: u32 = 2;
 // Or red, if it leads to red nodes only.
 pub(crate) const RED: u32 = 3;
 
+// By how much a node's colour rises that turns from one into the other.
+pub(crate) const WHITE_TO_GREY: u32 = GREY - WHITE;
+
+pub(crate) const GREY_TO_BLACK: u32 = BLACK - GREY;
+
+pub(crate) const GREY_TO_RED: u32 = RED - GREY;
+
+pub(crate) const BLACK_TO_RED: u32 = RED - BLACK;
+
 // The bits of a colour.
 const COLOUR_BITS: usize = 2;
 

@@ -1,5 +1,6 @@
 // The inner search: from a finished accepting node through black nodes, which turn red. Meeting a grey node closes a cycle.
 use crate::colouring::BLACK;
+use crate::colouring::BLACK_TO_RED;
 use crate::colouring::GREY;
 use crate::colouring::colour_of;
 use crate::colouring::raise;
@@ -38,7 +39,7 @@ fn follow(
         return size + 1;
     }
     if colour == BLACK {
-        raise(work, node, 1);
+        raise(work, node, BLACK_TO_RED);
         work[3 * size + waiting] = node as u32;
         return waiting + 1;
     }

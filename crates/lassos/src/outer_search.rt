@@ -1,5 +1,8 @@
 // The outer search: depth first through the product, from the initial states at the first position.
+use crate::colouring::GREY_TO_BLACK;
+use crate::colouring::GREY_TO_RED;
 use crate::colouring::WHITE;
+use crate::colouring::WHITE_TO_GREY;
 use crate::colouring::colour_of;
 use crate::colouring::raise;
 use crate::inner_search::meets_grey;
@@ -62,7 +65,7 @@ fn enter(work: &mut [u32], size: usize, node: usize, first: usize, depth: usize)
     requires { ⌜ Enter-asks width-16 (now work) size node first depth ⌝ }
     ensures { λ _. ⌜ now (work .exit) ≡ entered width-16 size (now (work .entry)) node first depth ⌝ }
 {
-    raise(work, node, 1);
+    raise(work, node, WHITE_TO_GREY);
     work[size + depth] = node as u32;
     work[2 * size + depth] = first as u32;
 }
@@ -111,13 +114,13 @@ fn finish(
         (now (work .entry)) (now (work .exit)) r ⌝ }
 {
     if flags_of(table, node % states) < 2 {
-        raise(work, node, 1);
+        raise(work, node, GREY_TO_BLACK);
         return false;
     }
     if meets_grey(table, prefix, cycle, work, states, size, node) {
         return true;
     }
-    raise(work, node, 2);
+    raise(work, node, GREY_TO_RED);
     false
 }
 
