@@ -23,7 +23,7 @@ ghost use Rattle.lassos.specs.Refusals.{parts-refusal};
 ghost use Rattle.lassos.specs.Width.{width-16};
 
 // The letters that a prefix may have, and a loop.
-pub const PART_LETTERS: usize = 4096;
+const PART_LETTERS: usize = 4096;
 
 // What the decision answers: taken, not taken, or the number of the refusal.
 pub enum Decision {

@@ -10,10 +10,10 @@ ghost use Rattle.tables.specs.Table.{table-words, n-of, k-of, m-of, flag
 // THE LIMITS of tables (docs/RULES.md, "The chained table").
 
 // The largest 16-bit word.
-pub const WORD_MOST: usize = u16::MAX as usize;
+const WORD_MOST: usize = u16::MAX as usize;
 
 // The letters that any table may have.
-pub const LETTERS: usize = 16;
+const LETTERS: usize = 16;
 
 // A pattern's states and records.
 pub const PATTERN_STATES: usize = 32;
