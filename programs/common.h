@@ -11,8 +11,8 @@ enum { FINE = 0, REFUSED = 1, TROUBLE = 2 };
 /* The name that messages begin with; each program's main file defines it. */
 extern const char program_name[];
 
-/* Prints a word of the command line whole, on one line: a control character, and a byte that is
- * no text, as \x and two digits for each byte; no byte as ''. */
+/* Prints a word of the command line whole, on one line: a control character, and a byte that is no text, as \x and two
+ * digits for each byte; no byte as ''. */
 void print_word(FILE *out, const char *word);
 
 /* Prints "program: what: why" on standard error and ends the program with status 2. What is printed as a word. */

@@ -51,13 +51,17 @@ pattern_graph='digraph pattern {
     s0 -> s1 [label="0"];
     s1 -> s1 [label="0"];
 }'
-complement_graph='digraph complement {
+# complement_from SETS: how the graph of a complement begins whose first state is initial and accepting, and has these sets
+complement_from() {
+    printf '%s' 'digraph complement {
     rankdir=LR;
     node [shape=ellipse];
     label="below each number its sets N C S B";
-    s0 [label="0\n{0} {} {} {}", peripheries=2];
+    s0 [label="0\n'"$1"'", peripheries=2];
     i0 [shape=none, label=""];
-    i0 -> s0;
+    i0 -> s0;'
+}
+complement_graph="$(complement_from '{0} {} {} {}')"'
     s1 [label="1\n{0} {1} {} {1}"];
     s0 -> s0 [label="1"];
     s0 -> s1 [label="0"];
@@ -213,13 +217,7 @@ count=$("$program" --dot complement "$folder/rings" | grep -c -- '-> s.*label')
 rings 15 12 1 >"$folder/large"
 expect 'a complement of 61,440 states' 0 'pattern: passes the check (states 28, letters 1, records 28)
 complement: states 61440, edges 61440' '' "$program" "$folder/large"
-expect 'state 31 in a set' 0 'digraph complement {
-    rankdir=LR;
-    node [shape=ellipse];
-    label="below each number its sets N C S B";
-    s0 [label="0\n{31} {} {} {}", peripheries=2];
-    i0 [shape=none, label=""];
-    i0 -> s0;
+expect 'state 31 in a set' 0 "$(complement_from '{31} {} {} {}')"'
     s1 [label="1\n{} {} {} {}", peripheries=2];
     s0 -> s1 [label="0"];
     s1 -> s1 [label="0"];

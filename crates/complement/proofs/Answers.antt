@@ -9,6 +9,7 @@ use lib.Dec.{ltb}
 use lib.ListN.{length}
 use Rattle.basics.specs.Buffers.{or-else, filled}
 use Rattle.basics.proofs.Booleans.{either, ltb-lt, ltb-ge, lt-ltb, ge-ltb, ne-eqb, both-within}
+use Rattle.basics.proofs.Clears.{zeros-same}
 use Rattle.tables.specs.Table.{Limits, table-words}
 use Rattle.patterns.specs.Check.{check-refusal}
 use Rattle.record_words.specs.Record.{full-records}
@@ -19,7 +20,6 @@ use Rattle.complement.specs.Found.{quadruples, counted-to, Shows, Ends}
 use Rattle.complement.specs.Records.{capacity}
 use Rattle.complement.specs.declared.Counts.{Counts}
 use Rattle.complement.specs.declared.explore.Progress.{Progress}
-use Rattle.basics.proofs.Clears.{zeros-same}
 use Rattle.complement.proofs.Reaching.{Same-sizes, sizes-self, ends-within, ends-beyond}
 use Rattle.complement.proofs.Room.{states-over, table-over, all-fits, room-cases}
 

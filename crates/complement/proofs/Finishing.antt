@@ -161,7 +161,7 @@ module _
           let states = automaton-states in
           let enough = short .1 in
           let room : 3 + 2 * a .states ≤ length w1 = omega arith in
-          let whole : 3 + 2 * a .states + 3 * length es ≤ length o = omega arith in
+          let whole : table-words (a .states) (length es) ≤ length o = omega arith in
           let flags = flags-flagging a (record-accepts s) k w1 room (same-flags e) (a .states) (omega arith) in
           let set-flags : v ≡ with-flags (record-accepts s) k (a .states) w1 = f ∙ ap (λ (n : ℕ). with-flags (record-accepts s) k n w1) states in
           flagging-end a es o w1 v whole (laid-plain o g) (rw set-flags flags)

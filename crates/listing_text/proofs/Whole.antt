@@ -9,7 +9,7 @@ use Rattle.basics.specs.Buffers.{filled}
 use Rattle.basics.proofs.Booleans.{eq-eqb, ne-eqb}
 use Rattle.basics.proofs.Rows.{rows-same}
 use Rattle.automata.specs.System.{an-edge, edge-at, state-at, numbered}
-use Rattle.tables.specs.Table.{Limits, wide-range, m-of, flags-of}
+use Rattle.tables.specs.Table.{Limits, table-words, wide-range, m-of, flags-of}
 use Rattle.layout.specs.Chained.{flags-word}
 use Rattle.layout.specs.Orderly.{Orderly}
 use Rattle.layout.proofs.Indexed.{Indexed, indexed-n, indexed-m, indexed-letter, indexed-target, filled-indexed}
@@ -127,7 +127,7 @@ unfolding room-of listing-room full-records record-words
 room-for o s e f = rw (e, f)
 
 -- what fits the listing's room fits the output
-text-fits : (n m : ℕ) → n ≤ most-states → 3 + 2 * n + 3 * m ≤ most-words → text-bytes n m ≤ output-bytes
+text-fits : (n m : ℕ) → n ≤ most-states → table-words n m ≤ most-words → text-bytes n m ≤ output-bytes
 unfolding text-bytes
 text-fits n m l k = omega arith
 

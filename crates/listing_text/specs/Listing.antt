@@ -18,7 +18,7 @@ use Rattle.decimal.specs.Reading.{Bounds, read-numbers}
 unfoldable pub listing-bounds : Bounds
 listing-bounds = record { largest = largest-word word-bits; most = table-words (pattern-range .states) (pattern-range .records) }
 
--- THE ROOM: for 1,024 states
+-- THE ROOM that the listing lends a build: for 1,024 states
 abbrev pub most-states : ℕ
 most-states = 1024
 
@@ -26,7 +26,7 @@ most-states = 1024
 abbrev pub most-words : ℕ
 most-words = 16384
 
--- both
+-- as a build counts it
 unfoldable pub listing-room : Room
 listing-room = record { words = most-words; records = most-states }
 
