@@ -8,7 +8,7 @@ use native.Mathlib.Numerals.{add-one}
 use lib.Dec.{ltb, eqb, eqb·suc-suc}
 use Rattle.basics.specs.Bounded.{each, count}
 use Rattle.basics.proofs.Booleans.{either, clash, and-l, and-make, and-false-r, eqb-self, ne-eqb, lt-ltb, ge-ltb, same-or, below-suc}
-use Rattle.basics.proofs.Bounded.{count-same, count-le, count-less}
+use Rattle.basics.proofs.Bounded.{search-to, count-same, count-le, count-less}
 use Rattle.basics.proofs.Upward.{upward}
 
 -- the first number apart
@@ -68,6 +68,25 @@ count-two k f i j li lj apart hi hj =
     let two =
     count-less k (λ x. f x && eqb i x) f (λ x _ h. and-l (eqb i x) h) j lj (and-false-r (f j) (ne-eqb i j apart)) hj in
     omega arith
+
+-- and what is counted twice has two different hits
+count-some : (k : ℕ) (f : ℕ → Bool) → 0 < count k f → (i : ℕ) × (i < k) × (f i ≡ true)
+count-some k f l =
+    elim (search-to k f) [ inl r ↦ r | inr none ↦ absurd (let z = count-none k f none in omega arith) ]
+
+pub count-pair :
+    (k : ℕ) (f : ℕ → Bool) → 1 < count k f → (i : ℕ) × (j : ℕ) × (i < j) × (j < k) × (f i ≡ true) × (f j ≡ true)
+unfolding count
+count-pair zero f l = absurd (omega arith)
+count-pair (suc k) f l =
+    elim (either (f k)) [
+      | inl e ↦
+          let more : 1 < count k f + 1 = rw e at l in
+          let (i, m, h) = count-some k f (omega arith) in (i, k, m, omega arith, h, e)
+      | inr e ↦
+          let same : 1 < count k f + 0 = rw e at l in
+          let (i, j, m, below, h, g) = count-pair k f (omega arith) in (i, j, m, omega arith, h, g)
+    ]
 
 -- a test that can hold of one number alone
 pub count-only :

@@ -11,7 +11,9 @@ use Rattle.basics.specs.Buffers.{or-else, filled}
 use Rattle.basics.proofs.Booleans.{either, ltb-lt, ltb-ge, lt-ltb, ge-ltb, ne-eqb, both-within}
 use Rattle.basics.proofs.Clears.{zeros-same}
 use Rattle.tables.specs.Table.{Limits, table-words}
-use Rattle.patterns.specs.Check.{check-refusal}
+use Rattle.patterns.specs.Check.{check-refusal, no-place, check-place}
+use Rattle.patterns.specs.declared.Place.{Place}
+use Rattle.patterns.proofs.Answers.{no-fork-place}
 use Rattle.record_words.specs.Record.{full-records}
 use Rattle.record_words.proofs.Laws.{full-kept}
 use Rattle.complement.specs.Build.{Lent, room-of, too-long, room-refusal, build-refusal, as-counts, after-build, Build-says, Refused-with}
@@ -103,13 +105,14 @@ module _ (limits : Limits) (t : List ℕ) (lends : Lent) where
 -- WHAT IS SAID
 -- a refusal
 pub says-refused :
-    {limits : Limits} {t : List ℕ} {lends l after : Lent} {k : ℕ} {r : Counts} → build-refusal limits t (room-of lends) ≡ k → (k ≡ 0 → ⊥) →
-    Refused-with k r l after → Same-sizes l lends → Build-says limits t r lends after
+    {limits : Limits} {t : List ℕ} {lends l after : Lent} {k : ℕ} {p : Place} {r : Counts} →
+    build-refusal limits t (room-of lends) ≡ k → (k ≡ 0 → ⊥) → p ≡ check-place t →
+    Refused-with k p r l after → Same-sizes l lends → Build-says limits t r lends after
 unfolding as-counts after-build
-says-refused {k = zero} e ne h sizes = absurd (ne refl)
-says-refused {lends} {l} {k = suc k} e ne h sizes =
+says-refused {k = zero} e ne at h sizes = absurd (ne refl)
+says-refused {lends} {l} {k = suc k} e ne at h sizes =
     record {
-      answer = rw e (h .answer);
+      answer = rw (e, ← at) (h .answer);
       words = rw e (h .words ∙ zeros-same (lends .words) (l .words) (sizes .words));
       sets = rw e (h .sets ∙ zeros-same (lends .sets) (l .sets) (sizes .sets));
     }
@@ -117,27 +120,35 @@ says-refused {lends} {l} {k = suc k} e ne h sizes =
 -- an accepted build
 pub says-built :
     {limits : Limits} {t : List ℕ} {lends after : Lent} {r : Counts} → build-refusal limits t (room-of lends) ≡ 0 →
-    r ≡ record { number = 0; states = length (complement t .states); edges = length (complement t .edges) } →
+    r ≡ record { number = 0; states = length (complement t .states); edges = length (complement t .edges); place = no-place } →
     after .words ≡ filled (complement-words t) (lends .words) → after .sets ≡ filled (sets-words t) (lends .sets) →
     Build-says limits t r lends after
 unfolding as-counts after-build
 says-built e answer words sets = record { answer = rw e answer; words = rw e words; sets = rw e sets }
 
+-- a pattern that passes forks nowhere, so there is no place to hand on
+no-place-passed : (t : List ℕ) → check-refusal t ≡ 0 → no-place ≡ check-place t
+no-place-passed t passed = sym (no-fork-place t (λ ten. omega arith))
+
 -- THE THREE REFUSALS of the build
 module _ (limits : Limits) (t : List ℕ) (lends : Lent) {r : Counts} {after : Lent} where
-  pub refused-check : {k : ℕ} → k ≡ check-refusal t → (k ≡ 0 → ⊥) → Refused-with k r lends after → Build-says limits t r lends after
-  refused-check e ne h = says-refused (check-refuses limits t lends e ne) ne h sizes-self
+  -- the check's own, with its place
+  pub refused-check :
+      {k : ℕ} {p : Place} → k ≡ check-refusal t → (k ≡ 0 → ⊥) → p ≡ check-place t → Refused-with k p r lends after →
+      Build-says limits t r lends after
+  refused-check e ne at h = says-refused (check-refuses limits t lends e ne) ne at h sizes-self
 
   module _ (passed : check-refusal t ≡ 0) {l : Lent} {p : Progress} (sizes : Same-sizes l lends) where
-    pub refused-states : Ends (quadruples limits) (complement t) l p → p .full ≡ true → Refused-with 11 r l after → Build-says limits t r lends after
-    refused-states ends full h = says-refused (states-refuse limits t lends passed ends full sizes) (λ e. omega arith) h sizes
+    pub refused-states :
+        Ends (quadruples limits) (complement t) l p → p .full ≡ true → Refused-with 11 no-place r l after → Build-says limits t r lends after
+    refused-states ends full h = says-refused (states-refuse limits t lends passed ends full sizes) (λ e. omega arith) (no-place-passed t passed) h sizes
 
     pub refused-edges :
         Ends (quadruples limits) (complement t) l p → p .full ≡ false → {b : Bool} →
         b ≡ too-long limits (length (l .words)) (p .states) (p .edges) → b ≡ true →
-        Refused-with 12 r l after → Build-says limits t r lends after
+        Refused-with 12 no-place r l after → Build-says limits t r lends after
     refused-edges ends left e long h =
-        says-refused (length-refuses limits t lends passed (ends-within left ends) sizes e long) (λ e. omega arith) h sizes
+        says-refused (length-refuses limits t lends passed (ends-within left ends) sizes e long) (λ e. omega arith) (no-place-passed t passed) h sizes
 
 -- what a build that is not too long has
 pub short-enough :

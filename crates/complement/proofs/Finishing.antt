@@ -14,6 +14,7 @@ use Rattle.basics.proofs.Tabulate.{tabulate-same, tabulate-items}
 use Rattle.automata.specs.System.{an-edge, edge-at, state-at, numbered}
 use Rattle.tables.specs.Table.{Limits, table-words, Range-fits}
 use Rattle.ncsb.specs.Successors.{initials, ncsb}
+use Rattle.patterns.specs.Check.{no-place}
 use Rattle.patterns.specs.declared.Shape.{Shape}
 use Rattle.layout.specs.Chained.{flags-word, chained-words}
 use Rattle.layout.specs.Steps.{Lay-out-asks}
@@ -190,7 +191,7 @@ module _
     pub built-says :
         {k : ℕ} {v : List ℕ} (lends : Lent) → Same-sizes l lends → k ≡ length (initials (start-moves shape)) →
         v ≡ with-flags (record-accepts (l .sets)) k (p .states) w1 →
-        Build-says limits t (record { number = 0; states = p .states; edges = p .edges }) lends (lent v (l .sets))
+        Build-says limits t (record { number = 0; states = p .states; edges = p .edges; place = no-place }) lends (lent v (l .sets))
     built-says lends sizes e f =
         let states = h .states .counted in
         let edges = all-edges read h enough in

@@ -22,8 +22,10 @@ use Rattle.ncsb.specs.Successors.{ncsb, initial-free}
 use Rattle.ncsb.proofs.Bound.{few-reached}
 use Rattle.ncsb.proofs.Initials.{initials-length}
 use Rattle.ncsb.proofs.Reached.{decides, initials-apart}
-use Rattle.patterns.specs.Check.{check-refusal}
+use Rattle.patterns.specs.Check.{check-refusal, no-place, check-place}
 use Rattle.patterns.specs.Pattern.{moves}
+use Rattle.patterns.specs.declared.Place.{Place}
+use Rattle.patterns.proofs.Answers.{no-fork-place}
 use Rattle.patterns.proofs.Passed.{checked-table, checked-split}
 use Rattle.layout.specs.Orderly.{Orderly, Has-edges}
 use Rattle.layout.proofs.Meaning.{chained-meaning}
@@ -109,10 +111,16 @@ unfolding sets-words
 sets-length t = rows-long (length (complement t .states)) (λ i. state-at (system-of t) (complement t .states) i)
 
 -- WHAT A BUILD SAYS, and an accepted one
-counts-number : (number n m : ℕ) → as-counts number n m .number ≡ number
+counts-number : (number : ℕ) (p : Place) (n m : ℕ) → as-counts number p n m .number ≡ number
 unfolding as-counts
-counts-number zero n m = refl
-counts-number (suc r) n m = refl
+counts-number zero p n m = refl
+counts-number (suc r) p n m = refl
+
+-- the place is the check's with every number but zero, and zero and zero with that
+counts-place : (number : ℕ) (p : Place) (n m : ℕ) → (number ≡ 0 → p ≡ no-place) → as-counts number p n m .place ≡ p
+unfolding as-counts
+counts-place zero p n m none = sym (none refl)
+counts-place (suc r) p n m none = refl
 
 -- its number is the refusal
 pub build-number :
@@ -120,7 +128,20 @@ pub build-number :
     r .number ≡ build-refusal limits t (room-of before)
 build-number {limits} {t} {r} {before} says =
     ap (λ (c : Counts). c .number) (says .answer)
-    ∙ counts-number (build-refusal limits t (room-of before)) (length (complement t .states)) (length (complement t .edges))
+    ∙ counts-number (build-refusal limits t (room-of before)) (check-place t) (length (complement t .states)) (length (complement t .edges))
+
+-- and its place is the check's
+pub build-place :
+    {limits : Limits} {t : List ℕ} {r : Counts} {before after : Lent} → Build-says limits t r before after → r .place ≡ check-place t
+unfolding build-refusal
+build-place {limits} {t} {r} {before} says =
+    ap (λ (c : Counts). c .place) (says .answer)
+    ∙ counts-place (build-refusal limits t (room-of before)) (check-place t) (length (complement t .states)) (length (complement t .edges))
+    (λ none.
+    let passed =
+    or-else-none (check-refusal t)
+    (room-refusal limits (room-of before) (length (complement t .states)) (length (complement t .edges))) none .0 in
+    no-fork-place t (λ ten. omega arith))
 
 module _
     {limits : Limits} {t : List ℕ} {r : Counts} {before after : Lent} (says : Build-says limits t r before after)

@@ -7,7 +7,8 @@ use lib.Dec.{ltb}
 use lib.ListN.{length, take}
 use Rattle.basics.specs.Buffers.{or-else, zeros, filled}
 use Rattle.tables.specs.Table.{Limits, table-words}
-use Rattle.patterns.specs.Check.{check-refusal}
+use Rattle.patterns.specs.Check.{check-refusal, no-place, check-place}
+use Rattle.patterns.specs.declared.Place.{Place}
 use Rattle.record_words.specs.Record.{record-words, full-records}
 use Rattle.complement.specs.Complement.{complement, complement-words, sets-words}
 use Rattle.complement.specs.declared.Counts.{Counts}
@@ -42,26 +43,27 @@ unfoldable pub build-refusal : Limits → List ℕ → Room → ℕ
 build-refusal limits t r =
     or-else (check-refusal t) (room-refusal limits r (length (complement t .states)) (length (complement t .edges)))
 
--- the answer: both counts are zero where the build is refused
-unfoldable pub as-counts : (number states edges : ℕ) → Counts
-as-counts zero n m = record { number = 0; states = n; edges = m }
-as-counts (suc r) n m = record { number = suc r; states = 0; edges = 0 }
+-- the answer for each number, place and both counts: the counts where the build is accepted, and else the number with its place
+unfoldable pub as-counts : (number : ℕ) → Place → (states edges : ℕ) → Counts
+as-counts zero p n m = record { number = 0; states = n; edges = m; place = no-place }
+as-counts (suc r) p n m = record { number = suc r; states = 0; edges = 0; place = p }
 
 -- a buffer after the build: the words built and zero beyond them, or all zero where it is refused
 unfoldable pub after-build : (number : ℕ) → (new before : List ℕ) → List ℕ
 after-build zero x o = filled x o
 after-build (suc r) x o = zeros o
 
--- what the build of a table of a range answers, and what it leaves of the lent buffers
+-- what the build of a table of a range answers, the check's place handed on with its number, and what it leaves of the lent buffers
 pub record Build-says (limits : Limits) (t : List ℕ) (r : Counts) (before after : Lent) : Type 0 where
   pub answer :
-      r ≡ as-counts (build-refusal limits t (room-of before)) (length (complement t .states)) (length (complement t .edges))
+      r
+      ≡ as-counts (build-refusal limits t (room-of before)) (check-place t) (length (complement t .states)) (length (complement t .edges))
   pub words : after .words ≡ after-build (build-refusal limits t (room-of before)) (complement-words t) (before .words)
   pub sets : after .sets ≡ after-build (build-refusal limits t (room-of before)) (sets-words t) (before .sets)
 
--- a refusal: its number and nothing else, and every buffer is zero
-pub record Refused-with (number : ℕ) (r : Counts) (before after : Lent) : Type 0 where
-  pub answer : r ≡ record { number = number; states = 0; edges = 0 }
+-- a refusal: its number and place and nothing else, and every buffer is zero
+pub record Refused-with (number : ℕ) (p : Place) (r : Counts) (before after : Lent) : Type 0 where
+  pub answer : r ≡ record { number = number; states = 0; edges = 0; place = p }
   pub words : after .words ≡ zeros (before .words)
   pub sets : after .sets ≡ zeros (before .sets)
 

@@ -2,7 +2,9 @@
 use basics::clear16;
 use basics::clear32;
 use layout::lay_out;
+use patterns::NO_PLACE;
 use patterns::PatternReading;
+use patterns::Place;
 use patterns::Shape;
 use patterns::read_pattern;
 use sets::ROW_LETTERS;
@@ -20,17 +22,18 @@ mod explore;
 mod flags;
 mod records;
 
-// What the build answers: the number of a refusal, or zero with both counts.
+// What the build answers: the number of a refusal with its place, or zero with both counts.
 #[repr(C)]
 pub struct Counts {
     pub number: u32,
     pub states: u32,
     pub edges: u32,
+    pub place: Place,
 }
 
-// A refusal: its number, both counts zero, and both buffers clear.
-fn refuse(number: u32, words: &mut [u16], sets: &mut [u32]) -> Counts
-    ensures { λ r. ⌜ Refused-with number r (lent (now (words .entry)) (now (sets .entry))) (lent (now (words .exit)) (now (sets .exit))) ⌝ }
+// A refusal: its number and its place, both counts zero, and both buffers clear.
+fn refuse(number: u32, place: Place, words: &mut [u16], sets: &mut [u32]) -> Counts
+    ensures { λ r. ⌜ Refused-with number place r (lent (now (words .entry)) (now (sets .entry))) (lent (now (words .exit)) (now (sets .exit))) ⌝ }
 {
     clear16(words);
     clear32(sets);
@@ -38,6 +41,7 @@ fn refuse(number: u32, words: &mut [u16], sets: &mut [u32]) -> Counts
         number,
         states: 0,
         edges: 0,
+        place,
     }
 }
 
@@ -61,12 +65,12 @@ fn build_pattern(masks: TargetSets, shape: Shape, words: &mut [u16], sets: &mut 
     clear32(sets);
     let found = explore::explore(masks, shape, words, sets);
     if found.full {
-        return refuse(11, words, sets);
+        return refuse(11, NO_PLACE, words, sets);
     }
     let states = found.states;
     let edges = found.edges;
     if too_long(words.len(), states, edges) {
-        return refuse(12, words, sets);
+        return refuse(12, NO_PLACE, words, sets);
     }
     lay_out(words, states, shape.letters, edges);
     flags::set_flags(words, sets, explore::initial_count(shape), states);
@@ -74,6 +78,7 @@ fn build_pattern(masks: TargetSets, shape: Shape, words: &mut [u16], sets: &mut 
         number: 0,
         states: states as u32,
         edges: edges as u32,
+        place: NO_PLACE,
     }
 }
 
@@ -83,7 +88,7 @@ pub fn build_complement(table: &[u16], words: &mut [u16], sets: &mut [u32]) -> C
 {
     let mut masks = [[0u32; ROW_LETTERS]; SET_STATES];
     match read_pattern(table, &mut masks) {
-        PatternReading::Refused(number) => refuse(number, words, sets),
+        PatternReading::Refused(number, place) => refuse(number, place, words, sets),
         PatternReading::Pattern(shape) => build_pattern(masks, shape, words, sets),
     }
 }

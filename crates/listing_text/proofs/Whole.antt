@@ -15,10 +15,10 @@ use Rattle.layout.specs.Orderly.{Orderly}
 use Rattle.layout.proofs.Indexed.{Indexed, indexed-n, indexed-m, indexed-letter, indexed-target, filled-indexed}
 use Rattle.record_words.specs.Record.{record-words, full-records, quadruple-at}
 use Rattle.record_words.proofs.Laws.{row-back, words-full, full-kept}
-use Rattle.complement.specs.Build.{Lent, lent, Room, room-of, build-refusal, as-counts, Build-says}
+use Rattle.complement.specs.Build.{Lent, lent, Room, room-of, build-refusal, Build-says}
 use Rattle.complement.specs.Complement.{system-of, complement, complement-automaton, complement-words, sets-words}
 use Rattle.complement.specs.declared.Counts.{Counts}
-use Rattle.complement.proofs.Second.{complement-orderly, words-length, sets-length, words-left, sets-left, build-states, build-edges, build-passed}
+use Rattle.complement.proofs.Second.{complement-orderly, words-length, sets-length, words-left, sets-left, build-number, build-states, build-edges, build-passed}
 use Rattle.decimal.specs.Lines.{Put}
 use Rattle.decimal.specs.Reading.{Scan, ended, numbers-of, read-numbers, bounds-of, reading-of, scan-of, Became, Reads}
 use Rattle.decimal.specs.declared.reading.Reading.{Reading}
@@ -108,17 +108,12 @@ module _
 pub printed-right :
     {limits : Limits} {t : List ℕ} {r : Counts} {before after : Lent} → Build-says limits t r before after →
     printed r (after .words) (after .sets) ≡ answered (build-refusal limits t (room-of before)) t
-unfolding printed answered as-counts
-printed-right {limits} {t} {r} {before} {after} says = go (build-refusal limits t (room-of before)) refl
+unfolding printed answered
+printed-right {limits} {t} {r} {before} {after} says = go (build-refusal limits t (room-of before)) (build-number says)
   where
-    number : (k : ℕ) → build-refusal limits t (room-of before) ≡ k → r .number ≡ as-counts k (length (complement t .states)) (length (complement t .edges)) .number
-    number k e = ap (λ (c : Counts). c .number) (rw e at (says .answer))
-
-    go : (k : ℕ) → build-refusal limits t (room-of before) ≡ k → printed r (after .words) (after .sets) ≡ answered k t
-    go zero e = let z : r .number ≡ 0 = number 0 e in rw (eq-eqb z) (built-right says z)
-    go (suc k) e =
-        let z : r .number ≡ suc k = number (suc k) e in
-        rw (ne-eqb (r .number) 0 (λ q. omega arith)) (ap refused-line z)
+    go : (k : ℕ) → r .number ≡ k → printed r (after .words) (after .sets) ≡ answered k t
+    go zero e = rw (eq-eqb e) (built-right says e)
+    go (suc k) e = rw (ne-eqb (r .number) 0 (λ q. omega arith)) (ap refused-line e)
 
 -- THE ROOM
 -- of arrays

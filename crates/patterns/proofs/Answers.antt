@@ -1,34 +1,93 @@
--- From the parts of a reading to what it answers and leaves, and from a reading to the check's answer, which is at most 10.
--- Assumes nothing.
+-- From the parts of a reading to what it answers and leaves, and from a reading to the check's answer: its number, which is at most 10, and its
+-- place. Assumes nothing.
 use mathlib.Core.Path.{_≡_, refl, sym, _∙_, ap}
-use mathlib.Core.Bool.{Bool, true, false}
+use mathlib.Core.Bool.{true, false, cond}
 use mathlib.Core.List.{List}
+use mathlib.Core.Logic.{inl, inr}
 use Prim.Native.Nat.{ℕ, zero, suc, _≤_}
 use native.Mathlib.Omega.{arith}
 use lib.Dec.{eqb}
 use Rattle.basics.specs.Buffers.{or-else}
-use Rattle.basics.proofs.Booleans.{eq-eqb, ne-eqb}
+use Rattle.basics.proofs.Booleans.{either, eqb-eq, eqb-ne, eq-eqb, ne-eqb}
 use Rattle.basics.proofs.Refusing.{answer-most}
 use Rattle.tables.specs.Table.{pattern-range, table-refusal, meaning}
 use Rattle.tables.proofs.Refusals.{table-most}
-use Rattle.patterns.specs.Check.{check-refusal, as-checked, as-reading, reading, masks-read}
+use Rattle.patterns.specs.Check.{check-refusal, no-place, place-of, check-place, as-checked, checked, as-reading, reading, masks-read}
+use Rattle.patterns.specs.Forks.{fork-place}
 use Rattle.patterns.specs.Masks.{masks-of}
 use Rattle.patterns.specs.Pattern.{semi-deterministic, moves}
 use Rattle.patterns.specs.Shape.{shape-of, masks-fork, Shape-asks, Small-shape}
+use Rattle.patterns.specs.declared.Checked.{Checked}
 use Rattle.patterns.specs.declared.Checked.the-variants.{Passed, Refused}
+use Rattle.patterns.specs.declared.Fork.{Fork}
+use Rattle.patterns.specs.declared.Fork.the-variants.{Nowhere, At}
 use Rattle.patterns.specs.declared.PatternReading.{PatternReading}
 use Rattle.patterns.specs.declared.PatternReading.the-variants as read
+use Rattle.patterns.specs.declared.Place.{Place}
 use Rattle.patterns.specs.declared.Shape.{Shape}
-use Rattle.patterns.proofs.Forks.{check-number}
+use Rattle.patterns.proofs.Forks.{masks-right}
 use Rattle.patterns.proofs.Masks.{pattern-fits}
 use Rattle.patterns.proofs.Passed.{checked-table}
+use Rattle.patterns.proofs.Places.{nowhere-right, place-uneven}
 use Rattle.patterns.proofs.Shapes.{shape-small}
 
--- the answer for a number that is no zero
-as-refused : (number : ℕ) (shape : Shape) → (number ≡ 0 → ⊥) → read.Refused number ≡ as-reading number shape
+-- THE CHECK'S NUMBER AND PLACE. The number is at most 10
+pub check-most : (t : List ℕ) → check-refusal t ≤ 10
+unfolding check-refusal or-else
+check-most t =
+    let few = table-most pattern-range t in
+    answer-most (eqb (table-refusal pattern-range t) 0) 10
+    (answer-most (semi-deterministic (meaning t)) 10 (omega arith) (omega arith)) (omega arith)
+
+module _ (t : List ℕ) where
+  -- no number but 10 comes with a place
+  pub no-fork-place : (check-refusal t ≡ 10 → ⊥) → check-place t ≡ no-place
+  unfolding check-place
+  no-fork-place ne = rw (ne-eqb (check-refusal t) 10 ne)
+
+  -- 10 comes with the place where the pattern forks
+  pub fork-place-kept : {p : Place} → check-refusal t ≡ 10 → fork-place (meaning t) ≡ At p → check-place t ≡ p
+  unfolding check-place place-of
+  fork-place-kept ten e = rw (eq-eqb ten, e)
+
+  -- refusals 2 to 9 passed: 10 exactly where there is such a place
+  module _ (passed : table-refusal pattern-range t ≡ 0) where
+    pub check-forks : {p : Place} → fork-place (meaning t) ≡ At p → check-refusal t ≡ 10
+    unfolding check-refusal or-else
+    check-forks e = rw (passed, place-uneven (meaning t) e)
+
+    pub check-passes : fork-place (meaning t) ≡ Nowhere → check-refusal t ≡ 0
+    unfolding check-refusal or-else
+    check-passes e = rw (passed, nowhere-right (meaning t) .0 e)
+
+-- which of them is met: one of 2 to 9, or 10, or none
+pub data Check-case (t : List ℕ) : Type 0 where
+  by-table : table-refusal pattern-range t ≡ check-refusal t → 1 ≤ check-refusal t → check-refusal t ≤ 9 → Check-case t
+  by-fork :
+      table-refusal pattern-range t ≡ 0 → semi-deterministic (meaning t) ≡ false → check-refusal t ≡ 10 → Check-case t
+  by-none :
+      table-refusal pattern-range t ≡ 0 → semi-deterministic (meaning t) ≡ true → check-refusal t ≡ 0 → Check-case t
+
+pub check-cases : (t : List ℕ) → Check-case t
+unfolding check-refusal or-else
+check-cases t =
+    elim (either (eqb (table-refusal pattern-range t) 0)) [
+      | inl e ↦
+          let passed = eqb-eq (table-refusal pattern-range t) 0 e in
+          elim (either (semi-deterministic (meaning t))) [
+            | inl even ↦ by-none passed even (rw (e, even))
+            | inr fork ↦ by-fork passed fork (rw (e, fork))
+          ]
+      | inr e ↦
+          let ne = eqb-ne (table-refusal pattern-range t) 0 e in
+          by-table (rw e refl) (rw e (omega arith)) (rw e (table-most pattern-range t))
+    ]
+
+-- A READING, FROM ITS PARTS. The answer for a number that is no zero
+as-refused : (number : ℕ) (p : Place) (shape : Shape) → (number ≡ 0 → ⊥) → read.Refused number p ≡ as-reading number p shape
 unfolding as-reading
-as-refused zero shape met = absurd (met refl)
-as-refused (suc r) shape met = refl
+as-refused zero p shape met = absurd (met refl)
+as-refused (suc r) p shape met = refl
 
 -- what refusals 2 to 9 say
 module _ (t : List ℕ) (number : ℕ) (told : number ≡ table-refusal pattern-range t) where
@@ -36,12 +95,13 @@ module _ (t : List ℕ) (number : ℕ) (told : number ≡ table-refusal pattern-
   first-met : (number ≡ 0 → ⊥) → eqb (table-refusal pattern-range t) 0 ≡ false
   first-met met = ne-eqb (table-refusal pattern-range t) 0 (λ z. met (told ∙ z))
 
-  pub table-refused : (number ≡ 0 → ⊥) → read.Refused number ≡ reading t
+  pub table-refused : (number ≡ 0 → ⊥) → read.Refused number no-place ≡ reading t
   unfolding reading check-refusal or-else
   table-refused met =
-      let e = first-met met in
-      let same : number ≡ check-refusal t = rw e told in
-      as-refused number (shape-of (moves (meaning t))) met ∙ rw same
+      let same : number ≡ check-refusal t = rw (first-met met) told in
+      let few = table-most pattern-range t in
+      let none = no-fork-place t (λ ten. omega arith) in
+      as-refused number no-place (shape-of (moves (meaning t))) met ∙ cc (same, none)
 
   pub masks-kept : (number ≡ 0 → ⊥) → (before : List (List ℕ)) → before ≡ masks-read t before
   unfolding masks-read
@@ -62,94 +122,114 @@ module _ (t : List ℕ) (number : ℕ) (told : number ≡ table-refusal pattern-
     unfolding masks-read
     masks-spread before = let e : eqb (table-refusal pattern-range t) 0 ≡ true = eq-eqb (table-passed none) in cc
 
-    -- then 10 is the answer exactly where a fork is found
+    -- then 10 is the answer exactly where a fork is found, with its place
     module _
-        (shape : Shape) (shaped : shape ≡ shape-of (moves (meaning t))) (found : Bool) (tested : found ≡ masks-fork masks shape) where
-      pub fork-refused : found ≡ true → read.Refused 10 ≡ reading t
-      unfolding reading as-reading
-      fork-refused h =
-          let e : 10 ≡ check-refusal t = cc (check-number t (table-passed none)) in rw (← e)
+        (shape : Shape) (shaped : shape ≡ shape-of (moves (meaning t))) (fork : Fork) (found : fork ≡ masks-fork masks shape) where
+      placed : fork-place (meaning t) ≡ fork
+      placed = let right = masks-right (meaning t) (pattern-fits t (table-passed none)) in cc
 
-      pub even-passed : found ≡ false → read.Pattern shape ≡ reading t
+      pub fork-refused : (p : Place) → fork ≡ At p → read.Refused 10 p ≡ reading t
       unfolding reading as-reading
-      even-passed h =
-          let e : 0 ≡ check-refusal t = cc (check-number t (table-passed none)) in rw (← e, shaped)
+      fork-refused p e =
+          let ten = check-forks t (table-passed none) (placed ∙ e) in
+          rw (ten, fork-place-kept t ten (placed ∙ e))
+
+      pub even-passed : fork ≡ Nowhere → read.Pattern shape ≡ reading t
+      unfolding reading as-reading
+      even-passed e = rw (check-passes t (table-passed none) (placed ∙ e), shaped)
 
 -- WHAT A READING SAYS
 number-in : PatternReading → ℕ
-number-in (read.Refused r) = r
+number-in (read.Refused r p) = r
 number-in (read.Pattern shape) = 0
 
+place-in : PatternReading → (other : Place) → Place
+place-in (read.Refused r p) other = p
+place-in (read.Pattern shape) other = other
+
 refusals-in : PatternReading → ℕ
-refusals-in (read.Refused r) = 1
+refusals-in (read.Refused r p) = 1
 refusals-in (read.Pattern shape) = 0
 
 shape-in : PatternReading → (other : Shape) → Shape
-shape-in (read.Refused r) other = other
+shape-in (read.Refused r p) other = other
 shape-in (read.Pattern shape) other = shape
 
-as-numbered : (number : ℕ) (shape : Shape) → number-in (as-reading number shape) ≡ number
+checked-in : PatternReading → Checked
+checked-in (read.Refused r p) = Refused r p
+checked-in (read.Pattern shape) = Passed
+
+as-numbered : (number : ℕ) (p : Place) (shape : Shape) → number-in (as-reading number p shape) ≡ number
 unfolding as-reading number-in
-as-numbered zero shape = refl
-as-numbered (suc r) shape = refl
+as-numbered zero p shape = refl
+as-numbered (suc r) p shape = refl
 
-as-met : (told number : ℕ) (shape : Shape) → read.Refused number ≡ as-reading told shape → told ≡ 0 → ⊥
+as-placed : (number : ℕ) (p : Place) (shape : Shape) → place-in (as-reading number p shape) p ≡ p
+unfolding as-reading place-in
+as-placed zero p shape = refl
+as-placed (suc r) p shape = refl
+
+as-met : (told number : ℕ) (p q : Place) (shape : Shape) → read.Refused number q ≡ as-reading told p shape → told ≡ 0 → ⊥
 unfolding as-reading refusals-in
-as-met zero number shape e none = let z : _≡_ {A = ℕ} 1 0 = ap refusals-in e in omega arith
-as-met (suc r) number shape e none = omega arith
+as-met zero number p q shape e none = let z : _≡_ {A = ℕ} 1 0 = ap refusals-in e in omega arith
+as-met (suc r) number p q shape e none = omega arith
 
-as-shaped : (number : ℕ) (shape : Shape) → number ≡ 0 → shape-in (as-reading number shape) shape ≡ shape
+as-shaped : (number : ℕ) (p : Place) (shape : Shape) → number ≡ 0 → shape-in (as-reading number p shape) shape ≡ shape
 unfolding as-reading shape-in
-as-shaped zero shape none = refl
-as-shaped (suc r) shape none = absurd (omega arith)
+as-shaped zero p shape none = refl
+as-shaped (suc r) p shape none = absurd (omega arith)
+
+as-in : (number : ℕ) (p : Place) (shape : Shape) → checked-in (as-reading number p shape) ≡ as-checked number p
+unfolding as-reading checked-in as-checked
+as-in zero p shape = refl
+as-in (suc r) p shape = refl
 
 module _ (t : List ℕ) where
-  -- its number is the check's
-  pub reading-refused : (number : ℕ) → read.Refused number ≡ reading t → number ≡ check-refusal t
-  unfolding reading number-in
-  reading-refused number e = ap number-in e ∙ as-numbered (check-refusal t) (shape-of (moves (meaning t)))
+  -- the check's answer
+  reading-in : checked-in (reading t) ≡ checked t
+  unfolding reading checked
+  reading-in = as-in (check-refusal t) (check-place t) (shape-of (moves (meaning t)))
 
-  -- a refusal's number is no zero
-  pub reading-met : (number : ℕ) → read.Refused number ≡ reading t → number ≡ 0 → ⊥
-  unfolding reading
-  reading-met number e none =
-      as-met (check-refusal t) number (shape-of (moves (meaning t))) e (sym (reading-refused number e) ∙ none)
+  -- a refusal: its number and its place are the check's
+  module _ (number : ℕ) (p : Place) (told : read.Refused number p ≡ reading t) where
+    pub answer-refused : Refused number p ≡ checked t
+    unfolding checked-in
+    answer-refused = ap checked-in told ∙ reading-in
+
+    pub reading-refused : number ≡ check-refusal t
+    unfolding reading number-in
+    reading-refused = ap number-in told ∙ as-numbered (check-refusal t) (check-place t) (shape-of (moves (meaning t)))
+
+    pub reading-place : p ≡ check-place t
+    unfolding reading place-in
+    reading-place =
+        ap (λ (r : PatternReading). place-in r (check-place t)) told
+        ∙ as-placed (check-refusal t) (check-place t) (shape-of (moves (meaning t)))
+
+    -- and the number is no zero
+    pub reading-met : number ≡ 0 → ⊥
+    unfolding reading
+    reading-met none =
+        as-met (check-refusal t) number (check-place t) p (shape-of (moves (meaning t))) told (sym reading-refused ∙ none)
 
   -- where it gives a shape the check passes, the shape is the pattern's, and so are the masks
   module _ (shape : Shape) (told : read.Pattern shape ≡ reading t) where
+    pub answer-passed : Passed ≡ checked t
+    unfolding checked-in
+    answer-passed = ap checked-in told ∙ reading-in
+
     pub reading-passed : 0 ≡ check-refusal t
     unfolding reading number-in
-    reading-passed = ap number-in told ∙ as-numbered (check-refusal t) (shape-of (moves (meaning t)))
+    reading-passed = ap number-in told ∙ as-numbered (check-refusal t) (check-place t) (shape-of (moves (meaning t)))
 
     pub reading-shape : shape ≡ shape-of (moves (meaning t))
     unfolding reading shape-in
     reading-shape =
         ap (λ (r : PatternReading). shape-in r (shape-of (moves (meaning t)))) told
-        ∙ as-shaped (check-refusal t) (shape-of (moves (meaning t))) (sym reading-passed)
+        ∙ as-shaped (check-refusal t) (check-place t) (shape-of (moves (meaning t))) (sym reading-passed)
 
     pub reading-masks :
         (before masks : List (List ℕ)) → masks ≡ masks-read t before → masks ≡ masks-of (moves (meaning t))
     unfolding masks-read
     reading-masks before masks e =
         let none : eqb (table-refusal pattern-range t) 0 ≡ true = eq-eqb (checked-table t (sym reading-passed)) in cc
-
--- the number as the answer
-pub answer-passed : (number refusal : ℕ) → number ≡ refusal → number ≡ 0 → Passed ≡ as-checked refusal
-unfolding as-checked
-answer-passed number refusal e none = rw (← e, none)
-
-pub answer-refused : (number refusal : ℕ) → number ≡ refusal → (number ≡ 0 → ⊥) → Refused number ≡ as-checked refusal
-unfolding as-checked
-answer-refused number refusal e met = rw (← e) (go number met)
-  where
-    go : (number : ℕ) → (number ≡ 0 → ⊥) → Refused number ≡ as-checked number
-    go zero met = absurd (met refl)
-    go (suc r) met = refl
-
--- the check answers no number above 10
-pub check-most : (t : List ℕ) → check-refusal t ≤ 10
-unfolding check-refusal or-else
-check-most t =
-    let few = table-most pattern-range t in
-    answer-most (eqb (table-refusal pattern-range t) 0) 10
-    (answer-most (semi-deterministic (meaning t)) 10 (omega arith) (omega arith)) (omega arith)

@@ -3,7 +3,9 @@ pub mod Flags
 pub mod Forks
 pub mod Inner
 pub mod Masks
+pub mod Pairs
 pub mod Passed
+pub mod Places
 pub mod Rounds
 pub mod Rows
 pub mod Shapes

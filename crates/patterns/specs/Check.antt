@@ -5,31 +5,49 @@ use Prim.Native.Nat.{ℕ, zero, suc}
 use lib.Dec.{eqb}
 use Rattle.basics.specs.Buffers.{or-else}
 use Rattle.tables.specs.Table.{pattern-range, table-refusal, meaning}
+use Rattle.patterns.specs.Forks.{fork-place}
 use Rattle.patterns.specs.Masks.{masks-of}
 use Rattle.patterns.specs.Pattern.{semi-deterministic, moves}
 use Rattle.patterns.specs.Shape.{shape-of}
 use Rattle.patterns.specs.declared.Checked.{Checked}
 use Rattle.patterns.specs.declared.Checked.the-variants.{Passed, Refused}
+use Rattle.patterns.specs.declared.Fork.{Fork}
+use Rattle.patterns.specs.declared.Fork.the-variants.{Nowhere, At}
 use Rattle.patterns.specs.declared.PatternReading.{PatternReading}
 use Rattle.patterns.specs.declared.PatternReading.the-variants as read
+use Rattle.patterns.specs.declared.Place.{Place}
 use Rattle.patterns.specs.declared.Shape.{Shape}
 
 -- 2 to 9 in the pattern's range, then 10; zero where the pattern passes
 unfoldable pub check-refusal : List ℕ → ℕ
 check-refusal t = or-else (table-refusal pattern-range t) (cond (semi-deterministic (meaning t)) 0 10)
 
--- the answer for each number
-unfoldable pub as-checked : (number : ℕ) → Checked
-as-checked zero = Passed
-as-checked (suc r) = Refused (suc r)
+-- THE PLACE of a refusal: where the pattern forks with 10, and zero and zero with every other
+abbrev pub no-place : Place
+no-place = record { state = 0; letter = 0 }
 
--- the reading for each number: the pattern's shape where no refusal is met
-unfoldable pub as-reading : (number : ℕ) → Shape → PatternReading
-as-reading zero s = read.Pattern s
-as-reading (suc r) s = read.Refused (suc r)
+unfoldable pub place-of : Fork → Place
+place-of Nowhere = no-place
+place-of (At p) = p
+
+unfoldable pub check-place : List ℕ → Place
+check-place t = cond (eqb (check-refusal t) 10) (place-of (fork-place (meaning t))) no-place
+
+-- the answer for each number and place
+unfoldable pub as-checked : (number : ℕ) → Place → Checked
+as-checked zero p = Passed
+as-checked (suc r) p = Refused (suc r) p
+
+unfoldable pub checked : List ℕ → Checked
+checked t = as-checked (check-refusal t) (check-place t)
+
+-- the reading for each number and place: the pattern's shape where no refusal is met
+unfoldable pub as-reading : (number : ℕ) → Place → Shape → PatternReading
+as-reading zero p s = read.Pattern s
+as-reading (suc r) p s = read.Refused (suc r) p
 
 unfoldable pub reading : List ℕ → PatternReading
-reading t = as-reading (check-refusal t) (shape-of (moves (meaning t)))
+reading t = as-reading (check-refusal t) (check-place t) (shape-of (moves (meaning t)))
 
 -- what a reading leaves in the masks: the pattern's target sets where refusals 2 to 9 have passed, and else what they held
 unfoldable pub masks-read : List ℕ → (before : List (List ℕ)) → List (List ℕ)

@@ -1,4 +1,5 @@
 pub mod Check
+pub mod Forks
 pub mod Masks
 pub mod Pattern
 pub mod Reach

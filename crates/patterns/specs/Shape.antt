@@ -5,12 +5,13 @@ use mathlib.Core.List.{List, []}
 use Prim.Native.Nat.{ℕ, _≤_}
 use lib.Dec.{ltb}
 use lib.ListN.{getD}
-use Rattle.basics.specs.Bounded.{any}
 use Rattle.sets.specs.Sets.{set-states, row-letters, has, size}
 use Rattle.tables.specs.Table.{pattern-range, table-refusal, meaning}
 use Rattle.ncsb.specs.Moves.{Moves}
+use Rattle.patterns.specs.Forks.{first-pair}
 use Rattle.patterns.specs.Masks.{masks-of}
 use Rattle.patterns.specs.Pattern.{moves}
+use Rattle.patterns.specs.declared.Fork.{Fork}
 use Rattle.patterns.specs.declared.Shape.{Shape}
 
 -- the state and letter counts, I, F in Q2, and Q2
@@ -18,17 +19,17 @@ unfoldable pub shape-of : Moves → Shape
 shape-of d =
     record { states = d .states; letters = d .letters; starts = d .starts; marks = d .marks; inner = d .inner }
 
--- a letter has two targets in a state's row
-unfoldable pub two-targets : (row : List ℕ) → (letter : ℕ) → Bool
-two-targets r c = ltb 1 (size set-states (getD r c 0))
+-- a set of targets has more than one
+unfoldable pub two-targets : (set : ℕ) → Bool
+two-targets s = ltb 1 (size set-states s)
 
--- some letter has
-unfoldable pub row-forked : (letters : ℕ) → (row : List ℕ) → Bool
-row-forked k r = any k (two-targets r)
+-- a state of Q2 has two targets on a letter
+unfoldable pub mask-forks : (masks : List (List ℕ)) → (inner state letter : ℕ) → Bool
+mask-forks m i q c = has i q && two-targets (getD (getD m q []) c 0)
 
--- some state of Q2 has two targets on one letter
-unfoldable pub masks-fork : (masks : List (List ℕ)) → Shape → Bool
-masks-fork m s = any (s .states) (λ q. has (s .inner) q && row-forked (s .letters) (getD m q []))
+-- where the pattern of these masks forks first
+unfoldable pub masks-fork : (masks : List (List ℕ)) → Shape → Fork
+masks-fork m s = first-pair (s .states) (s .letters) (mask-forks m (s .inner))
 
 -- what is read off a pattern: it is one, and the masks are its own
 pub record Shape-asks (table : List ℕ) (masks : List (List ℕ)) : Type 0 where

@@ -14,19 +14,36 @@ use tables::states_of;
 use tables::table_refusal;
 use tables::target_of;
 ghost use mathlib.Core.Path.{_≡_};
-ghost use mathlib.Core.Bool.{_&&_};
-ghost use Prim.Native.Nat.{_≤_, _<_};
-ghost use Rattle.sets.specs.Sets.{set-states, row-letters, has, Narrow};
+ghost use Rattle.sets.specs.Sets.{Narrow};
 ghost use Rattle.tables.specs.Table.{pattern-range, table-refusal, meaning};
-ghost use Rattle.patterns.specs.Check.{check-refusal, as-checked, reading, masks-read};
+ghost use Rattle.patterns.specs.Check.{checked, reading, masks-read};
 ghost use Rattle.patterns.specs.Masks.{row-of, masks-of, joined, joined-in, Row-asks};
 ghost use Rattle.patterns.specs.Pattern.{initial-states, accepting-states, moves};
-ghost use Rattle.patterns.specs.Shape.{shape-of, row-forked, masks-fork, Shape-asks, Small-shape};
+ghost use Rattle.patterns.specs.Shape.{shape-of, two-targets, masks-fork, Shape-asks, Small-shape};
 
-// What the check answers: it passed, or the number of the refusal.
+// A place in a pattern: a state and a letter together.
+#[repr(C)]
+pub struct Place {
+    pub state: u32,
+    pub letter: u32,
+}
+
+// The place of every answer but refusal 10.
+pub const NO_PLACE: Place = Place {
+    state: 0,
+    letter: 0,
+};
+
+// Where a pattern forks first, if it does.
+pub enum Fork {
+    Nowhere,
+    At(Place),
+}
+
+// What the check answers: it passed, or the number of the refusal and its place.
 pub enum Checked {
     Passed,
-    Refused(u32),
+    Refused(u32, Place),
 }
 
 // What the step reads of a pattern beside the table of target sets: I, F in Q2, and Q2, each as a set of states.
@@ -38,9 +55,9 @@ pub struct Shape {
     pub inner: u32,
 }
 
-// What a reading of a table answers: the number of the refusal, or what the step reads of the pattern beside the masks.
+// What a reading of a table answers: the refusal as the check has it, or what the step reads of the pattern beside the masks.
 pub enum PatternReading {
-    Refused(u32),
+    Refused(u32, Place),
     Pattern(Shape),
 }
 
@@ -156,46 +173,42 @@ fn shape_of(table: &[u16], masks: &TargetSets) -> Shape
 
 // SEMI-DETERMINISM
 
-// Some letter has two targets in a state's row.
-fn row_forks(row: [u32; ROW_LETTERS], letters: usize) -> bool
-    requires { ⌜ letters ≤ row-letters ⌝ }
-    ensures { λ r. ⌜ r ≡ row-forked letters row ⌝ }
+// A set of targets has more than one.
+fn two_targets(set: u32) -> bool
+    ensures { λ r. ⌜ r ≡ two-targets set ⌝ }
 {
-    let mut letter = 0;
-    while letter < letters {
-        if u32::count_ones(row[letter]) > 1 {
-            return true;
-        }
-        letter += 1;
-    }
-    false
+    u32::count_ones(set) > 1
 }
 
-// A state with this row forks: it is in Q2, and some letter has two targets.
-fn state_forks(row: [u32; ROW_LETTERS], shape: Shape, state: usize) -> bool
-    requires { ⌜ Small-shape shape × (state < set-states) ⌝ }
-    ensures { λ r. ⌜ r ≡ (has (shape .inner) state && row-forked (shape .letters) row) ⌝ }
-{
-    if (shape.inner >> state) % 2 == 0 {
-        return false;
-    }
-    row_forks(row, shape.letters)
-}
-
-// Some state of Q2 has two targets on one letter: the pattern is not semi-deterministic.
-fn some_fork(masks: &TargetSets, shape: Shape) -> bool
+// Where the pattern forks first: the smallest state of Q2 that has two targets on one letter, and the smallest such letter. The search
+// ends at the first such pair.
+fn first_fork(masks: &TargetSets, shape: Shape) -> Fork
     requires { ⌜ Small-shape shape ⌝ }
     ensures { λ r. ⌜ r ≡ masks-fork (now (masks .entry)) shape ⌝ }
 {
     let states = shape.states;
+    let letters = shape.letters;
+    let inner = shape.inner;
     let mut state = 0;
-    while state < states {
-        if state_forks(masks[state], shape, state) {
-            return true;
+    let fork = 'search: loop {
+        if state == states {
+            break 'search Fork::Nowhere;
+        }
+        if (inner >> state) % 2 == 1 {
+            let mut letter = 0;
+            while letter < letters {
+                if two_targets(masks[state][letter]) {
+                    break 'search Fork::At(Place {
+                        state: state as u32,
+                        letter: letter as u32,
+                    });
+                }
+                letter += 1;
+            }
         }
         state += 1;
-    }
-    false
+    };
+    fork
 }
 
 // THE CHECK
@@ -208,34 +221,23 @@ pub fn read_pattern(table: &[u16], masks: &mut TargetSets) -> PatternReading
 {
     let refusal = table_refusal(table, PATTERN_STATES, PATTERN_RECORDS);
     if refusal != 0 {
-        return PatternReading::Refused(refusal);
+        return PatternReading::Refused(refusal, NO_PLACE);
     }
     spread_out(table, masks);
     let shape = shape_of(table, masks);
-    if some_fork(masks, shape) {
-        return PatternReading::Refused(10);
+    match first_fork(masks, shape) {
+        Fork::At(place) => PatternReading::Refused(10, place),
+        Fork::Nowhere => PatternReading::Pattern(shape),
     }
-    PatternReading::Pattern(shape)
 }
 
-// The first of refusals 2 to 10 that the table meets, or zero.
-pub fn check_refusal(table: &[u16]) -> u32
-    ensures { λ r. ⌜ r ≡ check-refusal (now (table .entry)) ⌝ }
+// Whether the table is a pattern that can be complemented: it passes, or the first of refusals 2 to 10 that it meets, and where it forks.
+pub fn check_pattern(table: &[u16]) -> Checked
+    ensures { λ r. ⌜ r ≡ checked (now (table .entry)) ⌝ }
 {
     let mut masks = [[0u32; ROW_LETTERS]; SET_STATES];
     match read_pattern(table, &mut masks) {
-        PatternReading::Refused(number) => number,
-        PatternReading::Pattern(_) => 0,
+        PatternReading::Refused(number, place) => Checked::Refused(number, place),
+        PatternReading::Pattern(_) => Checked::Passed,
     }
-}
-
-// Whether the table is a pattern that can be complemented.
-pub fn check_pattern(table: &[u16]) -> Checked
-    ensures { λ r. ⌜ r ≡ as-checked (check-refusal (now (table .entry))) ⌝ }
-{
-    let refusal = check_refusal(table);
-    if refusal == 0 {
-        return Checked::Passed;
-    }
-    Checked::Refused(refusal)
 }

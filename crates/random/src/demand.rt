@@ -103,6 +103,6 @@ pub(crate) fn try_pattern(tally: Tally, draw: Draw) -> Tally {
     let length = table_length(plan);
     match check_pattern(&table[0..length]) {
         Checked::Passed => try_complement(tally, &table[0..length], plan.letters, drawn),
-        Checked::Refused(_) => tally.disagreed(),
+        Checked::Refused(_, _) => tally.disagreed(),
     }
 }

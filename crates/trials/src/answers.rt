@@ -2,6 +2,7 @@
 use complement::Counts;
 use lassos::Decision;
 use patterns::Checked;
+use patterns::Place;
 
 fn print_number(before: &[u8], number: u32) {
     io::write_all(1, before);
@@ -13,12 +14,20 @@ fn print_refused(number: u32) {
     io::write_all(1, b"\n");
 }
 
+// A refusal of the check or of the build: its number, and its place as a state and a letter.
+fn print_refused_at(number: u32, place: Place) {
+    print_number(b": refused ", number);
+    print_number(b" (", place.state);
+    print_number(b", ", place.letter);
+    io::write_all(1, b")\n");
+}
+
 pub(crate) fn print_checked(answer: Checked) {
     match answer {
         Checked::Passed => {
             io::write_all(1, b": passed\n");
         }
-        Checked::Refused(number) => print_refused(number),
+        Checked::Refused(number, place) => print_refused_at(number, place),
     }
 }
 
@@ -36,7 +45,7 @@ pub(crate) fn print_decision(answer: Decision) {
 
 pub(crate) fn print_counts(counts: Counts) {
     if counts.number != 0 {
-        print_refused(counts.number);
+        print_refused_at(counts.number, counts.place);
     } else {
         print_number(b": states ", counts.states);
         print_number(b" edges ", counts.edges);

@@ -22,7 +22,7 @@ use Rattle.patterns.specs.Pattern.{moves}
 use Rattle.patterns.proofs.Passed.{checked-split, checked-wider}
 use Rattle.complement.specs.Build.{room-of}
 use Rattle.complement.specs.Complement.{system-of, complement, complement-automaton, complement-words}
-use Rattle.complement.proofs.Second.{Fits, pattern-exactly, few-states, words-mean, words-valid, build-number, build-passed, build-fits, build-states, build-edges, build-used, build-sets}
+use Rattle.complement.proofs.Second.{Fits, pattern-exactly, few-states, words-mean, words-valid, build-number, build-place, build-passed, build-fits, build-states, build-edges, build-used, build-sets}
 use Rattle.complement.proofs.Third.{Parted, parted-words}
 use Rattle.lassos.specs.Decision.{decision, Lasso-says}
 use Rattle.lassos.specs.declared.Decision.{Decision}
@@ -32,6 +32,7 @@ use Rattle.tubochre.specs.Calls.{as-answer, Lasso-answers}
 use Rattle.tubochre.specs.declared.Answer.{Answer}
 use Rattle.tubochre.specs.Demand.{Reached-exactly, Second-demand, Refused-builds, Not-refused, Compared, Third-demand, Demands}
 use Rattle.tubochre.proofs.Answers.{not-refused, lasso-demand}
+use Rattle.tubochre.proofs.Checks.{placed-exactly, check-demand}
 use Rattle.tubochre.proofs.Refusals.{Met, which-refusal, refused-checked, checked-refused, refused-states, states-refused, refused-words, words-refused, refused-none, none-refused, refused-most}
 
 -- THE COMPLEMENT of a pattern that passes is exactly what is reached
@@ -77,6 +78,8 @@ refused-builds range t r before after says =
       words = (refused-words met, words-refused met);
       none = (refused-none met, none-refused met);
       no-other = refused-most met;
+      place =
+          placed-exactly t (refused-checked met 10 (omega arith) (omega arith), checked-refused met 10 (omega arith)) (build-place says);
       reached = reached-exactly t;
     }
 
@@ -175,7 +178,7 @@ module _
 -- single accepting run; the decision says which; and the states are at most 2^p·3^a·4^r
 pub third-demand : (range : Limits) → Wider pattern-range range → Third-demand range
 unfolding Third-demand
-third-demand range wider t checked r before after u v answer passes says accepted lasso =
+third-demand range wider t check r before after u v answer passes says accepted lasso =
     compared-as wider t (build-passed says accepted) (build-fits says accepted) u v lasso (build-used says accepted)
     (build-states says accepted)
 
@@ -183,6 +186,7 @@ third-demand range wider t checked r before after u v answer passes says accepte
 pub demands : {bits : ℕ} {range : Limits} → Range-fits bits range → Wider pattern-range range → Demands bits range
 demands {range} fits wider =
     record {
+      check = check-demand;
       second = second-demand fits;
       refused = refused-builds range;
       lassos = lasso-demand range;

@@ -1,4 +1,5 @@
 pub mod Answers
+pub mod Checks
 pub mod Demand
 pub mod Inside
 pub mod Refusals

@@ -2,7 +2,7 @@
 use mathlib.Core.Path.{_≡_, refl, _∙_}
 use mathlib.Core.List.{List}
 use mathlib.Core.Logic.{_⊎_, inl, inr}
-use Prim.Native.Nat.{ℕ, zero, suc, _≤_, _<_}
+use Prim.Native.Nat.{ℕ, _≤_, _<_}
 use native.Mathlib.Omega.{arith}
 use lib.Dec.{eqb}
 use lib.ListN.{length}
@@ -34,11 +34,7 @@ module _ (range : Limits) (t : List ℕ) (room : Room) where
   check-met ne =
       let same : build-refusal range t room ≡ check-refusal t = rw (ne-eqb (check-refusal t) 0 ne) refl in
       let few = check-most t in
-      let some : 1 ≤ check-refusal t = positive (check-refusal t) ne in rw same (by-check refl some few)
-    where
-      positive : (k : ℕ) → (k ≡ 0 → ⊥) → 1 ≤ k
-      positive zero ne = absurd (ne refl)
-      positive (suc k) ne = omega arith
+      let some : 1 ≤ check-refusal t = omega arith in rw same (by-check refl some few)
 
   pub which-refusal : Met range t room (build-refusal range t room)
   unfolding build-refusal or-else

@@ -8,7 +8,7 @@ use lib.ListN.{length}
 use Rattle.basics.specs.Buffers.{zeros}
 use Rattle.basics.proofs.Booleans.{either, eqb-eq, eqb-ne}
 use Rattle.basics.proofs.Clears.{zeros-length, zeros-same}
-use Rattle.patterns.specs.Check.{check-refusal, as-checked}
+use Rattle.patterns.specs.Check.{as-checked, checked}
 use Rattle.patterns.specs.declared.Checked.the-variants.{Passed}
 use Rattle.complement.specs.Build.{Lent, Build-says}
 use Rattle.complement.proofs.Second.{build-passed}
@@ -23,7 +23,7 @@ module _
     {t u v w between w-now : List ℕ}
     {before after : Lent}
     {r : Trial}
-    (check : r .checked ≡ as-checked (check-refusal t))
+    (check : r .checked ≡ checked t)
     (build : Build-says wide-range t (r .counts) before after)
     (pattern : Lasso-says wide-range t u v (r .pattern) w between)
     (built : Decided-built (r .counts) (after .words) u v (r .complement) between w-now)
@@ -38,8 +38,8 @@ module _
           | inr e ↦ built .kept (eqb-ne (r .counts .number) 0 e) ∙ pattern .work
         ]
 
-    passes : r .counts .number ≡ 0 → Passed ≡ as-checked (check-refusal t)
-    unfolding as-checked
+    passes : r .counts .number ≡ 0 → Passed ≡ checked t
+    unfolding checked as-checked
     passes z = rw (build-passed build z)
 
     pub trial-says : Trial-says t u v r before after w w-now

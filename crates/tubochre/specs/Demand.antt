@@ -10,14 +10,16 @@ use lib.ListN.{length, getD}
 use Rattle.automata.specs.Automaton.{Accepting-run, Takes, Single-run, Same}
 use Rattle.automata.specs.Lasso.{letter-at, Lasso}
 use Rattle.automata.specs.System.{Member, Reached, Exactly}
-use Rattle.tables.specs.Table.{Limits, table-words, k-of, meaning, table-refusal}
+use Rattle.tables.specs.Table.{Limits, pattern-range, table-words, k-of, meaning, table-refusal}
 use Rattle.ncsb.specs.Bound.{bound}
 use Rattle.ncsb.specs.Step.{Start, Step, Rising-S}
 use Rattle.ncsb.specs.declared.Quadruple.{Quadruple}
-use Rattle.patterns.specs.Check.{check-refusal, as-checked}
+use Rattle.patterns.specs.Check.{check-refusal, no-place, checked}
+use Rattle.patterns.specs.Forks.{Some-fork, Forks-first}
 use Rattle.patterns.specs.Pattern.{moves}
 use Rattle.patterns.specs.declared.Checked.{Checked}
 use Rattle.patterns.specs.declared.Checked.the-variants.{Passed}
+use Rattle.patterns.specs.declared.Place.{Place}
 use Rattle.complement.specs.Build.{Lent, Room, room-of, Build-says, used, used-sets}
 use Rattle.complement.specs.Complement.{system-of, complement, complement-automaton, complement-words, sets-words}
 use Rattle.complement.specs.declared.Counts.{Counts}
@@ -25,8 +27,30 @@ use Rattle.lassos.specs.Decision.{Lasso-says}
 use Rattle.lassos.specs.Refusals.{lasso-refusal}
 use Rattle.lassos.specs.declared.Decision.{Decision}
 use Rattle.lassos.specs.declared.Decision.the-variants.{Taken, NotTaken, Refused}
-use Rattle.tubochre.specs.Calls.{Lasso-answers}
+use Rattle.tubochre.specs.Calls.{as-check-answer, Lasso-answers}
 use Rattle.tubochre.specs.declared.Answer.{Answer}
+use Rattle.tubochre.specs.declared.CheckAnswer.{CheckAnswer}
+
+-- THE PLACE that the check and a build carry with their number
+pub record Placed-exactly (t : List ℕ) (number : ℕ) (at : Place) : Type 0 where
+  -- 10: where the pattern forks first
+  pub forks : number ≡ 10 → Forks-first (meaning t) at
+  -- any other number: zero and zero
+  pub none : (number ≡ 10 → ⊥) → at ≡ no-place
+
+-- THE CHECK: each refusal comes in its case and in no other
+pub record Checked-exactly (t : List ℕ) (r : CheckAnswer) : Type 0 where
+  -- 2 to 9 are those of a pattern's table
+  pub table : (k : ℕ) → 1 ≤ k → k ≤ 9 → (r .number ≡ k) ↔ (table-refusal pattern-range t ≡ k)
+  -- 10: none of them, and some state of Q2 has two targets on one letter; the pattern passes where none has
+  pub forked : (r .number ≡ 10) ↔ ((table-refusal pattern-range t ≡ 0) × Some-fork (meaning t))
+  pub passed : (r .number ≡ 0) ↔ ((table-refusal pattern-range t ≡ 0) × (Some-fork (meaning t) → ⊥))
+  pub no-other : r .number ≤ 10
+  pub place : Placed-exactly t (r .number) (r .place)
+
+-- whatever the check answers
+unfoldable pub Check-demand : Type 0
+Check-demand = (t : List ℕ) (r : CheckAnswer) → r ≡ as-check-answer (checked t) → Checked-exactly t r
 
 -- THE COMPLEMENT of a pattern that passes the check: exactly what is reached of the paper's quadruples
 pub record Reached-exactly (t : List ℕ) : Type 0 where
@@ -76,8 +100,8 @@ Too-many-words range t room =
     (range .records < length (complement t .edges))
     ⊎ (room .words < table-words (length (complement t .states)) (length (complement t .edges)))
 
--- a build's number: each refusal comes in its case and in no other
-pub record Refused-exactly (range : Limits) (t : List ℕ) (room : Room) (number : ℕ) : Type 0 where
+-- a build's number and place: each refusal comes in its case and in no other
+pub record Refused-exactly (range : Limits) (t : List ℕ) (room : Room) (number : ℕ) (at : Place) : Type 0 where
   -- 2 to 10 are those of the check
   pub check : (k : ℕ) → 1 ≤ k → k ≤ 10 → (number ≡ k) ↔ (check-refusal t ≡ k)
   -- 11: the pattern passes, and its complement has too many states; 12: the states fit, and edges or words are too many
@@ -86,6 +110,8 @@ pub record Refused-exactly (range : Limits) (t : List ℕ) (room : Room) (number
   -- nothing is refused where all fits, and no other number is answered
   pub none : (number ≡ 0) ↔ ((check-refusal t ≡ 0) × (Too-many-states range t room → ⊥) × (Too-many-words range t room → ⊥))
   pub no-other : number ≤ 12
+  -- 10 comes with the check's place
+  pub place : Placed-exactly t number at
   -- what is counted is the whole reachable complement
   pub reached : check-refusal t ≡ 0 → Reached-exactly t
 
@@ -93,7 +119,7 @@ pub record Refused-exactly (range : Limits) (t : List ℕ) (room : Room) (number
 unfoldable pub Refused-builds : Limits → Type 0
 Refused-builds range =
     (t : List ℕ) (r : Counts) (before after : Lent) → Build-says range t r before after →
-    Refused-exactly range t (room-of before) (r .number)
+    Refused-exactly range t (room-of before) (r .number) (r .place)
 
 -- THE SECOND DEMAND, of a lasso decision d on a table t, a prefix u and a loop v, with so many work words: a lasso is taken exactly if
 -- an infinite run over it passes accepting states without end
@@ -146,12 +172,13 @@ pub record Compared (range : Limits) (t c u v : List ℕ) (states : ℕ) : Type 
 -- whatever pattern passes the check, whatever room its complement is built in without refusal, and whatever lasso over its letters
 unfoldable pub Third-demand : Limits → Type 0
 Third-demand range =
-    (t : List ℕ) (checked : Checked) (r : Counts) (before after : Lent) (u v : List ℕ) →
-    checked ≡ as-checked (check-refusal t) → checked ≡ Passed → Build-says range t r before after → r .number ≡ 0 →
+    (t : List ℕ) (answer : Checked) (r : Counts) (before after : Lent) (u v : List ℕ) →
+    answer ≡ checked t → answer ≡ Passed → Build-says range t r before after → r .number ≡ 0 →
     Lasso (k-of t) u v → Compared range t (used r (after .words)) u v (r .states)
 
 -- ALL OF THEM, for tables of a range in words of so many bits
 pub record Demands (bits : ℕ) (range : Limits) : Type 0 where
+  pub check : Check-demand
   pub second : Second-demand bits range
   pub refused : Refused-builds range
   pub lassos : Lasso-demand range

@@ -6,7 +6,7 @@ use lib.ListN.{length}
 use Rattle.basics.specs.Buffers.{zeros}
 use Rattle.automata.specs.Lasso.{Lasso}
 use Rattle.tables.specs.Table.{table-words, wide-range, k-of}
-use Rattle.patterns.specs.Check.{check-refusal, as-checked}
+use Rattle.patterns.specs.Check.{checked}
 use Rattle.complement.specs.Build.{Lent, Build-says, used}
 use Rattle.complement.specs.declared.Counts.{Counts}
 use Rattle.lassos.specs.Decision.{decision}
@@ -28,7 +28,7 @@ pub record Decided-built (r : Counts) (o u v : List ℕ) (d : Decision) (w w-now
 
 -- A TRIAL: check, build, decide on the pattern, decide on the used part of the words
 pub record Trial-says (t u v : List ℕ) (r : Trial) (before after : Lent) (w w-now : List ℕ) : Type 0 where
-  pub check : r .checked ≡ as-checked (check-refusal t)
+  pub check : r .checked ≡ checked t
   pub build : Build-says wide-range t (r .counts) before after
   pub pattern : r .pattern ≡ decision wide-range t u v (length w)
   -- the complement is decided where it was built, and else carries the build's refusal

@@ -2,13 +2,22 @@
 use complement::Counts;
 use lassos::Decision;
 use patterns::Checked;
+use patterns::NO_PLACE;
+use patterns::Place;
 use tables::table_words;
 ghost use mathlib.Core.Path.{_≡_};
-ghost use Rattle.patterns.specs.Check.{check-refusal};
+ghost use Rattle.patterns.specs.Check.{checked};
 ghost use Rattle.tables.specs.Table.{wide-range};
 ghost use Rattle.complement.specs.Build.{lent, Build-says};
-ghost use Rattle.tubochre.specs.Calls.{as-answer, Lasso-answers};
+ghost use Rattle.tubochre.specs.Calls.{as-check-answer, as-answer, Lasso-answers};
 ghost use Rattle.tubochre.specs.Trying.{Used-inside, Decided-built, Trial-says};
+
+// What the check answers in numbers: 0 and no place where the pattern passes, or the refusal's number and its place.
+#[repr(C)]
+pub struct CheckAnswer {
+    pub number: u32,
+    pub place: Place,
+}
 
 // A lasso decision in numbers: 0 and 1 taken, 0 and 0 not taken, or the refusal's number and 0. Only `number` tells a refusal.
 #[repr(C)]
@@ -27,12 +36,18 @@ pub struct Trial {
 
 // THE CALLS FOR C
 
-// The pattern passes (0), or which of 2 to 10 refuses it.
+// The pattern passes, or which of 2 to 10 refuses it, and where it forks.
 #[no_mangle]
-pub extern "C" fn tubochre_check(table: &[u16]) -> u32
-    ensures { λ r. ⌜ r ≡ check-refusal (now (table .entry)) ⌝ }
+pub extern "C" fn tubochre_check(table: &[u16]) -> CheckAnswer
+    ensures { λ r. ⌜ r ≡ as-check-answer (checked (now (table .entry))) ⌝ }
 {
-    patterns::check_refusal(table)
+    match patterns::check_pattern(table) {
+        Checked::Passed => CheckAnswer {
+            number: 0,
+            place: NO_PLACE,
+        },
+        Checked::Refused(number, place) => CheckAnswer { number, place },
+    }
 }
 
 // The complement of a pattern, in the lent words and sets.

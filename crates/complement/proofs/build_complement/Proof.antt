@@ -5,7 +5,7 @@ use mathlib.Core.List.{List}
 use Prim.Native.Nat.{ℕ}
 use borrow.Author.Needs.{needs}
 use Rattle.tables.specs.Table.{wide-range}
-use Rattle.patterns.proofs.Answers.{reading-refused, reading-met, reading-passed, reading-shape, reading-masks}
+use Rattle.patterns.proofs.Answers.{reading-refused, reading-place, reading-met, reading-passed, reading-shape, reading-masks}
 use Rattle.complement.specs.Build.{Lent, lent}
 use Rattle.complement.specs.Found.{Read-off}
 use Rattle.complement.proofs.Answers.{refused-check}
@@ -67,7 +67,8 @@ returns c =
     let met : tie.After-number = search in
     let at : tie.After-read-pattern = search in
     let told = sym (met .number .given .1) ∙ at .read-pattern .ensures .0 in
-    refused-check wide-range (table at) (lends at) (reading-refused _ _ told) (reading-met _ _ told) (refused .refuse .ensures)
+    refused-check wide-range (table at) (lends at) (reading-refused _ _ _ told) (reading-met _ _ _ told) (reading-place _ _ _ told)
+    (refused .refuse .ensures)
 
 same-length-3 : tie.Need-same-length-3
 same-length-3 c = search needs

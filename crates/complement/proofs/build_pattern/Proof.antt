@@ -156,17 +156,17 @@ set-flags-requires c κs =
     built-flags (of .read-off) (shows fitting (of .table) (of .read-off)) (after-too-long .too-long .ensures) (short .if2 .left)
     (laid-out .lay-out .ensures) (laid-out .lay-out .kept .0)
 
-cast-t34 : tie.Need-cast-t34
+cast-t36 : tie.Need-cast-t36
 unfolding wide-range
-cast-t34 c =
+cast-t36 c =
     let short : tie.Else2 = search in
     let both = few short in
     let states = both .0 in
     let edges = both .1 in omega arith
 
-cast-t35 : tie.Need-cast-t35
+cast-t37 : tie.Need-cast-t37
 unfolding wide-range
-cast-t35 c =
+cast-t37 c =
     let short : tie.Else2 = search in
     let both = few short in
     let states = both .0 in
@@ -213,8 +213,8 @@ build-pattern-spec =
     lay-out-requires
     initial-count-requires
     set-flags-requires
-    cast-t34
-    cast-t35
+    cast-t36
+    cast-t37
     same-length-5
     same-length-6
     returns-3)

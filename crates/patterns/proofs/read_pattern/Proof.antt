@@ -1,5 +1,6 @@
 -- `patterns::read_pattern` meets its contract: refusals 2 to 9 first, then the masks and the shape, then 10 where a fork is found.
 -- Assumes nothing.
+use borrow.Author.Needs.{needs}
 use Rattle.tables.specs.Table.{pattern-range}
 use Rattle.patterns.proofs.Answers.{table-refused, masks-kept, table-passed, asks-shape, asks-small, masks-spread, fork-refused, even-passed}
 use Rattle.patterns.proofs.read_pattern.Statement.{statement}
@@ -30,39 +31,46 @@ shape-of-requires c κs =
     let after-table-refusal : tie.After-table-refusal = search in
     asks-shape _ _ (after-table-refusal .table-refusal .ensures) (passed .if1 .left) _ (spread .spread-out .ensures)
 
-some-fork-requires : tie.Need-some-fork-requires
+first-fork-requires : tie.Need-first-fork-requires
 unfolding pattern-range
-some-fork-requires c κs =
+first-fork-requires c κs =
     let shaped : tie.After-shape-of = search in
     let passed : tie.Else1 = search in
     let after-table-refusal : tie.After-table-refusal = search in
     asks-small _ _ (after-table-refusal .table-refusal .ensures) (passed .if1 .left) _ (shaped .shape-of .ensures)
 
+enum-known-place : tie.Need-enum-known-place
+enum-known-place c = search needs
+
+enum-told : tie.Need-enum-told
+enum-told c = search needs
+
 returns-2 : tie.Need-returns-2
 unfolding pattern-range
 returns-2 c =
-    let searched : tie.After-some-fork = search in
+    let at : tie.After-place = search in
+    let searched : tie.After-first-fork = search in
     let shaped : tie.After-shape-of = search in
     let spread : tie.After-spread-out = search in
     let passed : tie.Else1 = search in
     let after-table-refusal : tie.After-table-refusal = search in
     let masked = spread .spread-out .ensures in
     let told = after-table-refusal .table-refusal .ensures in (
-      fork-refused _ _ told (passed .if1 .left) _ masked _ (shaped .shape-of .ensures) _ (searched .some-fork .ensures) (c .if2 .taken),
+      fork-refused _ _ told (passed .if1 .left) _ masked _ (shaped .shape-of .ensures) _ (searched .first-fork .ensures) _ (at .place .given .1),
       masks-spread _ _ told (passed .if1 .left) _ masked _,
     )
 
 returns-3 : tie.Need-returns-3
 unfolding pattern-range
 returns-3 c =
-    let searched : tie.After-some-fork = search in
+    let searched : tie.After-first-fork = search in
     let shaped : tie.After-shape-of = search in
     let spread : tie.After-spread-out = search in
     let passed : tie.Else1 = search in
     let after-table-refusal : tie.After-table-refusal = search in
     let masked = spread .spread-out .ensures in
     let told = after-table-refusal .table-refusal .ensures in (
-      even-passed _ _ told (passed .if1 .left) _ masked _ (shaped .shape-of .ensures) _ (searched .some-fork .ensures) (c .if2 .left),
+      even-passed _ _ told (passed .if1 .left) _ masked _ (shaped .shape-of .ensures) _ (searched .first-fork .ensures) (c .enum-told .given .1),
       masks-spread _ _ told (passed .if1 .left) _ masked _,
     )
 
@@ -74,6 +82,8 @@ read-pattern-spec =
     returns
     spread-out-requires
     shape-of-requires
-    some-fork-requires
+    first-fork-requires
+    enum-known-place
+    enum-told
     returns-2
     returns-3)

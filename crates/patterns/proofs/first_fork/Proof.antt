@@ -1,0 +1,182 @@
+-- `patterns::first_fork` meets its contract. The invariants: no state below `state` forks on any letter, and this state on no letter below
+-- `letter`. Assumes nothing.
+use mathlib.Core.Path.{_≡_}
+use mathlib.Core.Bool.{Bool, false}
+use mathlib.Core.Logic.{inl, inr}
+use Prim.Native.Nat.{_-_, _<_}
+use native.Mathlib.Omega.{arith}
+use Rattle.basics.specs.Bounded.{any}
+use Rattle.basics.proofs.Scans.{Scan, scan-start, scan-more, scan-none}
+use Rattle.sets.specs.Sets.{set-states, row-letters}
+use Rattle.patterns.specs.Shape.{mask-forks, masks-fork}
+use Rattle.patterns.proofs.Forks.{outer-even, inner-forks}
+use Rattle.patterns.proofs.Pairs.{row, search-found, search-ended}
+use Rattle.patterns.proofs.first_fork.Statement.{statement}
+use Rattle.patterns.proofs.first_fork.Tie as tie
+
+abbrev Inv-loop : tie.InvT-loop
+Inv-loop masks states letters inner state letter₀ letter = Scan false (mask-forks masks inner state) letters letter
+
+abbrev μ-loop : tie.MeasureT-loop
+μ-loop masks states letters inner state letter₀ letter = letters - letter
+
+abbrev Inv-search : tie.InvT-search
+Inv-search masks states letters inner state₀ state = Scan false (row states letters (mask-forks masks inner)) states state
+
+abbrev μ-search : tie.MeasureT-search
+μ-search masks states letters inner state₀ state = states - state
+
+-- at the head of a turn, where some states are left, the state is one of them
+module _ (c : tie.Else1 Inv-loop μ-loop Inv-search μ-search) where
+  abbrev begun : tie.Start Inv-loop μ-loop Inv-search μ-search
+  begun = search
+
+  abbrev at-state : tie.At-search Inv-loop μ-loop Inv-search μ-search
+  at-state = search
+
+  left : at-state .search .state < begun .args .shape .states
+  left = let l = at-state .search .inv .upto in let ne = c .if1 .left in omega arith
+
+  small : at-state .search .state < set-states
+  small = let l = left in let m = begun .pre .states in omega arith
+
+-- in a turn of the letters, the letter is one of the row's
+module _ (c : tie.In-loop Inv-loop μ-loop Inv-search μ-search) where
+  abbrev start : tie.Start Inv-loop μ-loop Inv-search μ-search
+  start = search
+
+  abbrev at-letter : tie.At-loop Inv-loop μ-loop Inv-search μ-search
+  at-letter = search
+
+  few : at-letter .loop .letter < row-letters
+  few = let l = c .loop-test .taken in let m = start .pre .letters in omega arith
+
+-- whether the state forks on the letter is whether its targets are two
+module _ (c : tie.After-two-targets Inv-loop μ-loop Inv-search μ-search) where
+  abbrev inside : tie.Then2 Inv-loop μ-loop Inv-search μ-search
+  inside = search
+
+  abbrev turn : tie.In-loop Inv-loop μ-loop Inv-search μ-search
+  turn = search
+
+  abbrev counted : tie.Else1 Inv-loop μ-loop Inv-search μ-search
+  counted = search
+
+  forks-here :
+      {b : Bool} → c .two-targets .result ≡ b →
+      mask-forks (start turn .args .masks .now) (start turn .args .shape .inner) (at-state counted .search .state) (at-letter turn .loop .letter) ≡ b
+  forks-here e = inner-forks _ _ _ _ (inside .if2 .taken) (c .two-targets .ensures) e
+
+-- a state forks on no letter once it is passed
+module _ (c : tie.Joined2 Inv-loop μ-loop Inv-search μ-search) where
+  abbrev passing : tie.Else1 Inv-loop μ-loop Inv-search μ-search
+  passing = search
+
+  even :
+      any (begun passing .args .shape .letters)
+      (mask-forks (begun passing .args .masks .now) (begun passing .args .shape .inner) (at-state passing .search .state))
+      ≡ false
+  even = elim (c .if2 .came) [ inl w ↦ scan-none (w .1 .inv) (w .2 .left) | inr w ↦ outer-even _ _ _ _ (w .left) ]
+
+-- THE NEEDS
+search-holds : tie.Need-search-holds Inv-loop μ-loop Inv-search μ-search
+search-holds c = scan-start
+
+cast-if2 : tie.Need-cast-if2 Inv-loop μ-loop Inv-search μ-search
+cast-if2 c = let l = small c in omega arith
+
+shr-if2 : tie.Need-shr-if2 Inv-loop μ-loop Inv-search μ-search
+shr-if2 c = small c
+
+loop-holds : tie.Need-loop-holds Inv-loop μ-loop Inv-search μ-search
+loop-holds c = scan-start
+
+mul-two-targets : tie.Need-mul-two-targets Inv-loop μ-loop Inv-search μ-search
+mul-two-targets c = let at : tie.Else1 Inv-loop μ-loop Inv-search μ-search = search in let l = small at in omega arith
+
+mul-two-targets-2 : tie.Need-mul-two-targets-2 Inv-loop μ-loop Inv-search μ-search
+mul-two-targets-2 c = let l = few c in omega arith
+
+index-1-two-targets : tie.Need-index-1-two-targets Inv-loop μ-loop Inv-search μ-search
+index-1-two-targets c = let at : tie.Else1 Inv-loop μ-loop Inv-search μ-search = search in small at
+
+index-2-two-targets : tie.Need-index-2-two-targets Inv-loop μ-loop Inv-search μ-search
+index-2-two-targets c = few c
+
+two-targets-requires : tie.Need-two-targets-requires Inv-loop μ-loop Inv-search μ-search
+two-targets-requires c κs = tt
+
+cast-t23 : tie.Need-cast-t23 Inv-loop μ-loop Inv-search μ-search
+cast-t23 c = let at : tie.Else1 Inv-loop μ-loop Inv-search μ-search = search in let l = small at in omega arith
+
+cast-t24 : tie.Need-cast-t24 Inv-loop μ-loop Inv-search μ-search
+cast-t24 c = let at : tie.In-loop Inv-loop μ-loop Inv-search μ-search = search in let l = few at in omega arith
+
+add-letter : tie.Need-add-letter Inv-loop μ-loop Inv-search μ-search
+add-letter c = let at : tie.In-loop Inv-loop μ-loop Inv-search μ-search = search in let l = few at in omega arith
+
+loop-less : tie.Need-loop-less Inv-loop μ-loop Inv-search μ-search
+loop-less c = omega arith
+
+loop-again : tie.Need-loop-again Inv-loop μ-loop Inv-search μ-search
+loop-again c =
+    let tested : tie.After-two-targets Inv-loop μ-loop Inv-search μ-search = search in
+    let at : tie.In-loop Inv-loop μ-loop Inv-search μ-search = search in
+    let looped : tie.At-loop Inv-loop μ-loop Inv-search μ-search = search in
+    scan-more (looped .loop .inv) (at .loop-test .taken) (forks-here tested (c .if3 .left))
+
+add-state : tie.Need-add-state Inv-loop μ-loop Inv-search μ-search
+add-state c = let at : tie.Else1 Inv-loop μ-loop Inv-search μ-search = search in let l = small at in omega arith
+
+search-less : tie.Need-search-less Inv-loop μ-loop Inv-search μ-search
+search-less c = let at : tie.Else1 Inv-loop μ-loop Inv-search μ-search = search in let l = left at in omega arith
+
+search-again : tie.Need-search-again Inv-loop μ-loop Inv-search μ-search
+search-again c =
+    let at : tie.Else1 Inv-loop μ-loop Inv-search μ-search = search in
+    let searched : tie.At-search Inv-loop μ-loop Inv-search μ-search = search in
+    scan-more (searched .search .inv) (left at) (even c)
+
+returns : tie.Need-returns Inv-loop μ-loop Inv-search μ-search
+unfolding masks-fork
+returns c =
+    let searched : tie.At-search Inv-loop μ-loop Inv-search μ-search = search in
+    let all = c .if1 .taken in search-ended _ _ _ _ (omega arith) (searched .search .inv)
+
+returns-2 : tie.Need-returns-2 Inv-loop μ-loop Inv-search μ-search
+unfolding masks-fork
+returns-2 c =
+    let tested : tie.After-two-targets Inv-loop μ-loop Inv-search μ-search = search in
+    let at : tie.In-loop Inv-loop μ-loop Inv-search μ-search = search in
+    let looped : tie.At-loop Inv-loop μ-loop Inv-search μ-search = search in
+    let of : tie.Else1 Inv-loop μ-loop Inv-search μ-search = search in
+    let searched : tie.At-search Inv-loop μ-loop Inv-search μ-search = search in
+    search-found _ _ _ _ _ (left of) (at .loop-test .taken) (searched .search .inv) (looped .loop .inv) (forks-here tested (c .if3 .taken))
+
+pub first-fork-spec : {M : Type 1} → statement M
+first-fork-spec =
+    tie.close
+    (tie.spec
+    Inv-loop
+    μ-loop
+    Inv-search
+    μ-search
+    search-holds
+    cast-if2
+    shr-if2
+    loop-holds
+    mul-two-targets
+    mul-two-targets-2
+    index-1-two-targets
+    index-2-two-targets
+    two-targets-requires
+    cast-t23
+    cast-t24
+    add-letter
+    loop-less
+    loop-again
+    add-state
+    search-less
+    search-again
+    returns
+    returns-2)
