@@ -60,7 +60,7 @@
 
 /* The version of this header, of the archives and of the programs. */
 #define TUBOCHRE_VERSION_MAJOR 0
-#define TUBOCHRE_VERSION_MINOR 1
+#define TUBOCHRE_VERSION_MINOR 2
 #define TUBOCHRE_VERSION_PATCH 0
 #define TUBOCHRE_VERSION_TEXT(major, minor, patch) #major "." #minor "." #patch
 #define TUBOCHRE_VERSION_OF(major, minor, patch) TUBOCHRE_VERSION_TEXT(major, minor, patch)
@@ -72,7 +72,7 @@ extern "C" {
 
 /* Why a call refuses. The tests are made in this order, each over all of the table before the next one starts, and the
  * answer is the first that fails. The check gives 2 to 10, the build 2 to 12, the lasso decision 2 to 9 (in the wide
- * range, where 5 cannot occur) and 13 to 16. */
+ * range, where 5 cannot occur) and 13 to 16. Refusal 10 of the check and of the build comes with a place. */
 enum tubochre_refusal {
     TUBOCHRE_OK = 0,           /* not refused */
     TUBOCHRE_TEXT = 1,         /* only programs that read text: not decimal words from 0 to 65,535, or too many */
@@ -85,7 +85,7 @@ enum tubochre_refusal {
     TUBOCHRE_RECORD = 8,       /* a record's letter is k or more, or its target is n or more */
     TUBOCHRE_CHAIN = 9,        /* a head or next is above m, a next is neither zero nor larger than its own record's
                                   number, or a record is not named exactly once among all heads and nexts */
-    TUBOCHRE_FORK = 10,        /* the pattern is not semi-deterministic */
+    TUBOCHRE_FORK = 10,        /* the pattern is not semi-deterministic: it forks at the place */
     TUBOCHRE_MANY_STATES = 11, /* the complement has more states than records are lent, or more than 65,535 */
     TUBOCHRE_MANY_EDGES = 12,  /* the complement has more than 65,535 edges, or needs more words than are lent */
     TUBOCHRE_LOOP_EMPTY = 13,  /* the loop is empty */
@@ -111,9 +111,24 @@ enum tubochre_limit {
 /* What a lasso decision says of a lasso that it does not refuse: a truth value. */
 enum tubochre_taken { TUBOCHRE_NOT_TAKEN = 0, TUBOCHRE_TAKEN = 1 };
 
-/* What a build answers: number 0 and both counts, or the number of the refusal and both counts zero. */
+/* Where a pattern forks: the smallest state, accepting or behind an accepting one, that has two targets on one letter,
+ * and the smallest such letter of that state. With every number but 10, 0 among them, it is (0, 0). With number 10 that
+ * is a place like any other, state 0 and letter 0: only number tells. */
+struct tubochre_place {
+    uint32_t state, letter;
+};
+
+/* What a check answers: number 0, or the number of the refusal; and the place. */
+struct tubochre_checked {
+    uint32_t number;
+    struct tubochre_place place;
+};
+
+/* What a build answers: number 0 and both counts, or the number of the refusal and both counts zero; and the place,
+ * which is that of the check. */
 struct tubochre_counts {
     uint32_t number, states, edges;
+    struct tubochre_place place;
 };
 
 /* What a decision answers: number 0 and taken 1 or 0, or the number of the refusal and taken 0. Only number tells a
@@ -122,10 +137,10 @@ struct tubochre_decision {
     uint32_t number, taken;
 };
 
-/* Checks a pattern: 0 if it passes, otherwise which of 2 to 10 refuses it. */
-uint32_t tubochre_check(const uint16_t *table, size_t table_len);
+/* Checks a pattern: number 0 if it passes, otherwise which of 2 to 10 refuses it, and with 10 the place. */
+struct tubochre_checked tubochre_check(const uint16_t *table, size_t table_len);
 
-/* Builds the complement of a pattern, refusing by 2 to 12.
+/* Builds the complement of a pattern, refusing by 2 to 12, and by 10 with the place.
  *
  * words  receives the complement as a wide table: 3 + 2 states + 3 edges words.
  * sets   receives a record for each state of the complement: TUBOCHRE_RECORD_WORDS words, its sets N, C, S, B of

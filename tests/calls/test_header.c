@@ -45,6 +45,25 @@ static void try_sizes(void)
     expect(tubochre_bound(UINT32_MAX, UINT32_MAX, UINT32_MAX) == UINT64_MAX, "nor does the largest");
 }
 
+/* The answers as the archives lay them out: words in a row, without gaps. */
+static void try_layouts(void)
+{
+    expect(sizeof(struct tubochre_place) == 8 && offsetof(struct tubochre_place, state) == 0 &&
+               offsetof(struct tubochre_place, letter) == 4,
+           "a place");
+    expect(sizeof(struct tubochre_checked) == 12 && offsetof(struct tubochre_checked, number) == 0 &&
+               offsetof(struct tubochre_checked, place) == 4,
+           "what a check answers");
+    expect(sizeof(struct tubochre_counts) == 20 && offsetof(struct tubochre_counts, number) == 0 &&
+               offsetof(struct tubochre_counts, states) == 4 && offsetof(struct tubochre_counts, edges) == 8 &&
+               offsetof(struct tubochre_counts, place) == 12,
+           "what a build answers");
+    expect(sizeof(struct tubochre_decision) == 8 && offsetof(struct tubochre_decision, number) == 0 &&
+               offsetof(struct tubochre_decision, taken) == 4,
+           "what a decision answers");
+    expect(sizeof(struct tubochre_quadruple) == TUBOCHRE_RECORD_WORDS * sizeof(uint32_t), "a record");
+}
+
 static void try_version(void)
 {
     char text[40];
@@ -57,8 +76,7 @@ int main(void)
     try_version();
     try_sentences();
     try_sizes();
-    expect(sizeof(struct tubochre_counts) == 12 && sizeof(struct tubochre_decision) == 8, "answers have no gaps");
-    expect(sizeof(struct tubochre_quadruple) == TUBOCHRE_RECORD_WORDS * sizeof(uint32_t), "a record has no gaps");
+    try_layouts();
     puts(failed ? "test_header: FAILED" : "ok: the header\ntest_header: all expectations held");
     return failed;
 }
