@@ -122,57 +122,33 @@ static struct place bad_chain(const uint16_t *t)
 
 /* ---- 10: forks. */
 
-/* For each state and letter the set of targets, state q being 2^q. */
-struct edges {
-    uint32_t targets[TUBOCHRE_PATTERN_STATES_MOST][TUBOCHRE_LETTERS_MOST];
-};
-
-static struct edges edges_of(const uint16_t *t)
+/* From record r of a chain on, the first with this letter and another target than this; 0 where there is none. */
+static unsigned record_on(const uint16_t *t, unsigned r, unsigned letter, unsigned target)
 {
-    struct edges e = {{{0}}};
-    unsigned q, r;
-    for (q = 0; q < t[0]; q++)
-        for (r = t[head_word(q)]; r != 0; r = t[next_word(t, r)])
-            e.targets[q][t[letter_word(t, r)]] |= UINT32_C(1) << t[target_word(t, r)];
-    return e;
+    while (r != 0 && (t[letter_word(t, r)] != letter || t[target_word(t, r)] == target))
+        r = t[next_word(t, r)];
+    return r;
 }
 
-/* Q2: the accepting states and all that they reach. */
-static uint32_t accepting_and_behind(const uint16_t *t, const struct edges *e)
+/* Of the targets at a place, two or more: the first in the state's chain, and the first that differs from it. */
+static struct place fork_at(const uint16_t *t, struct tubochre_place at)
 {
-    uint32_t set = 0, before;
-    unsigned q, c;
-    for (q = 0; q < t[0]; q++)
-        set |= t[flags_word(q)] & ACCEPTING_FLAG ? UINT32_C(1) << q : 0;
-    do {
-        before = set;
-        for (q = 0; q < t[0]; q++)
-            for (c = 0; c < t[1]; c++)
-                set |= set >> q & 1 ? e->targets[q][c] : 0;
-    } while (set != before);
-    return set;
-}
-
-static struct place fork_in(const uint16_t *t)
-{
-    const struct edges e = edges_of(t);
-    const uint32_t inner = accepting_and_behind(t, &e);
-    unsigned q, c;
-    for (q = 0; q < t[0]; q++)
-        for (c = 0; c < t[1]; c++)
-            if (inner >> q & 1 && (e.targets[q][c] & (e.targets[q][c] - 1)) != 0)
-                return place(NO_WORD,
-                             "the pattern is not semi-deterministic: state %u is accepting or behind an accepting one, "
-                             "and has two targets on letter %u",
-                             q, c);
-    return nowhere(TUBOCHRE_FORK);
+    const unsigned state = at.state, letter = at.letter, no_state = t[0];
+    const unsigned first = record_on(t, t[head_word(state)], letter, no_state);
+    const unsigned second = first == 0 ? 0 : record_on(t, first, letter, t[target_word(t, first)]);
+    if (second == 0)
+        return nowhere(TUBOCHRE_FORK);
+    return place(target_word(t, second),
+                 "the pattern is not semi-deterministic: state %u is accepting or behind an accepting one, "
+                 "and on letter %u it leads to state %u (record %u) and to state %u (record %u)",
+                 state, letter, t[target_word(t, first)], first, t[target_word(t, second)], second);
 }
 
 /* ---- All of them. */
 
-struct place place_in_pattern(uint32_t number, const uint16_t *words, size_t len)
+struct place place_in_pattern(struct tubochre_checked checked, const uint16_t *words, size_t len)
 {
-    switch (number) {
+    switch (checked.number) {
     case TUBOCHRE_SHORT: return place(NO_WORD, "the number of words is %zu, and a table has at least 3", len);
     case TUBOCHRE_STATES:
         return place(0, "the number of states is %u, and a pattern has 1 to %d", words[0],
@@ -186,8 +162,8 @@ struct place place_in_pattern(uint32_t number, const uint16_t *words, size_t len
     case TUBOCHRE_FLAGS: return bad_flags(words);
     case TUBOCHRE_RECORD: return bad_record(words);
     case TUBOCHRE_CHAIN: return bad_chain(words);
-    case TUBOCHRE_FORK: return fork_in(words);
-    default: return nowhere(number);
+    case TUBOCHRE_FORK: return fork_at(words, checked.place);
+    default: return nowhere(checked.number);
     }
 }
 

@@ -1,5 +1,6 @@
-/* Where a refusal lies. The library answers its number; these look for the place again: the first refusal by the
- * rules, and of one refusal the first place in the table. */
+/* Where a refusal lies, in words. Of a fork the library answers the state and the letter, and these find two of its
+ * targets in the table. Of every other refusal it answers the number alone, and these look for the place again: the
+ * first refusal by the rules, and of one refusal the first place in the table. */
 #ifndef PLACES_H
 #define PLACES_H
 
@@ -16,8 +17,9 @@ struct place {
     size_t word;
 };
 
-/* Of a pattern that the check refuses by 2 to 10. */
-struct place place_in_pattern(uint32_t number, const uint16_t *words, size_t len);
+/* Of a pattern that the check refuses by 2 to 10, with the check's answer. Of a fork it names the first two targets
+ * that differ, in the order of the state's chain, and the word is the second of them. */
+struct place place_in_pattern(struct tubochre_checked checked, const uint16_t *words, size_t len);
 
 /* Of a complement that a build refuses by 11 or 12 though it was lent all the room that there can be. */
 struct place place_in_complement(uint32_t number);

@@ -183,10 +183,10 @@ static int say_refused(FILE *out, const char *what, uint32_t number, const struc
     return REFUSED;
 }
 
-static int pattern_refused(FILE *out, uint32_t number, const struct words *w)
+static int pattern_refused(FILE *out, struct tubochre_checked checked, const struct words *w)
 {
-    const struct place p = place_in_pattern(number, w->word, w->len);
-    return say_refused(out, "pattern", number, p.word != NO_WORD ? &w->at[p.word] : NULL, p.sentence);
+    const struct place p = place_in_pattern(checked, w->word, w->len);
+    return say_refused(out, "pattern", checked.number, p.word != NO_WORD ? &w->at[p.word] : NULL, p.sentence);
 }
 
 static int complement_refused(FILE *out, uint32_t number)
@@ -199,19 +199,19 @@ static int complement_refused(FILE *out, uint32_t number)
 /* A pattern that forks can still be drawn: its table is sound. */
 static int draw_pattern(const struct words *w)
 {
-    const uint32_t number = tubochre_check(w->word, w->len);
-    if (number == TUBOCHRE_OK || number == TUBOCHRE_FORK)
+    const struct tubochre_checked checked = tubochre_check(w->word, w->len);
+    if (checked.number == TUBOCHRE_OK || checked.number == TUBOCHRE_FORK)
         print_pattern_graph(w->word);
-    return number == TUBOCHRE_OK ? FINE : pattern_refused(stderr, number, w);
+    return checked.number == TUBOCHRE_OK ? FINE : pattern_refused(stderr, checked, w);
 }
 
 static int draw_complement(const struct words *w)
 {
-    const uint32_t number = tubochre_check(w->word, w->len);
+    const struct tubochre_checked checked = tubochre_check(w->word, w->len);
     struct complement c;
     int status = FINE;
-    if (number != TUBOCHRE_OK)
-        return pattern_refused(stderr, number, w);
+    if (checked.number != TUBOCHRE_OK)
+        return pattern_refused(stderr, checked, w);
     c = build(w->word, w->len);
     if (c.counts.number == TUBOCHRE_OK)
         print_complement_graph(&c);
@@ -261,9 +261,9 @@ static int answer_complement(const struct request *r, const struct words *w, con
 
 static int answer(const struct request *r, const struct words *w, const struct lasso *lassos)
 {
-    const uint32_t number = tubochre_check(w->word, w->len);
-    if (number != TUBOCHRE_OK)
-        return pattern_refused(stdout, number, w);
+    const struct tubochre_checked checked = tubochre_check(w->word, w->len);
+    if (checked.number != TUBOCHRE_OK)
+        return pattern_refused(stdout, checked, w);
     printf("pattern: passes the check (states %u, letters %u, records %u)\n", (unsigned)w->word[0],
            (unsigned)w->word[1], (unsigned)w->word[2]);
     fflush(stdout); /* before the build, which may take long */

@@ -163,11 +163,29 @@ twice='record 2 is named twice, by the head of state 1 and by the next of record
 table 9 19 "$twice" '2 1 2 0 1 0 2 0 0 2 0 0 0'
 twice='record 3 is named twice, by the next of record 1 and by the next of record 2'
 table 9 25 "$twice" '2 1 3 0 1 0 2 0 0 3 0 0 3 0 0 0'
-fork='is accepting or behind an accepting one, and has two targets on letter'
-fork1="the pattern is not semi-deterministic: state 1 $fork 0"
-fork2="the pattern is not semi-deterministic: state 2 $fork 1"
-table 10 0 "$fork1" '2 1 2 1 0 2 1 0 0 2 0 1 0'
-table 10 0 "$fork2" '3 2 5 1 1 2 3 0 4 0 0 2 1 1 0 0 2 0 1 0 5 1 2 0'
+# fork STATE LETTER TARGET RECORD TARGET RECORD: the sentence; its place is the second target
+fork() {
+    printf 'the pattern is not semi-deterministic: state %s is accepting or behind an accepting one, and ' "$1"
+    printf 'on letter %s it leads to state %s (record %s) and to state %s (record %s)' "${@:2}"
+}
+fork1=$(fork 1 0 0 1 1 2)
+table 10 23 "$fork1" '2 1 2 1 0 2 1 0 0 2 0 1 0'
+table 10 45 "$(fork 2 1 0 4 2 5)" '3 2 5 1 1 2 3 0 4 0 0 2 1 1 0 0 2 0 1 0 5 1 2 0'
+table 10 23 "$(fork 0 0 0 1 1 2)" '2 1 2 2 1 0 0 0 0 2 0 1 0'
+# Of its targets the first two that differ, in the order of the records; repeats and other letters are passed over.
+table 10 33 "$(fork 1 0 2 1 0 3)" '3 1 4 0 0 2 1 0 0 0 2 2 0 2 3 0 0 4 0 1 0'
+table 10 39 "$(fork 1 1 2 2 0 4)" '3 2 5 0 0 2 1 0 0 0 1 2 1 2 3 1 2 4 1 0 5 0 1 0'
+# The largest numbers: state 31, letter 15, and the last two of 4,096 records.
+{
+    echo 32 16 4096
+    for _ in $(seq 31); do echo 0 0; done
+    echo 2 1
+    for r in $(seq 4094); do echo "14 31 $((r + 1))"; done
+    echo 15 30 4096
+    echo 15 31 0
+} >"$folder/last"
+expect 'the last place of all' 1 "pattern: refused (10) in line 4129, column 4: $(fork 31 15 30 4095 31 4096)" '' \
+    "$program" "$folder/last"
 
 # Of several faults the first is named: by the rules, and of one refusal by its place in the table.
 table 7 7 'state 0 has flags 4, and flags are 0 to 3' '2 1 0 4 0 5 0'
@@ -176,11 +194,17 @@ table 8 13 'record 1 has target 2, and the states are 0 to 0' '1 1 2 0 1 0 2 2 1
 table 9 9 'state 0 has head 3, and the number of records is 2' '2 1 2 0 3 0 4 0 0 2 0 0 1'
 table 9 15 "record 1 has next 1, $forward" '1 1 2 0 1 0 0 1 0 0 9'
 table 9 0 'record 1 is in no chain: no head and no next names it' '1 1 2 0 0 0 0 0 0 0 0'
-table 10 0 "the pattern is not semi-deterministic: state 1 $fork 1" '3 2 4 1 0 2 1 2 3 1 1 2 1 2 0 0 1 4 0 2 0'
-table 10 0 "$fork1" '2 2 4 1 0 2 1 1 0 2 1 1 3 0 0 4 0 1 0'
+# Of several forks the one of the smallest state, though a larger has a smaller letter; of its letters the smallest; and
+# none of a state that is neither accepting nor behind an accepting one, though it comes first.
+table 10 27 "$(fork 1 1 1 1 2 2)" '3 2 4 1 0 2 1 2 3 1 1 2 1 2 0 0 1 4 0 2 0'
+table 10 35 "$(fork 1 0 0 3 1 4)" '2 2 4 1 0 2 1 1 0 2 1 1 3 0 0 4 0 1 0'
+table 10 39 "$(fork 1 1 1 3 2 4)" '3 2 4 1 1 2 3 0 0 0 0 2 0 1 0 1 1 4 1 2 0'
+table 10 45 "$(fork 0 1 0 4 2 5)" '3 2 6 1 4 0 1 2 6 0 1 2 0 2 3 1 0 0 1 0 5 1 2 0 0 0 0'
 table 4 3 'the number of letters is 0, and a table has 1 to 16' '1 0 5000 9'
 expect 'a place in a later line' 1 'pattern: refused (8) in line 4, column 3: record 1 has target 7, and the states are 0 to 1' \
     '' "$program" - <<<$'2 1 1\n0 1\n0 0\n0 7 0'
+expect 'a fork in a later line' 1 "pattern: refused (10) in line 5, column 3: $fork1" \
+    '' "$program" - <<<$'2 1 2\n1 0\n2 1\n0 0 2\n0 1 0'
 expect 'a forking pattern is drawn all the same' 1 'digraph pattern {
     rankdir=LR;
     node [shape=circle];
@@ -190,8 +214,9 @@ expect 'a forking pattern is drawn all the same' 1 'digraph pattern {
     s1 [label="1", peripheries=2];
     s1 -> s0 [label="0"];
     s1 -> s1 [label="0"];
-}' "pattern: refused (10): $fork1" "$program" --dot pattern - <<<'2 1 2 1 0 2 1 0 0 2 0 1 0'
-expect 'its complement is not' 1 '' "pattern: refused (10): $fork1" "$program" --dot complement - <<<'2 1 2 1 0 2 1 0 0 2 0 1 0'
+}' "pattern: refused (10) in line 1, column 23: $fork1" "$program" --dot pattern - <<<'2 1 2 1 0 2 1 0 0 2 0 1 0'
+expect 'its complement is not' 1 '' "pattern: refused (10) in line 1, column 23: $fork1" \
+    "$program" --dot complement - <<<'2 1 2 1 0 2 1 0 0 2 0 1 0'
 expect 'a refused text is not drawn' 1 '' "pattern: refused (1) in line 1, column 1: 'x' is no digit, space or newline" \
     "$program" --dot pattern - <<<'x'
 expect 'a refused table is not drawn' 1 '' \
@@ -380,7 +405,7 @@ for arguments in --help --version "$folder/a" "--states $folder/a" "--dot patter
         sh -c "exec \"\$0\" \"\$@\" >&-" "$program" $arguments
 done
 echo '2 1 2 1 0 2 1 0 0 2 0 1 0' >"$folder/fork"
-expect 'a closed output, and nothing for it' 1 '' "pattern: refused (10): $fork1" \
+expect 'a closed output, and nothing for it' 1 '' "pattern: refused (10) in line 1, column 23: $fork1" \
     sh -c "exec \"\$0\" --dot complement \"\$1\" >&-" "$program" "$folder/fork"
 # A pipe whose reader has ended; the signal of it ends the program, unless it is ignored.
 expect 'a reader that is gone' 2 '' 'tubochre-bench: standard output: Broken pipe' \
