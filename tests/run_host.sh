@@ -28,6 +28,7 @@ run_tests() {
     "$1/test_header"
     "$1/test_header_cxx"
     "$1/test_calls"
+    "$1/test_forks"
     "$1/test_rooms"
     "$1/test_limits"
     "$1/test_null"
@@ -127,7 +128,8 @@ run_tests "$out-sanitized"
 
 if command -v valgrind >/dev/null; then
     say 'the same under valgrind, the comparison shorter'
-    for test in "$out/test_calls" "$out/test_rooms" "$out/test_null" "$out/test_records" "$out/compare --trials 60"; do
+    for test in "$out/test_calls" "$out/test_forks" "$out/test_rooms" "$out/test_null" "$out/test_records" \
+        "$out/compare --trials 60"; do
         # shellcheck disable=SC2086 # a program and its arguments
         valgrind -q --error-exitcode=1 --leak-check=full $test
     done

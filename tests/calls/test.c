@@ -44,23 +44,39 @@ static int all_zero(const void *bytes, size_t len)
     return 1;
 }
 
-/* ---- The calls. */
+/* ---- Places. */
 
-static uint32_t check_once(const uint16_t *table, size_t len, enum fence_side side)
+int same_place(struct tubochre_place a, struct tubochre_place b)
 {
-    const struct fence fence = fence_make(len * sizeof *table);
-    const uint32_t number = tubochre_check(copied(&fence, table, len * sizeof *table, side), len);
-    fence_free(fence);
-    return number;
+    return a.state == b.state && a.letter == b.letter;
 }
 
-uint32_t lent_check(const uint16_t *table, size_t len)
+static void expect_only_forks_placed(uint32_t number, struct tubochre_place place)
 {
-    uint32_t number;
+    expect(number == TUBOCHRE_FORK || (place.state == 0 && place.letter == 0),
+           "%u is answered with state %u and letter %u", (unsigned)number, (unsigned)place.state,
+           (unsigned)place.letter);
+}
+
+/* ---- The calls. */
+
+static struct tubochre_checked check_once(const uint16_t *table, size_t len, enum fence_side side)
+{
+    const struct fence fence = fence_make(len * sizeof *table);
+    const struct tubochre_checked checked = tubochre_check(copied(&fence, table, len * sizeof *table, side), len);
+    fence_free(fence);
+    return checked;
+}
+
+struct tubochre_checked lent_check(const uint16_t *table, size_t len)
+{
+    struct tubochre_checked checked, again;
     fence_watch("a check");
-    number = check_once(table, len, FENCE_LOW);
-    expect(check_once(table, len, FENCE_HIGH) == number, "two checks of one table agree");
-    return number;
+    checked = check_once(table, len, FENCE_LOW);
+    again = check_once(table, len, FENCE_HIGH);
+    expect(checked.number == again.number && same_place(checked.place, again.place), "two checks of one table agree");
+    expect_only_forks_placed(checked.number, checked.place);
+    return checked;
 }
 
 static struct built build_once(const uint16_t *table, size_t len, size_t words_len, size_t sets_len,
@@ -87,7 +103,8 @@ static struct built build_once(const uint16_t *table, size_t len, size_t words_l
 static int same_built(const struct built *a, const struct built *b)
 {
     return a->counts.number == b->counts.number && a->counts.states == b->counts.states &&
-           a->counts.edges == b->counts.edges && memcmp(a->words, b->words, a->words_len * sizeof *a->words) == 0 &&
+           a->counts.edges == b->counts.edges && same_place(a->counts.place, b->counts.place) &&
+           memcmp(a->words, b->words, a->words_len * sizeof *a->words) == 0 &&
            memcmp(a->sets, b->sets, a->sets_len * sizeof *a->sets) == 0;
 }
 
@@ -99,6 +116,7 @@ struct built lent_build(const uint16_t *table, size_t len, size_t words_len, siz
     b = build_once(table, len, words_len, sets_len, FENCE_LOW);
     again = build_once(table, len, words_len, sets_len, FENCE_HIGH);
     expect(same_built(&b, &again), "two builds in equal room agree in each word");
+    expect_only_forks_placed(b.counts.number, b.counts.place);
     if (b.counts.number == TUBOCHRE_OK) {
         used_words = tubochre_table_words(b.counts.states, b.counts.edges);
         used_sets = tubochre_sets_words(b.counts.states);

@@ -12,7 +12,10 @@
  * garbage in the buffers that it writes. The answers and all that was written must agree. Buffers that are only read
  * are write-protected. */
 
-uint32_t lent_check(const uint16_t *table, size_t len);
+/* Also expects that the place is (0, 0) unless it is refused by 10. */
+struct tubochre_checked lent_check(const uint16_t *table, size_t len);
+
+int same_place(struct tubochre_place a, struct tubochre_place b);
 
 struct built {
     struct tubochre_counts counts;
@@ -21,7 +24,7 @@ struct built {
     uint32_t *sets;
 };
 
-/* Also expects that all is zero after a refusal, and all beyond the used part otherwise. */
+/* Also expects that all is zero after a refusal, and all beyond the used part otherwise; and of the place as above. */
 struct built lent_build(const uint16_t *table, size_t len, size_t words_len, size_t sets_len);
 void built_free(struct built *b);
 

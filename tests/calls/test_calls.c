@@ -72,7 +72,7 @@ enum { A, B, NO_INITIAL, EDGE_TWICE, WAITING, DEAD_END, JOINING, ENTERING };
 static void try_piece(const struct piece *p)
 {
     struct built b = lent_build(p->table, p->len, p->words_len, p->sets_len);
-    expect(lent_check(p->table, p->len) == TUBOCHRE_OK, "%s passes the check", p->name);
+    expect(lent_check(p->table, p->len).number == TUBOCHRE_OK, "%s passes the check", p->name);
     expect(b.counts.number == TUBOCHRE_OK, "%s is built", p->name);
     expect(b.counts.states == p->words[0] && b.counts.edges == p->words[2], "%s: the counts", p->name);
     expect(memcmp(b.words, p->words, p->words_len * sizeof *p->words) == 0, "%s: every word", p->name);
@@ -163,6 +163,7 @@ static const struct damaged damaged_tables[] = {
     {"a record that nothing names", 9, 9, 8, {1, 1, 1, 0, 0, 0, 0, 0}},
     {"a record named by a head and a next", 9, 9, 13, {2, 1, 2, 0, 1, 0, 2, 0, 0, 2, 0, 0, 0}},
     {"a record named by two heads", 9, 9, 10, {2, 1, 1, 0, 1, 0, 1, 0, 0, 0}},
+    {"a record that nothing names, before a fork", 9, 9, 16, {2, 1, 3, 1, 0, 2, 1, 0, 0, 2, 0, 1, 0, 0, 0, 0}},
     {"a fork behind an accepting state that is never reached", 10, 0, 13, {2, 1, 2, 1, 0, 2, 1, 0, 0, 2, 0, 1, 0}},
     {"a fork before every accepting state", 0, 0, 13, {2, 1, 2, 1, 1, 2, 0, 0, 0, 2, 0, 1, 0}},
 };
@@ -172,9 +173,11 @@ static void try_table(const char *name, const uint16_t *words, size_t len, uint3
     static const uint8_t letters[] = {0};
     const struct lasso l = {letters, 1, letters, 1};
     struct built b = lent_build(words, len, 5000, 5000);
+    const struct tubochre_checked checked = lent_check(words, len);
     const uint32_t decision = decide(words, len, l);
-    expect(lent_check(words, len) == in_pattern, "%s: the check", name);
+    expect(checked.number == in_pattern, "%s: the check", name);
     expect(b.counts.number == in_pattern, "%s: the build", name);
+    expect(same_place(b.counts.place, checked.place), "%s: the place", name);
     expect(in_wide == 0 ? decision < 100 : decision == 100 + in_wide, "%s: the lasso decision", name);
     built_free(&b);
 }

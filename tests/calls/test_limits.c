@@ -29,7 +29,8 @@ static void try_large(uint32_t p, uint32_t r, uint32_t k, uint32_t number)
     memset(sets, 0xa5, sets_len * sizeof *sets);
     ring_pattern(table, p, r, k);
     counts = tubochre_build(table, len, words, words_len, sets, sets_len);
-    expect(counts.number == number && counts.states == states && counts.edges == states * k,
+    expect(counts.number == number && counts.states == states && counts.edges == states * k &&
+               counts.place.state == 0 && counts.place.letter == 0,
            "rings of %u and %u with %u letters: %u %u %u", p, r, k, (unsigned)counts.number, (unsigned)counts.states,
            (unsigned)counts.edges);
     for (i = number == 0 ? tubochre_table_words(states, states * k) : 0; i < words_len; i++)
@@ -87,7 +88,7 @@ struct job {
     uint16_t pattern[PATTERN_LEN];
     uint16_t words[20000];
     uint32_t sets[SETS_LEN], work[400000];
-    uint32_t check;
+    struct tubochre_checked checked;
     struct tubochre_counts counts;
     struct tubochre_decision by_pattern, by_complement;
     struct tubochre_quadruple records[P << R];
@@ -104,7 +105,7 @@ static struct tubochre_decision decide_in(struct job *j, const uint16_t *table, 
 static void *all_calls(void *data)
 {
     struct job *const j = data;
-    j->check = tubochre_check(j->pattern, PATTERN_LEN);
+    j->checked = tubochre_check(j->pattern, PATTERN_LEN);
     j->counts = tubochre_build(j->pattern, PATTERN_LEN, j->words, sizeof j->words / sizeof j->words[0],
                                j->sets, SETS_LEN);
     j->by_pattern = decide_in(j, j->pattern, PATTERN_LEN);
@@ -134,7 +135,8 @@ static void try_stack(void)
 {
     struct job *const j = new_job(0);
     const size_t used = stack_used(all_calls, j);
-    expect(j->check == 0 && j->counts.number == 0 && j->by_pattern.number == 0, "the calls on a stack of their own");
+    expect(j->checked.number == 0 && j->counts.number == 0 && j->by_pattern.number == 0,
+           "the calls on a stack of their own");
     expect(used < STACK_PROMISED, "the calls use %zu bytes of stack", used);
     printf("    the calls used %zu bytes of stack\n", used);
     free(j);
@@ -152,7 +154,8 @@ static void *many_calls(void *data)
 
 static int same_results(const struct job *a, const struct job *b)
 {
-    return a->check == b->check && memcmp(&a->counts, &b->counts, sizeof a->counts) == 0 &&
+    return memcmp(&a->checked, &b->checked, sizeof a->checked) == 0 &&
+           memcmp(&a->counts, &b->counts, sizeof a->counts) == 0 &&
            memcmp(&a->by_pattern, &b->by_pattern, sizeof a->by_pattern) == 0 &&
            memcmp(&a->by_complement, &b->by_complement, sizeof a->by_complement) == 0 &&
            memcmp(a->words, b->words, sizeof a->words) == 0 && memcmp(a->sets, b->sets, sizeof a->sets) == 0 &&

@@ -15,7 +15,7 @@ struct written {
     uint16_t words[WORDS];
     uint32_t sets[SETS], work[WORK];
     struct tubochre_quadruple records[RECORDS];
-    uint32_t answer[3];
+    uint32_t answer[5];
 };
 
 /* A buffer that is lent: whole, or empty, and then by its own pointer or by NULL. */
@@ -32,7 +32,10 @@ static struct written before(void)
 static struct written check(unsigned empty, int null)
 {
     struct written w = before();
-    w.answer[0] = tubochre_check(LENT(pattern, empty & 1, null));
+    const struct tubochre_checked checked = tubochre_check(LENT(pattern, empty & 1, null));
+    w.answer[0] = checked.number;
+    w.answer[1] = checked.place.state;
+    w.answer[2] = checked.place.letter;
     return w;
 }
 
@@ -44,6 +47,8 @@ static struct written build(unsigned empty, int null)
     w.answer[0] = counts.number;
     w.answer[1] = counts.states;
     w.answer[2] = counts.edges;
+    w.answer[3] = counts.place.state;
+    w.answer[4] = counts.place.letter;
     return w;
 }
 

@@ -51,15 +51,17 @@ static void try_rooms(uint32_t p, uint32_t r, uint32_t k)
     built_free(&whole);
 }
 
-/* Whatever room there is, a table that is refused leaves zeros in all of it. */
+/* Whatever room there is, a table that is refused leaves zeros in all of it, and forks at the same place. */
 static void try_refused_in_rooms(void)
 {
     static const uint16_t fork[] = {2, 1, 2, 1, 0, 2, 1, 0, 0, 2, 0, 1, 0};
+    const struct tubochre_place place = {1, 0};
     size_t i, j;
     for (i = 0; i < 12; i++)
         for (j = 0; j < 12; j++) {
             struct built b = lent_build(fork, sizeof fork / sizeof fork[0], i * i, j * j);
-            expect(b.counts.number == 10, "a fork in %zu words and %zu sets words", i * i, j * j);
+            expect(b.counts.number == 10 && same_place(b.counts.place, place),
+                   "a fork in %zu words and %zu sets words", i * i, j * j);
             built_free(&b);
             b = lent_build(fork, 2, i * i, j * j);
             expect(b.counts.number == 2, "a short table in %zu words and %zu sets words", i * i, j * j);
@@ -100,7 +102,7 @@ int main(void)
     section("refused tables leave zeros in any room");
     try_work_rooms();
     section("decisions with exact, fewer, more and no work words");
-    expect(lent_check(none, 0) == 2, "a check of nothing");
+    expect(lent_check(none, 0).number == 2, "a check of nothing");
     b = lent_build(none, 0, 0, 0);
     expect(b.counts.number == 2, "a build of nothing into nothing");
     built_free(&b);
