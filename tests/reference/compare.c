@@ -39,6 +39,7 @@ static struct {
 
 static struct {
     uint64_t patterns, passed, built, lassos, decisions, damaged, taken, states, edges, runs_checked;
+    uint64_t at_zero, elsewhere; /* forks: at state 0 and letter 0, and at any other place */
     uint64_t largest;
     uint64_t refused[17];
 } tally;
@@ -114,18 +115,39 @@ static void must_be_unchanged(const char *what, const void *now, const void *bef
 
 /* ---- The three calls beside the reference. */
 
+static void compare_places(const char *call, const uint16_t *table, size_t len, struct tubochre_place place,
+                           struct reference_place expected)
+{
+    if (place.state != expected.state || place.letter != expected.letter) {
+        print_table("table", table, len);
+        differ("%s: the %s answers state %" PRIu32 " and letter %" PRIu32 " instead of %" PRIu32 " and %" PRIu32,
+               trial.text, call, place.state, place.letter, expected.state, expected.letter);
+    }
+}
+
+static void tally_fork(struct reference_place place)
+{
+    if (place.state == 0 && place.letter == 0)
+        tally.at_zero++;
+    else
+        tally.elsewhere++;
+}
+
 static uint32_t compare_check(struct random *r, const uint16_t *table, size_t len)
 {
     const uint16_t *const copy = lend_copy(r, &lent.table, table, len * sizeof *table);
-    const uint32_t expected = reference_check(table, len);
-    const uint32_t number = tubochre_check(copy, len);
+    const struct reference_checked expected = reference_check(table, len);
+    const struct tubochre_checked checked = tubochre_check(copy, len);
     must_be_unchanged("table", copy, table, len * sizeof *table);
-    if (number != expected) {
+    if (checked.number != expected.number) {
         print_table("table", table, len);
-        differ("%s: the check answers %" PRIu32 " instead of %" PRIu32, trial.text, number, expected);
+        differ("%s: the check answers %" PRIu32 " instead of %" PRIu32, trial.text, checked.number, expected.number);
     }
-    tally.refused[expected]++;
-    return number;
+    compare_places("check", table, len, checked.place, expected.place);
+    tally.refused[expected.number]++;
+    if (expected.number == TUBOCHRE_FORK)
+        tally_fork(expected.place);
+    return checked.number;
 }
 
 static void compare_buffers(const uint16_t *table, size_t len, const uint16_t *words, size_t words_len,
@@ -165,6 +187,7 @@ static struct tubochre_counts compare_build(struct random *r, const uint16_t *ta
                trial.text, words_len, sets_len, counts.number, counts.states, counts.edges, expected.number,
                expected.states, expected.edges);
     }
+    compare_places("build", table, len, counts.place, expected.place);
     compare_buffers(table, len, words, words_len, sets, sets_len);
     tally.refused[expected.number]++;
     return counts;
@@ -403,10 +426,11 @@ static void print_summary(uint64_t seed, uint64_t trials)
         printf(" %d:%" PRIu64, i, tally.refused[i]);
     printf("\ncompare: ok: seeds %" PRIu64 " to %" PRIu64 ": %" PRIu64 " patterns (%" PRIu64 " passed, %" PRIu64
            " built: %" PRIu64 " states, %" PRIu64 " edges, largest %" PRIu64 "), %" PRIu64 " lassos (%" PRIu64
-           " decisions, %" PRIu64 " taken, the third demand on %" PRIu64 "), %" PRIu64
-           " damaged tables, 0 differences\n",
+           " decisions, %" PRIu64 " taken, the third demand on %" PRIu64 "), %" PRIu64 " damaged tables, %" PRIu64
+           " forks (%" PRIu64 " at state 0 and letter 0), 0 differences\n",
            seed, seed + trials - 1, tally.patterns, tally.passed, tally.built, tally.states, tally.edges, tally.largest,
-           tally.lassos, tally.decisions, tally.taken, tally.runs_checked, tally.damaged);
+           tally.lassos, tally.decisions, tally.taken, tally.runs_checked, tally.damaged,
+           tally.at_zero + tally.elsewhere, tally.at_zero);
 }
 
 /* A whole run has met every refusal of the calls and every kind of answer: one that compares nothing is no success. */
@@ -418,7 +442,8 @@ static int all_kinds_met(void)
             printf("compare: FAILED: no call was refused by %d\n", number);
             return 0;
         }
-    if (tally.built == 0 || tally.taken == 0 || tally.taken == tally.decisions || tally.runs_checked == 0) {
+    if (tally.built == 0 || tally.taken == 0 || tally.taken == tally.decisions || tally.runs_checked == 0 ||
+        tally.at_zero == 0 || tally.elsewhere == 0) {
         printf("compare: FAILED: a kind of answer did not occur\n");
         return 0;
     }

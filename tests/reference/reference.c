@@ -156,31 +156,59 @@ static void read_pattern(const uint16_t *t, struct pattern *p)
             p->outer |= only(q);
 }
 
-static bool semi_deterministic(const struct pattern *p)
+/* Whose chain each record is in. */
+static void find_sources(const uint16_t *t, uint32_t source[PATTERN_RECORDS + 1])
 {
-    uint32_t q, c, a, b;
-    for (q = 0; q < p->states; q++)
-        for (c = 0; has(p->inner, q) && c < p->letters; c++)
-            for (a = 0; a < p->states; a++)
-                for (b = a + 1; p->edge[q][c][a] && b < p->states; b++)
-                    if (p->edge[q][c][b])
-                        return false;
-    return true;
+    uint32_t q, r;
+    for (q = 0; q < t[0]; q++)
+        for (r = head_of(t, q); r != 0; r = record_of(t, r)[2])
+            source[r] = q;
 }
 
-static uint32_t pattern_refusal(const uint16_t *t, size_t len, struct pattern *p)
+static bool comes_before(struct reference_place a, struct reference_place b)
 {
-    const uint32_t number = reference_table_refusal(t, len, PATTERN_STATES, PATTERN_RECORDS);
-    if (number != 0)
-        return number;
+    return a.state < b.state || (a.state == b.state && a.letter < b.letter);
+}
+
+/* Whether one state has both records, on one letter, with different targets. */
+static bool records_fork(const uint16_t *t, const uint32_t *source, uint32_t a, uint32_t b)
+{
+    const uint16_t *const x = record_of(t, a), *const y = record_of(t, b);
+    return source[a] == source[b] && x[0] == y[0] && x[1] != y[1];
+}
+
+/* Refusal 10: each two records are compared, and of all that fork in Q2 the smallest place is kept. */
+static struct reference_checked find_fork(const uint16_t *t, const struct pattern *p)
+{
+    struct reference_checked found = {0, {0, 0}};
+    uint32_t source[PATTERN_RECORDS + 1], a, b;
+    find_sources(t, source);
+    for (a = 1; a <= t[2]; a++)
+        for (b = 1; b < a; b++) {
+            const struct reference_place here = {source[a], record_of(t, a)[0]};
+            if (has(p->inner, here.state) && records_fork(t, source, a, b) &&
+                (found.number == 0 || comes_before(here, found.place))) {
+                found.number = 10;
+                found.place = here;
+            }
+        }
+    return found;
+}
+
+static struct reference_checked check_pattern(const uint16_t *t, size_t len, struct pattern *p)
+{
+    const struct reference_checked by_table = {
+        reference_table_refusal(t, len, PATTERN_STATES, PATTERN_RECORDS), {0, 0}};
+    if (by_table.number != 0)
+        return by_table;
     read_pattern(t, p);
-    return semi_deterministic(p) ? 0 : 10;
+    return find_fork(t, p);
 }
 
-uint32_t reference_check(const uint16_t *table, size_t len)
+struct reference_checked reference_check(const uint16_t *table, size_t len)
 {
     struct pattern p;
-    return pattern_refusal(table, len, &p);
+    return check_pattern(table, len, &p);
 }
 
 /* a times b, or UINT64_MAX. */
@@ -426,8 +454,8 @@ struct reference_complement *reference_explore(const uint16_t *table, size_t len
     struct reference_complement *const x = room_cleared(1, sizeof *x);
     struct pattern p;
     uint32_t source, letter;
-    x->number = pattern_refusal(table, len, &p);
-    if (x->number != 0)
+    x->checked = check_pattern(table, len, &p);
+    if (x->checked.number != 0)
         return x;
     x->letters = p.letters;
     add_initials(x, &p);
@@ -480,7 +508,7 @@ static void write_edges(const struct reference_complement *x, uint16_t *words)
 /* The build's answer in so much room for words and so many records. */
 static struct reference_counts counts_in(const struct reference_complement *x, size_t words, size_t records)
 {
-    struct reference_counts counts = {x->number, 0, 0};
+    struct reference_counts counts = {x->checked.number, 0, 0, x->checked.place};
     if (counts.number != 0)
         return counts;
     if (x->states > WIDE_MOST || x->states > records) {

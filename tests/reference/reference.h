@@ -1,28 +1,39 @@
 /* An independent implementation of the check, the build, the lasso decision and the listing, to compare with.
  *
  * It follows the rules by their words and not by a clever way: chains are proved sound by sorting all links, the states
- * behind an accepting one come from a transitive closure, a successor is any quadruple that meets all conditions, found
- * by trying every candidate, and a lasso is decided by powers of its loop's relation. It shares no code, no algorithm
- * and no header with the library. It is slow, and right only as far as reading it shows. It ends the program where
- * memory runs out. */
+ * behind an accepting one come from a transitive closure, forks from comparing each two records, a successor is any
+ * quadruple that meets all conditions, found by trying every candidate, and a lasso is decided by powers of its loop's
+ * relation. It shares no code, no algorithm and no header with the library. It is slow, and right only as far as
+ * reading it shows. It ends the program where memory runs out. */
 #ifndef REFERENCE_H
 #define REFERENCE_H
 
 #include <stddef.h>
 #include <stdint.h>
 
+/* Where a pattern forks that is refused by 10; zero and zero with every other number. */
+struct reference_place {
+    uint32_t state, letter;
+};
+
+struct reference_checked {
+    uint32_t number;
+    struct reference_place place;
+};
+
 struct reference_counts {
     uint32_t number, states, edges;
+    struct reference_place place;
 };
 
 struct reference_decision {
     uint32_t number, taken; /* 1 taken, 0 not taken or refused: number tells which */
 };
 
-/* 0, or which of 2 to 10 refuses a pattern. */
-uint32_t reference_check(const uint16_t *table, size_t len);
+/* Number 0, or which of 2 to 10 refuses a pattern. */
+struct reference_checked reference_check(const uint16_t *table, size_t len);
 
-/* A complement, explored once, that can be laid into rooms of any size; or the number that refused the pattern. */
+/* A complement, explored once, that can be laid into rooms of any size; or what refused the pattern. */
 struct reference_complement;
 struct reference_complement *reference_explore(const uint16_t *table, size_t len);
 void reference_forget(struct reference_complement *complement);

@@ -2,6 +2,8 @@
 #ifndef REFERENCE_PARTS_H
 #define REFERENCE_PARTS_H
 
+#include "reference.h"
+
 #include <stdbool.h>
 #include <stddef.h>
 #include <stdint.h>
@@ -42,9 +44,9 @@ struct edge {
 };
 
 struct reference_complement {
-    uint32_t number;   /* why the pattern is refused, or 0 */
-    uint32_t states;   /* stops soon after WIDE_MOST */
-    uint32_t initials; /* the initial states are those below */
+    struct reference_checked checked; /* why the pattern is refused, or number 0 */
+    uint32_t states;                  /* stops soon after WIDE_MOST */
+    uint32_t initials;                /* the initial states are those below */
     uint32_t letters;
     size_t states_room, edges_room;
     uint64_t edges; /* all of them; only the first WIDE_MOST are kept */
