@@ -111,35 +111,51 @@ static void spread(const uint16_t *t, struct pattern *p)
     }
 }
 
-/* Spreads the inner part from the accepting states; false where one of its states forks. */
-static bool find_inner(struct pattern *p)
+/* Spreads the inner part from the accepting states; those of its states that fork. */
+static uint32_t find_inner(struct pattern *p)
 {
-    uint32_t waiting = p->accepting, c;
+    uint32_t waiting = p->accepting, forking = 0, c;
     p->inner = waiting;
     while (waiting != 0) {
         const uint32_t q = lowest(waiting);
+        uint32_t more = 0;
         waiting &= waiting - 1;
         for (c = 0; c < p->k; c++) {
             const uint32_t here = p->mask[q][c];
-            if (here & (here - 1))
-                return false;
+            more |= here & (here - 1);
             waiting |= here & ~p->inner;
             p->inner |= here;
         }
+        forking |= (uint32_t)(more != 0) << q;
     }
-    return true;
+    return forking;
 }
 
-static uint32_t read_pattern(const uint16_t *t, size_t len, struct pattern *p)
+static struct fast_place first_fork(const struct pattern *p, uint32_t forking)
 {
-    const uint32_t number = table_refusal(t, len, STATES, RECORDS);
-    if (number != 0)
-        return number;
-    spread(t, p);
-    return find_inner(p) ? 0 : 10;
+    struct fast_place place = {lowest(forking), 0};
+    const uint32_t *const mask = p->mask[place.state];
+    while ((mask[place.letter] & (mask[place.letter] - 1)) == 0)
+        place.letter++;
+    return place;
 }
 
-uint32_t fast_check(const uint16_t *table, size_t len)
+static struct fast_checked read_pattern(const uint16_t *t, size_t len, struct pattern *p)
+{
+    struct fast_checked checked = {table_refusal(t, len, STATES, RECORDS), {0, 0}};
+    uint32_t forking;
+    if (checked.number != 0)
+        return checked;
+    spread(t, p);
+    forking = find_inner(p);
+    if (forking != 0) {
+        checked.number = 10;
+        checked.place = first_fork(p, forking);
+    }
+    return checked;
+}
+
+struct fast_checked fast_check(const uint16_t *table, size_t len)
 {
     struct pattern p;
     return read_pattern(table, len, &p);
@@ -330,7 +346,8 @@ struct fast_counts fast_build(const uint16_t *table, size_t len, uint16_t *words
                               size_t sets_len, enum fast_lookup lookup)
 {
     struct pattern p;
-    struct fast_counts counts = {read_pattern(table, len, &p), 0, 0};
+    const struct fast_checked checked = read_pattern(table, len, &p);
+    struct fast_counts counts = {checked.number, 0, 0, checked.place};
     struct build b = {&p, lookup, sets, 0, WIDE, NULL, 512, NULL, 0, 0};
     size_t used_words = 0, used_sets = 0;
     if (sets_len / SETS < b.most)

@@ -5,8 +5,19 @@
 #include <stddef.h>
 #include <stdint.h>
 
+/* Where a pattern forks that is refused by 10; zero and zero with every other number. */
+struct fast_place {
+    uint32_t state, letter;
+};
+
+struct fast_checked {
+    uint32_t number;
+    struct fast_place place;
+};
+
 struct fast_counts {
     uint32_t number, states, edges;
+    struct fast_place place;
 };
 
 struct fast_decision {
@@ -16,7 +27,7 @@ struct fast_decision {
 /* How a build looks a quadruple up: in a hash table, or by going through all states found so far. */
 enum fast_lookup { FAST_HASH, FAST_SCAN };
 
-uint32_t fast_check(const uint16_t *table, size_t len);
+struct fast_checked fast_check(const uint16_t *table, size_t len);
 
 /* Allocates its hash table and its list of edges within the call. */
 struct fast_counts fast_build(const uint16_t *table, size_t len, uint16_t *words, size_t words_len, uint32_t *sets,

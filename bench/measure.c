@@ -166,12 +166,12 @@ static void print_times(const char *name, struct times t)
 
 static void check_by_library(struct input *in)
 {
-    in->answer = tubochre_check(in->table, in->len);
+    in->answer = tubochre_check(in->table, in->len).number;
 }
 
 static void check_by_reference(struct input *in)
 {
-    in->answer = fast_check(in->table, in->len);
+    in->answer = fast_check(in->table, in->len).number;
 }
 
 static void build_by_library(struct input *in)
@@ -219,29 +219,48 @@ static void full_pattern(struct drawn_table *t, uint32_t records)
     draw_from_edges(t, 32, 16, flags, edge, records);
 }
 
-static void check_row(uint32_t records)
+/* The same with the most records, of which the last leads elsewhere: the only fork is at the last place that there can
+ * be, state 31 and letter 15, and the search for it is the longest. */
+static void last_fork_pattern(struct drawn_table *t)
 {
-    static struct drawn_table t;
+    full_pattern(t, TUBOCHRE_PATTERN_RECORDS_MOST);
+    t->words[t->len - 2] ^= 1;
+}
+
+static void check_row(const char *name, const struct drawn_table *t, struct tubochre_checked expected)
+{
+    const struct tubochre_checked by_library = tubochre_check(t->words, t->len);
+    const struct fast_checked by_reference = fast_check(t->words, t->len);
     struct input in;
     struct times times;
-    char name[80];
+    must(by_library.number == expected.number && by_library.place.state == expected.place.state &&
+             by_library.place.letter == expected.place.letter,
+         "a check by the library");
+    must(by_reference.number == expected.number && by_reference.place.state == expected.place.state &&
+             by_reference.place.letter == expected.place.letter,
+         "a check by the reference");
     memset(&in, 0, sizeof in);
-    full_pattern(&t, records);
-    in.table = t.words;
-    in.len = t.len;
-    must(tubochre_check(t.words, t.len) == 0 && fast_check(t.words, t.len) == 0, "a check");
+    in.table = t->words;
+    in.len = t->len;
     times = take_turns(check_by_library, check_by_reference, &in);
-    snprintf(name, sizeof name, "32 states, 16 letters, %" PRIu32 " records", records);
     print_times(name, times);
-    printf("%.2f ns a record, 0 bytes lent to write\n", times.library * 1e9 / records);
+    printf("%.2f ns a record, 0 bytes lent to write\n", times.library * 1e9 / t->words[2]);
 }
 
 static void check_rows(void)
 {
+    static const struct tubochre_checked passes = {TUBOCHRE_OK, {0, 0}}, forks = {TUBOCHRE_FORK, {31, 15}};
+    static struct drawn_table t;
+    char name[80];
     uint32_t records;
     print_heading("check", "");
-    for (records = 256; records <= 4096; records *= 2)
-        check_row(records);
+    for (records = 256; records <= 4096; records *= 2) {
+        full_pattern(&t, records);
+        snprintf(name, sizeof name, "32 states, 16 letters, %" PRIu32 " records", records);
+        check_row(name, &t, passes);
+    }
+    last_fork_pattern(&t);
+    check_row("4096 records, a fork at state 31, letter 15", &t, forks);
 }
 
 /* ---- Builds. */
