@@ -186,29 +186,25 @@ fn first_fork(masks: &TargetSets, shape: Shape) -> Fork
     requires { ⌜ Small-shape shape ⌝ }
     ensures { λ r. ⌜ r ≡ masks-fork (now (masks .entry)) shape ⌝ }
 {
-    let states = shape.states;
-    let letters = shape.letters;
+    let states = shape.states as u32;
+    let letters = shape.letters as u32;
     let inner = shape.inner;
-    let mut state = 0;
-    let fork = 'search: loop {
+    let mut state: u32 = 0;
+    'search: loop {
         if state == states {
             break 'search Fork::Nowhere;
         }
         if (inner >> state) % 2 == 1 {
-            let mut letter = 0;
+            let mut letter: u32 = 0;
             while letter < letters {
-                if two_targets(masks[state][letter]) {
-                    break 'search Fork::At(Place {
-                        state: state as u32,
-                        letter: letter as u32,
-                    });
+                if two_targets(masks[state as usize][letter as usize]) {
+                    break 'search Fork::At(Place { state, letter });
                 }
                 letter += 1;
             }
         }
         state += 1;
-    };
-    fork
+    }
 }
 
 // THE CHECK

@@ -5,6 +5,7 @@ use mathlib.Core.Bool.{Bool, false}
 use mathlib.Core.Logic.{inl, inr}
 use Prim.Native.Nat.{_-_, _<_}
 use native.Mathlib.Omega.{arith}
+use borrow.Author.Needs.{needs}
 use Rattle.basics.specs.Bounded.{any}
 use Rattle.basics.proofs.Scans.{Scan, scan-start, scan-more, scan-none}
 use Rattle.sets.specs.Sets.{set-states, row-letters}
@@ -79,17 +80,26 @@ module _ (c : tie.Joined2 Inv-loop μ-loop Inv-search μ-search) where
   even = elim (c .if2 .came) [ inl w ↦ scan-none (w .1 .inv) (w .2 .left) | inr w ↦ outer-even _ _ _ _ (w .left) ]
 
 -- THE NEEDS
+cast-states : tie.Need-cast-states Inv-loop μ-loop Inv-search μ-search
+cast-states c = let begun : tie.Start Inv-loop μ-loop Inv-search μ-search = search in let l = begun .pre .states in omega arith
+
+cast-letters : tie.Need-cast-letters Inv-loop μ-loop Inv-search μ-search
+cast-letters c = let begun : tie.Start Inv-loop μ-loop Inv-search μ-search = search in let l = begun .pre .letters in omega arith
+
 search-holds : tie.Need-search-holds Inv-loop μ-loop Inv-search μ-search
 search-holds c = scan-start
-
-cast-if2 : tie.Need-cast-if2 Inv-loop μ-loop Inv-search μ-search
-cast-if2 c = let l = small c in omega arith
 
 shr-if2 : tie.Need-shr-if2 Inv-loop μ-loop Inv-search μ-search
 shr-if2 c = small c
 
 loop-holds : tie.Need-loop-holds Inv-loop μ-loop Inv-search μ-search
 loop-holds c = scan-start
+
+cast-two-targets : tie.Need-cast-two-targets Inv-loop μ-loop Inv-search μ-search
+cast-two-targets c = search needs
+
+cast-two-targets-2 : tie.Need-cast-two-targets-2 Inv-loop μ-loop Inv-search μ-search
+cast-two-targets-2 c = search needs
 
 mul-two-targets : tie.Need-mul-two-targets Inv-loop μ-loop Inv-search μ-search
 mul-two-targets c = let at : tie.Else1 Inv-loop μ-loop Inv-search μ-search = search in let l = small at in omega arith
@@ -105,12 +115,6 @@ index-2-two-targets c = few c
 
 two-targets-requires : tie.Need-two-targets-requires Inv-loop μ-loop Inv-search μ-search
 two-targets-requires c κs = tt
-
-cast-t23 : tie.Need-cast-t23 Inv-loop μ-loop Inv-search μ-search
-cast-t23 c = let at : tie.Else1 Inv-loop μ-loop Inv-search μ-search = search in let l = small at in omega arith
-
-cast-t24 : tie.Need-cast-t24 Inv-loop μ-loop Inv-search μ-search
-cast-t24 c = let at : tie.In-loop Inv-loop μ-loop Inv-search μ-search = search in let l = few at in omega arith
 
 add-letter : tie.Need-add-letter Inv-loop μ-loop Inv-search μ-search
 add-letter c = let at : tie.In-loop Inv-loop μ-loop Inv-search μ-search = search in let l = few at in omega arith
@@ -161,17 +165,18 @@ first-fork-spec =
     μ-loop
     Inv-search
     μ-search
+    cast-states
+    cast-letters
     search-holds
-    cast-if2
     shr-if2
     loop-holds
+    cast-two-targets
+    cast-two-targets-2
     mul-two-targets
     mul-two-targets-2
     index-1-two-targets
     index-2-two-targets
     two-targets-requires
-    cast-t23
-    cast-t24
     add-letter
     loop-less
     loop-again
