@@ -111,7 +111,7 @@ static void spread(const uint16_t *t, struct pattern *p)
     }
 }
 
-/* Spreads the inner part from the accepting states; those of its states that fork. */
+/* Spreads the inner part from the accepting states, and gives those of its states that fork. */
 static uint32_t find_inner(struct pattern *p)
 {
     uint32_t waiting = p->accepting, forking = 0, c;

@@ -227,18 +227,19 @@ static void last_fork_pattern(struct drawn_table *t)
     t->words[t->len - 2] ^= 1;
 }
 
-static void check_row(const char *name, const struct drawn_table *t, struct tubochre_checked expected)
+static int same_checked(struct fast_checked a, struct fast_checked b)
 {
-    const struct tubochre_checked by_library = tubochre_check(t->words, t->len);
-    const struct fast_checked by_reference = fast_check(t->words, t->len);
+    return a.number == b.number && a.place.state == b.place.state && a.place.letter == b.place.letter;
+}
+
+static void check_row(const char *name, const struct drawn_table *t, struct fast_checked expected)
+{
+    const struct tubochre_checked l = tubochre_check(t->words, t->len);
+    const struct fast_checked by_library = {l.number, {l.place.state, l.place.letter}};
     struct input in;
     struct times times;
-    must(by_library.number == expected.number && by_library.place.state == expected.place.state &&
-             by_library.place.letter == expected.place.letter,
-         "a check by the library");
-    must(by_reference.number == expected.number && by_reference.place.state == expected.place.state &&
-             by_reference.place.letter == expected.place.letter,
-         "a check by the reference");
+    must(same_checked(by_library, expected), "a check by the library");
+    must(same_checked(fast_check(t->words, t->len), expected), "a check by the reference");
     memset(&in, 0, sizeof in);
     in.table = t->words;
     in.len = t->len;
@@ -249,7 +250,7 @@ static void check_row(const char *name, const struct drawn_table *t, struct tubo
 
 static void check_rows(void)
 {
-    static const struct tubochre_checked passes = {TUBOCHRE_OK, {0, 0}}, forks = {TUBOCHRE_FORK, {31, 15}};
+    static const struct fast_checked passes = {TUBOCHRE_OK, {0, 0}}, forks = {TUBOCHRE_FORK, {31, 15}};
     static struct drawn_table t;
     char name[80];
     uint32_t records;

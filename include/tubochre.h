@@ -111,9 +111,9 @@ enum tubochre_limit {
 /* What a lasso decision says of a lasso that it does not refuse: a truth value. */
 enum tubochre_taken { TUBOCHRE_NOT_TAKEN = 0, TUBOCHRE_TAKEN = 1 };
 
-/* Where a pattern forks: the smallest state, accepting or behind an accepting one, that has two targets on one letter,
- * and the smallest such letter of that state. With every number but 10, 0 among them, it is (0, 0). With number 10 that
- * is a place like any other, state 0 and letter 0: only number tells. */
+/* Where a pattern forks: the smallest state, accepting or reached from an accepting one by edges, that has two targets
+ * on one letter, and the smallest such letter of that state. With every number but 10, 0 among them, both are 0. With
+ * 10, two zeros are state 0 and letter 0, a place like any other: only number tells. */
 struct tubochre_place {
     uint32_t state, letter;
 };

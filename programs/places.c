@@ -133,7 +133,8 @@ static unsigned record_on(const uint16_t *t, unsigned r, unsigned letter, unsign
 /* Of the targets at a place, two or more: the first in the state's chain, and the first that differs from it. */
 static struct place fork_at(const uint16_t *t, struct tubochre_place at)
 {
-    const unsigned state = at.state, letter = at.letter, no_state = t[0];
+    const unsigned state = at.state, letter = at.letter;
+    const unsigned no_state = t[0]; /* the target of no record */
     const unsigned first = record_on(t, t[head_word(state)], letter, no_state);
     const unsigned second = first == 0 ? 0 : record_on(t, first, letter, t[target_word(t, first)]);
     if (second == 0)

@@ -163,6 +163,8 @@ static const struct damaged damaged_tables[] = {
     {"a record that nothing names", 9, 9, 8, {1, 1, 1, 0, 0, 0, 0, 0}},
     {"a record named by a head and a next", 9, 9, 13, {2, 1, 2, 0, 1, 0, 2, 0, 0, 2, 0, 0, 0}},
     {"a record named by two heads", 9, 9, 10, {2, 1, 1, 0, 1, 0, 1, 0, 0, 0}},
+    {"a word too many behind a fork", 6, 6, 14, {2, 1, 2, 1, 0, 2, 1, 0, 0, 2, 0, 1, 0, 0}},
+    {"flags of 4 before a fork", 7, 7, 13, {2, 1, 2, 4, 0, 2, 1, 0, 0, 2, 0, 1, 0}},
     {"a record that nothing names, before a fork", 9, 9, 16, {2, 1, 3, 1, 0, 2, 1, 0, 0, 2, 0, 1, 0, 0, 0, 0}},
     {"a fork behind an accepting state that is never reached", 10, 0, 13, {2, 1, 2, 1, 0, 2, 1, 0, 0, 2, 0, 1, 0}},
     {"a fork before every accepting state", 0, 0, 13, {2, 1, 2, 1, 1, 2, 0, 0, 0, 2, 0, 1, 0}},

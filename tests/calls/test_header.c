@@ -45,7 +45,7 @@ static void try_sizes(void)
     expect(tubochre_bound(UINT32_MAX, UINT32_MAX, UINT32_MAX) == UINT64_MAX, "nor does the largest");
 }
 
-/* The answers as the archives lay them out: words in a row, without gaps. */
+/* The answers are words in a row, without gaps. That the archives lay them out so, the tests of the calls show. */
 static void try_layouts(void)
 {
     expect(sizeof(struct tubochre_place) == 8 && offsetof(struct tubochre_place, state) == 0 &&

@@ -31,8 +31,8 @@ static void try_large(uint32_t p, uint32_t r, uint32_t k, uint32_t number)
     counts = tubochre_build(table, len, words, words_len, sets, sets_len);
     expect(counts.number == number && counts.states == states && counts.edges == states * k &&
                counts.place.state == 0 && counts.place.letter == 0,
-           "rings of %u and %u with %u letters: %u %u %u", p, r, k, (unsigned)counts.number, (unsigned)counts.states,
-           (unsigned)counts.edges);
+           "rings of %u and %u with %u letters: %u %u %u, state %u, letter %u", p, r, k, (unsigned)counts.number,
+           (unsigned)counts.states, (unsigned)counts.edges, (unsigned)counts.place.state, (unsigned)counts.place.letter);
     for (i = number == 0 ? tubochre_table_words(states, states * k) : 0; i < words_len; i++)
         left += words[i] != 0;
     for (i = tubochre_sets_words(states); i < sets_len; i++)

@@ -8,6 +8,7 @@
 enum { WORDS = 40, SETS = 4 * TUBOCHRE_RECORD_WORDS, WORK = 64, RECORDS = 3 };
 
 static const uint16_t pattern[] = {2, 2, 4, 1, 1, 2, 4, 0, 0, 2, 1, 0, 3, 0, 1, 0, 0, 1, 0};
+static const uint16_t forking[] = {2, 1, 2, 1, 0, 2, 1, 0, 0, 2, 0, 1, 0};
 static const uint8_t letters[] = {0, 1};
 
 /* All that the calls write. */
@@ -22,6 +23,14 @@ struct written {
 #define LENT(buffer, empty, null) \
     ((empty) && (null) ? NULL : (buffer)), ((empty) ? 0 : sizeof(buffer) / sizeof(buffer)[0])
 
+/* The table that is asked about, likewise. */
+static const uint16_t *table;
+static size_t table_len;
+
+#define TABLE(empty, null) ((empty) && (null) ? NULL : table), ((empty) ? 0 : table_len)
+
+#define ASK_ABOUT(words) (table = (words), table_len = sizeof(words) / sizeof(words)[0])
+
 static struct written before(void)
 {
     struct written w;
@@ -32,7 +41,7 @@ static struct written before(void)
 static struct written check(unsigned empty, int null)
 {
     struct written w = before();
-    const struct tubochre_checked checked = tubochre_check(LENT(pattern, empty & 1, null));
+    const struct tubochre_checked checked = tubochre_check(TABLE(empty & 1, null));
     w.answer[0] = checked.number;
     w.answer[1] = checked.place.state;
     w.answer[2] = checked.place.letter;
@@ -42,7 +51,7 @@ static struct written check(unsigned empty, int null)
 static struct written build(unsigned empty, int null)
 {
     struct written w = before();
-    const struct tubochre_counts counts = tubochre_build(LENT(pattern, empty & 1, null), LENT(w.words, empty & 2, null),
+    const struct tubochre_counts counts = tubochre_build(TABLE(empty & 1, null), LENT(w.words, empty & 2, null),
                                                          LENT(w.sets, empty & 4, null));
     w.answer[0] = counts.number;
     w.answer[1] = counts.states;
@@ -55,7 +64,7 @@ static struct written build(unsigned empty, int null)
 static struct written lasso(unsigned empty, int null)
 {
     struct written w = before();
-    const struct tubochre_decision d = tubochre_lasso(LENT(pattern, empty & 1, null), LENT(letters, empty & 2, null),
+    const struct tubochre_decision d = tubochre_lasso(TABLE(empty & 1, null), LENT(letters, empty & 2, null),
                                                       LENT(letters, empty & 4, null), LENT(w.work, empty & 8, null));
     w.answer[0] = d.number;
     w.answer[1] = d.taken;
@@ -87,10 +96,15 @@ int main(void)
     static const uint32_t by_check[] = {0, 2};
     static const uint32_t by_build[] = {0, 2, 12, 2, 11, 2, 11, 2};
     static const uint32_t by_lasso[] = {0, 2, 0, 2, 13, 2, 13, 2, 16, 2, 16, 2, 13, 2, 13, 2};
+    static const uint32_t fork_by_check[] = {10, 2}, fork_by_build[] = {10, 2, 10, 2, 10, 2, 10, 2};
     static const uint32_t by_records[] = {0xa5a5a5a5, 0xa5a5a5a5, 0xa5a5a5a5, 0xa5a5a5a5}; /* it answers nothing */
+    ASK_ABOUT(pattern);
     try_call("check", check, 1, by_check);
     try_call("build", build, 3, by_build);
     try_call("lasso", lasso, 4, by_lasso);
+    ASK_ABOUT(forking);
+    try_call("check of a fork", check, 1, fork_by_check);
+    try_call("build of a fork", build, 3, fork_by_build);
     try_call("records", records, 2, by_records);
     section("NULL for each buffer without elements");
     return summary("test_null");

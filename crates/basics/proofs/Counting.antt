@@ -69,11 +69,12 @@ count-two k f i j li lj apart hi hj =
     count-less k (λ x. f x && eqb i x) f (λ x _ h. and-l (eqb i x) h) j lj (and-false-r (f j) (ne-eqb i j apart)) hj in
     omega arith
 
--- and what is counted twice has two different hits
+-- what is counted has a hit
 count-some : (k : ℕ) (f : ℕ → Bool) → 0 < count k f → (i : ℕ) × (i < k) × (f i ≡ true)
 count-some k f l =
     elim (search-to k f) [ inl r ↦ r | inr none ↦ absurd (let z = count-none k f none in omega arith) ]
 
+-- and what is counted twice has two different ones
 pub count-pair :
     (k : ℕ) (f : ℕ → Bool) → 1 < count k f → (i : ℕ) × (j : ℕ) × (i < j) × (j < k) × (f i ≡ true) × (f j ≡ true)
 unfolding count

@@ -13,7 +13,7 @@ use Rattle.basics.proofs.Clears.{zeros-same}
 use Rattle.tables.specs.Table.{Limits, table-words}
 use Rattle.patterns.specs.Check.{check-refusal, no-place, check-place}
 use Rattle.patterns.specs.declared.Place.{Place}
-use Rattle.patterns.proofs.Answers.{no-fork-place}
+use Rattle.patterns.proofs.Answers.{passed-no-place}
 use Rattle.record_words.specs.Record.{full-records}
 use Rattle.record_words.proofs.Laws.{full-kept}
 use Rattle.complement.specs.Build.{Lent, room-of, too-long, room-refusal, build-refusal, as-counts, after-build, Build-says, Refused-with}
@@ -126,10 +126,6 @@ pub says-built :
 unfolding as-counts after-build
 says-built e answer words sets = record { answer = rw e answer; words = rw e words; sets = rw e sets }
 
--- a pattern that passes forks nowhere, so there is no place to hand on
-no-place-passed : (t : List ℕ) → check-refusal t ≡ 0 → no-place ≡ check-place t
-no-place-passed t passed = sym (no-fork-place t (λ ten. omega arith))
-
 -- THE THREE REFUSALS of the build
 module _ (limits : Limits) (t : List ℕ) (lends : Lent) {r : Counts} {after : Lent} where
   -- the check's own, with its place
@@ -141,14 +137,14 @@ module _ (limits : Limits) (t : List ℕ) (lends : Lent) {r : Counts} {after : L
   module _ (passed : check-refusal t ≡ 0) {l : Lent} {p : Progress} (sizes : Same-sizes l lends) where
     pub refused-states :
         Ends (quadruples limits) (complement t) l p → p .full ≡ true → Refused-with 11 no-place r l after → Build-says limits t r lends after
-    refused-states ends full h = says-refused (states-refuse limits t lends passed ends full sizes) (λ e. omega arith) (no-place-passed t passed) h sizes
+    refused-states ends full h = says-refused (states-refuse limits t lends passed ends full sizes) (λ e. omega arith) (sym (passed-no-place t passed)) h sizes
 
     pub refused-edges :
         Ends (quadruples limits) (complement t) l p → p .full ≡ false → {b : Bool} →
         b ≡ too-long limits (length (l .words)) (p .states) (p .edges) → b ≡ true →
         Refused-with 12 no-place r l after → Build-says limits t r lends after
     refused-edges ends left e long h =
-        says-refused (length-refuses limits t lends passed (ends-within left ends) sizes e long) (λ e. omega arith) (no-place-passed t passed) h sizes
+        says-refused (length-refuses limits t lends passed (ends-within left ends) sizes e long) (λ e. omega arith) (sym (passed-no-place t passed)) h sizes
 
 -- what a build that is not too long has
 pub short-enough :

@@ -25,7 +25,7 @@ use Rattle.ncsb.proofs.Reached.{decides, initials-apart}
 use Rattle.patterns.specs.Check.{check-refusal, no-place, check-place}
 use Rattle.patterns.specs.Pattern.{moves}
 use Rattle.patterns.specs.declared.Place.{Place}
-use Rattle.patterns.proofs.Answers.{no-fork-place}
+use Rattle.patterns.proofs.Answers.{passed-no-place}
 use Rattle.patterns.proofs.Passed.{checked-table, checked-split}
 use Rattle.layout.specs.Orderly.{Orderly, Has-edges}
 use Rattle.layout.proofs.Meaning.{chained-meaning}
@@ -116,7 +116,7 @@ unfolding as-counts
 counts-number zero p n m = refl
 counts-number (suc r) p n m = refl
 
--- the place is the check's with every number but zero, and zero and zero with that
+-- its place is the one handed on, if that is none where the build is accepted
 counts-place : (number : ℕ) (p : Place) (n m : ℕ) → (number ≡ 0 → p ≡ no-place) → as-counts number p n m .place ≡ p
 unfolding as-counts
 counts-place zero p n m none = sym (none refl)
@@ -138,10 +138,9 @@ build-place {limits} {t} {r} {before} says =
     ap (λ (c : Counts). c .place) (says .answer)
     ∙ counts-place (build-refusal limits t (room-of before)) (check-place t) (length (complement t .states)) (length (complement t .edges))
     (λ none.
-    let passed =
-    or-else-none (check-refusal t)
-    (room-refusal limits (room-of before) (length (complement t .states)) (length (complement t .edges))) none .0 in
-    no-fork-place t (λ ten. omega arith))
+    passed-no-place t
+    (or-else-none (check-refusal t)
+    (room-refusal limits (room-of before) (length (complement t .states)) (length (complement t .edges))) none .0))
 
 module _
     {limits : Limits} {t : List ℕ} {r : Counts} {before after : Lent} (says : Build-says limits t r before after)

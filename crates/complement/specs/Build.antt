@@ -53,7 +53,7 @@ unfoldable pub after-build : (number : ℕ) → (new before : List ℕ) → List
 after-build zero x o = filled x o
 after-build (suc r) x o = zeros o
 
--- what the build of a table of a range answers, the check's place handed on with its number, and what it leaves of the lent buffers
+-- what the build of a table of a range answers, with the check's place, and what it leaves of the lent buffers
 pub record Build-says (limits : Limits) (t : List ℕ) (r : Counts) (before after : Lent) : Type 0 where
   pub answer :
       r

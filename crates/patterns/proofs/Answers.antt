@@ -1,7 +1,7 @@
 -- From the parts of a reading to what it answers and leaves, and from a reading to the check's answer: its number, which is at most 10, and its
 -- place. Assumes nothing.
 use mathlib.Core.Path.{_≡_, refl, sym, _∙_, ap}
-use mathlib.Core.Bool.{true, false, cond}
+use mathlib.Core.Bool.{true, false}
 use mathlib.Core.List.{List}
 use mathlib.Core.Logic.{inl, inr}
 use Prim.Native.Nat.{ℕ, zero, suc, _≤_}
@@ -16,7 +16,7 @@ use Rattle.patterns.specs.Check.{check-refusal, no-place, place-of, chec
 use Rattle.patterns.specs.Forks.{fork-place}
 use Rattle.patterns.specs.Masks.{masks-of}
 use Rattle.patterns.specs.Pattern.{semi-deterministic, moves}
-use Rattle.patterns.specs.Shape.{shape-of, masks-fork, Shape-asks, Small-shape}
+use Rattle.patterns.specs.Shape.{shape-of, masks-place, Shape-asks, Small-shape}
 use Rattle.patterns.specs.declared.Checked.{Checked}
 use Rattle.patterns.specs.declared.Checked.the-variants.{Passed, Refused}
 use Rattle.patterns.specs.declared.Fork.{Fork}
@@ -45,20 +45,24 @@ module _ (t : List ℕ) where
   unfolding check-place
   no-fork-place ne = rw (ne-eqb (check-refusal t) 10 ne)
 
+  -- nor does a pattern that passes
+  pub passed-no-place : check-refusal t ≡ 0 → check-place t ≡ no-place
+  passed-no-place passed = no-fork-place (λ ten. omega arith)
+
   -- 10 comes with the place where the pattern forks
   pub fork-place-kept : {p : Place} → check-refusal t ≡ 10 → fork-place (meaning t) ≡ At p → check-place t ≡ p
   unfolding check-place place-of
   fork-place-kept ten e = rw (eq-eqb ten, e)
 
-  -- refusals 2 to 9 passed: 10 exactly where there is such a place
+  -- refusals 2 to 9 passed: 10 exactly where the pattern is not semi-deterministic
   module _ (passed : table-refusal pattern-range t ≡ 0) where
-    pub check-forks : {p : Place} → fork-place (meaning t) ≡ At p → check-refusal t ≡ 10
+    uneven-refused : semi-deterministic (meaning t) ≡ false → check-refusal t ≡ 10
     unfolding check-refusal or-else
-    check-forks e = rw (passed, place-uneven (meaning t) e)
+    uneven-refused e = rw (passed, e)
 
-    pub check-passes : fork-place (meaning t) ≡ Nowhere → check-refusal t ≡ 0
+    even-none : semi-deterministic (meaning t) ≡ true → check-refusal t ≡ 0
     unfolding check-refusal or-else
-    check-passes e = rw (passed, nowhere-right (meaning t) .0 e)
+    even-none e = rw (passed, e)
 
 -- which of them is met: one of 2 to 9, or 10, or none
 pub data Check-case (t : List ℕ) : Type 0 where
@@ -75,8 +79,8 @@ check-cases t =
       | inl e ↦
           let passed = eqb-eq (table-refusal pattern-range t) 0 e in
           elim (either (semi-deterministic (meaning t))) [
-            | inl even ↦ by-none passed even (rw (e, even))
-            | inr fork ↦ by-fork passed fork (rw (e, fork))
+            | inl even ↦ by-none passed even (even-none t passed even)
+            | inr fork ↦ by-fork passed fork (uneven-refused t passed fork)
           ]
       | inr e ↦
           let ne = eqb-ne (table-refusal pattern-range t) 0 e in
@@ -124,19 +128,19 @@ module _ (t : List ℕ) (number : ℕ) (told : number ≡ table-refusal pattern-
 
     -- then 10 is the answer exactly where a fork is found, with its place
     module _
-        (shape : Shape) (shaped : shape ≡ shape-of (moves (meaning t))) (fork : Fork) (found : fork ≡ masks-fork masks shape) where
+        (shape : Shape) (shaped : shape ≡ shape-of (moves (meaning t))) (fork : Fork) (found : fork ≡ masks-place masks shape) where
       placed : fork-place (meaning t) ≡ fork
       placed = let right = masks-right (meaning t) (pattern-fits t (table-passed none)) in cc
 
       pub fork-refused : (p : Place) → fork ≡ At p → read.Refused 10 p ≡ reading t
       unfolding reading as-reading
       fork-refused p e =
-          let ten = check-forks t (table-passed none) (placed ∙ e) in
+          let ten = uneven-refused t (table-passed none) (place-uneven (meaning t) (placed ∙ e)) in
           rw (ten, fork-place-kept t ten (placed ∙ e))
 
       pub even-passed : fork ≡ Nowhere → read.Pattern shape ≡ reading t
       unfolding reading as-reading
-      even-passed e = rw (check-passes t (table-passed none) (placed ∙ e), shaped)
+      even-passed e = rw (even-none t (table-passed none) (nowhere-right (meaning t) .0 (placed ∙ e)), shaped)
 
 -- WHAT A READING SAYS
 number-in : PatternReading → ℕ

@@ -15,10 +15,10 @@ use Rattle.sets.proofs.Size.{size-ones, size-past}
 use Rattle.patterns.specs.Forks.{first-pair, fork-place}
 use Rattle.patterns.specs.Masks.{masks-of}
 use Rattle.patterns.specs.Pattern.{targets-of, inner-of, forks, moves}
-use Rattle.patterns.specs.Shape.{shape-of, two-targets, mask-forks, masks-fork}
+use Rattle.patterns.specs.Shape.{shape-of, two-targets, mask-forks, masks-place}
 use Rattle.patterns.proofs.Masks.{Fits-masks, mask-right, targets-lt}
 
--- the count of a set's digits is its size
+-- a set has two members where its number has two digits 1
 pub two-ones : (set : ℕ) → set < 2 ^ set-states → ltb 1 (ones set) ≡ two-targets set
 unfolding two-targets
 two-ones set l = ap (ltb 1) (sym (size-ones set-states set l))
@@ -49,6 +49,6 @@ module _ (a : Automaton) (f : Fits-masks a) where
   mask-test q c = ap (λ (n : ℕ). has (inner-of a) q && ltb 1 n) (mask-right-size q c)
 
   -- so both find the same place
-  pub masks-right : masks-fork (masks-of (moves a)) (shape-of (moves a)) ≡ fork-place a
-  unfolding masks-fork shape-of moves fork-place
+  pub masks-right : masks-place (masks-of (moves a)) (shape-of (moves a)) ≡ fork-place a
+  unfolding masks-place shape-of moves fork-place
   masks-right = ap (first-pair (a .states) (a .letters)) (fun-ext (λ q. fun-ext (mask-test q)))

@@ -1,14 +1,13 @@
 -- Laws of the first pair of a state and a letter of which a test holds: what a search that leaves at the first pair finds is it; it is the one pair
 -- that the test holds of with no smaller state and no smaller letter; and there is none exactly where the test holds of no pair. Assumes nothing.
 use mathlib.Core.Path.{_≡_, refl, sym, _∙_, ap}
-use mathlib.Core.Bool.{Bool, true, false, cond}
+use mathlib.Core.Bool.{Bool, true, false}
 use mathlib.Core.Logic.{_⊎_, inl, inr}
 use Prim.Native.Nat.{ℕ, _<_, _≤_}
-use native.Mathlib.Omega.{arith}
 use Rattle.basics.specs.Bounded.{any}
 use Rattle.basics.specs.Least.{least}
 use Rattle.basics.proofs.Booleans.{either, clash}
-use Rattle.basics.proofs.Bounded.{any-make, any-none, any-find, any-no}
+use Rattle.basics.proofs.Bounded.{any-make, any-find, any-no}
 use Rattle.basics.proofs.Least.{least-below, least-holds, least-none, least-is}
 use Rattle.basics.proofs.Scans.{Scan, scan-none}
 use Rattle.patterns.specs.Forks.{smallest-pair, first-pair}
@@ -25,7 +24,7 @@ found-in : Fork → Bool
 found-in Nowhere = false
 found-in (At p) = true
 
-pub at-same : {p q : Place} → At p ≡ At q → p ≡ q
+at-same : {p q : Place} → At p ≡ At q → p ≡ q
 unfolding place-in
 at-same {p} e = ap (λ (f : Fork). place-in f p) e
 

@@ -1,33 +1,25 @@
 -- What the place says where an automaton forks: a state of Q2 with two targets on a letter, no smaller state and no smaller letter; it is the only
 -- such place; and there is none exactly if the automaton is semi-deterministic. Assumes nothing.
 use mathlib.Core.Path.{_≡_, sym, _∙_}
-use mathlib.Core.Bool.{Bool, true, false, _&&_, not}
+use mathlib.Core.Bool.{true, false, not}
 use mathlib.Core.Logic.{_↔_, inl, inr}
 use Prim.Native.Nat.{ℕ, _<_}
-use native.Mathlib.Omega.{arith}
 use lib.Dec.{ltb}
 use Rattle.basics.specs.Bounded.{each, any}
-use Rattle.basics.proofs.Booleans.{either, clash, and-l, and-r, and-make, not-false, true-not, not-both, lt-ltb, ltb-lt}
-use Rattle.basics.proofs.Bounded.{each-all, each-make, any-none, any-no}
-use Rattle.basics.proofs.Counting.{count-two, count-pair}
+use Rattle.basics.proofs.Booleans.{clash, and-l, and-r, and-make, not-false, not-both}
+use Rattle.basics.proofs.Bounded.{each-make, any-none, any-no}
 use Rattle.automata.specs.Automaton.{Automaton, Closed}
 use Rattle.sets.specs.Sets.{has, size}
-use Rattle.patterns.specs.Forks.{first-pair, fork-place, Two-targets, Forks, Some-fork, Forks-first}
+use Rattle.patterns.specs.Forks.{fork-place, Forks, Some-fork, Forks-first}
 use Rattle.patterns.specs.Pattern.{targets-of, inner-of, forks, semi-deterministic}
 use Rattle.patterns.specs.declared.Fork.the-variants.{Nowhere, At}
 use Rattle.patterns.specs.declared.Place.{Place}
 use Rattle.patterns.proofs.Inner.{inner-right}
-use Rattle.patterns.proofs.Pairs.{at-or-nowhere, First, first-is, is-first, first-none, none-first}
-use Rattle.patterns.proofs.Split.{has-targets}
+use Rattle.patterns.proofs.Pairs.{at-nowhere, at-or-nowhere, first-is, is-first, first-none, none-first}
+use Rattle.patterns.proofs.Split.{even-forks, two-right}
 
 module _ (a : Automaton) where
-  -- semi-deterministic: no state forks on any letter
-  even-forks : semi-deterministic a ≡ true → (q c : ℕ) → q < a .states → c < a .letters → forks a q c ≡ false
-  unfolding semi-deterministic
-  even-forks e q c l m =
-      let row = each-all (a .states) (λ q. each (a .letters) (λ c. not (forks a q c))) e q l in
-      true-not (forks a q c) (each-all (a .letters) (λ c. not (forks a q c)) row c m)
-
+  -- and where none does, it is semi-deterministic
   forks-even : ((q c : ℕ) → q < a .states → c < a .letters → forks a q c ≡ false) → semi-deterministic a ≡ true
   unfolding semi-deterministic
   forks-even none =
@@ -42,15 +34,12 @@ module _ (a : Automaton) where
     λ e.
         sym (first-none (a .states) (a .letters) (forks a)
         (any-none (a .states) (λ q. any (a .letters) (forks a q))
-        (λ q l. any-none (a .letters) (forks a q) (λ c m. even-forks e q c l m)))),
+        (λ q l. any-none (a .letters) (forks a q) (λ c m. even-forks a e q c l m)))),
   )
 
   -- and one exactly if it is not
   pub place-uneven : {p : Place} → fork-place a ≡ At p → semi-deterministic a ≡ false
-  unfolding fork-place
-  place-uneven {p} e =
-      let first = is-first (a .states) (a .letters) (forks a) p e in
-      not-both (semi-deterministic a) (λ h. clash (first .holds) (even-forks h (p .state) (p .letter) (first .state) (first .letter)))
+  place-uneven e = not-both (semi-deterministic a) (λ h. at-nowhere (sym e ∙ nowhere-right .1 h))
 
   pub uneven-place : semi-deterministic a ≡ false → (p : Place) × (fork-place a ≡ At p)
   uneven-place e =
@@ -58,38 +47,17 @@ module _ (a : Automaton) where
 
 -- BY EDGES
 module _ (a : Automaton) (closed : Closed a) where
-  two-right : (q c : ℕ) → (ltb 1 (size (a .states) (targets-of a q c)) ≡ true) ↔ Two-targets a q c
-  unfolding size
-  two-right q c = (
-    (λ h.
-        let (i, j, l, m, e, g) =
-        count-pair (a .states) (has (targets-of a q c)) (ltb-lt 1 (size (a .states) (targets-of a q c)) h) in
-        record {
-          one = i;
-          other = j;
-          apart = omega arith;
-          to-one = sym (has-targets a closed q c i) ∙ e;
-          to-other = sym (has-targets a closed q c j) ∙ g;
-        }),
-    (λ two.
-        lt-ltb
-        (count-two (a .states) (has (targets-of a q c)) (two .one) (two .other)
-        (closed .edge q c (two .one) (two .to-one) .2) (closed .edge q c (two .other) (two .to-other) .2)
-        (λ same. let l = two .apart in omega arith) (has-targets a closed q c (two .one) ∙ two .to-one)
-        (has-targets a closed q c (two .other) ∙ two .to-other))),
-  )
-
   -- a state of Q2 has two targets on a letter
-  pub forks-right : (q c : ℕ) → (forks a q c ≡ true) ↔ Forks a q c
+  forks-right : (q c : ℕ) → (forks a q c ≡ true) ↔ Forks a q c
   unfolding forks
   forks-right q c =
       let two = ltb 1 (size (a .states) (targets-of a q c)) in (
         (λ h.
             record {
               inner = inner-right a closed q .0 (and-l two h);
-              targets = two-right q c .0 (and-r (has (inner-of a) q) h);
+              targets = two-right a closed q c .0 (and-r (has (inner-of a) q) h);
             }),
-        (λ f. and-make (inner-right a closed q .1 (f .inner)) (two-right q c .1 (f .targets))),
+        (λ f. and-make (inner-right a closed q .1 (f .inner)) (two-right a closed q c .1 (f .targets))),
       )
 
   forks-inside : (q c : ℕ) → Forks a q c → (q < a .states) × (c < a .letters)

@@ -1,23 +1,32 @@
 -- What the construction asks of a pattern: the sets say what the automaton says, and of a semi-deterministic one Q2 meets the four laws
 -- of the deterministic part. Assumes nothing.
 -- Only here are the laws of Q2 shown: whoever builds on them cites Split, whatever Q2 is.
-use mathlib.Core.Path.{_≡_, refl, sym, _∙_, ap}
-use mathlib.Core.Bool.{Bool, true, false, _&&_, not}
-use mathlib.Core.Logic.{inl, inr}
-use Prim.Native.Nat.{ℕ}
+use mathlib.Core.Path.{_≡_, refl, sym, _∙_}
+use mathlib.Core.Bool.{true, false, not}
+use mathlib.Core.Logic.{_↔_, inl, inr}
+use Prim.Native.Nat.{ℕ, _<_}
 use native.Mathlib.Omega.{arith}
-use lib.Dec.{ltb, eqb}
+use lib.Dec.{ltb}
 use lib.Bits.{and-le-l}
 use Rattle.basics.specs.Bounded.{each}
-use Rattle.basics.proofs.Booleans.{either, clash, and-l, and-r, and-make, true-not, eqb-eq, eqb-self, ltb-ge}
+use Rattle.basics.proofs.Booleans.{clash, and-l, and-r, and-make, true-not, lt-ltb, ltb-lt, below-or}
 use Rattle.basics.proofs.Bounded.{each-all}
-use Rattle.basics.proofs.Counting.{count-two}
+use Rattle.basics.proofs.Counting.{count-two, count-pair}
 use Rattle.automata.specs.Automaton.{Automaton, Closed}
 use Rattle.sets.specs.Sets.{has, size}
 use Rattle.sets.proofs.Members.{set-of-test, set-of-lt, has-and}
 use Rattle.ncsb.specs.Moves.{Spread, Split}
+use Rattle.patterns.specs.Forks.{Two-targets}
 use Rattle.patterns.specs.Pattern.{targets-of, initial-states, accepting-states, inner-of, marks-of, forks, semi-deterministic, moves}
 use Rattle.patterns.proofs.Inner.{accepting-has, has-accepting, accepting-lt, inner-accepting, inner-closed}
+
+-- a semi-deterministic automaton forks nowhere
+pub even-forks :
+    (a : Automaton) → semi-deterministic a ≡ true → (q c : ℕ) → q < a .states → c < a .letters → forks a q c ≡ false
+unfolding semi-deterministic
+even-forks a e q c l m =
+    let row = each-all (a .states) (λ q. each (a .letters) (λ c. not (forks a q c))) e q l in
+    true-not (forks a q c) (each-all (a .letters) (λ c. not (forks a q c)) row c m)
 
 module _ (a : Automaton) (closed : Closed a) where
   -- the targets of a state on a letter are where its edges on that letter lead
@@ -44,27 +53,46 @@ module _ (a : Automaton) (closed : Closed a) where
             let l = and-le-l (accepting-states a) (inner-of a) in let m = accepting-lt a in omega arith;
       }
 
+  -- a state has two targets on a letter
+  pub two-right : (q c : ℕ) → (ltb 1 (size (a .states) (targets-of a q c)) ≡ true) ↔ Two-targets a q c
+  unfolding size
+  two-right q c = (
+    (λ h.
+        let (i, j, l, m, e, g) =
+        count-pair (a .states) (has (targets-of a q c)) (ltb-lt 1 (size (a .states) (targets-of a q c)) h) in
+        record {
+          one = i;
+          other = j;
+          apart = omega arith;
+          to-one = sym (has-targets q c i) ∙ e;
+          to-other = sym (has-targets q c j) ∙ g;
+        }),
+    (λ two.
+        lt-ltb
+        (count-two (a .states) (has (targets-of a q c)) (two .one) (two .other)
+        (closed .edge q c (two .one) (two .to-one) .2) (closed .edge q c (two .other) (two .to-other) .2)
+        (λ same. let l = two .apart in omega arith) (has-targets q c (two .one) ∙ two .to-one)
+        (has-targets q c (two .other) ∙ two .to-other))),
+  )
+
   -- a state of Q2 that does not fork has at most one target
+  no-two : semi-deterministic a ≡ true → (p c : ℕ) → has (inner-of a) p ≡ true → Two-targets a p c → ⊥
+  unfolding forks
+  no-two even p c h two =
+      let ends = closed .edge p c (two .one) (two .to-one) in
+      clash (and-make h (two-right p c .1 two)) (even-forks a even p c (ends .0) (ends .1))
+
   inner-single :
       semi-deterministic a ≡ true → (p c q r : ℕ) → has (inner-of a) p ≡ true → a .edge p c q ≡ true →
       a .edge p c r ≡ true → q ≡ r
-  unfolding semi-deterministic forks size
   inner-single even p c q r h e f =
-      let ends = closed .edge p c q e in
-      let ends′ = closed .edge p c r f in
-      let row = each-all (a .states) (λ q. each (a .letters) (λ c. not (forks a q c))) even p (ends .0) in
-      let no = true-not (forks a p c) (each-all (a .letters) (λ c. not (forks a p c)) row c (ends .1)) in
-      let few : ltb 1 (size (a .states) (targets-of a p c)) ≡ false =
-      sym (ap (λ (b : Bool). b && ltb 1 (size (a .states) (targets-of a p c))) h) ∙ no in
-      elim (either (eqb q r)) [
-        | inl s ↦ eqb-eq q r s
-        | inr s ↦
-            let most = ltb-ge 1 (size (a .states) (targets-of a p c)) few in
-            let two =
-            count-two (a .states) (has (targets-of a p c)) q r (ends .2) (ends′ .2)
-            (λ same. clash (ap (λ (x : ℕ). eqb q x) (sym same) ∙ eqb-self q) s) (has-targets p c q ∙ e)
-            (has-targets p c r ∙ f) in
-            absurd (omega arith)
+      elim (below-or q r) [
+        | inl l ↦ absurd (no-two even p c h (record { one = q; other = r; apart = l; to-one = e; to-other = f }))
+        | inr l ↦
+            elim (below-or r q) [
+              | inl m ↦ absurd (no-two even p c h (record { one = r; other = q; apart = m; to-one = f; to-other = e }))
+              | inr m ↦ omega arith
+            ]
       ]
 
   -- Q2 of a semi-deterministic automaton meets the laws of the deterministic part: closed under edges, single targets, and

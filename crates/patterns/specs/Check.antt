@@ -22,14 +22,16 @@ use Rattle.patterns.specs.declared.Shape.{Shape}
 unfoldable pub check-refusal : List ℕ → ℕ
 check-refusal t = or-else (table-refusal pattern-range t) (cond (semi-deterministic (meaning t)) 0 10)
 
--- THE PLACE of a refusal: where the pattern forks with 10, and zero and zero with every other
+-- no place: zero and zero
 abbrev pub no-place : Place
 no-place = record { state = 0; letter = 0 }
 
+-- the place of a fork, or none
 unfoldable pub place-of : Fork → Place
 place-of Nowhere = no-place
 place-of (At p) = p
 
+-- THE PLACE in the check's answer: with 10 where the pattern forks, and with every other number none
 unfoldable pub check-place : List ℕ → Place
 check-place t = cond (eqb (check-refusal t) 10) (place-of (fork-place (meaning t))) no-place
 
@@ -38,6 +40,7 @@ unfoldable pub as-checked : (number : ℕ) → Place → Checked
 as-checked zero p = Passed
 as-checked (suc r) p = Refused (suc r) p
 
+-- what the check answers
 unfoldable pub checked : List ℕ → Checked
 checked t = as-checked (check-refusal t) (check-place t)
 
@@ -46,6 +49,7 @@ unfoldable pub as-reading : (number : ℕ) → Place → Shape → PatternReadin
 as-reading zero p s = read.Pattern s
 as-reading (suc r) p s = read.Refused (suc r) p
 
+-- what a reading answers
 unfoldable pub reading : List ℕ → PatternReading
 reading t = as-reading (check-refusal t) (check-place t) (shape-of (moves (meaning t)))
 

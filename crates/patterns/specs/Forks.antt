@@ -14,13 +14,13 @@ use Rattle.patterns.specs.declared.Place.{Place}
 
 -- the smallest state that has a letter of which a test holds, and the smallest such letter
 unfoldable pub smallest-pair : (states letters : ℕ) → (test : (state letter : ℕ) → Bool) → Place
-smallest-pair n k f = let q = least n (λ q. any k (f q)) in record { state = q; letter = least k (f q) }
+smallest-pair n k f = let q = least n (λ s. any k (f s)) in record { state = q; letter = least k (f q) }
 
 -- that pair, where there is one
 unfoldable pub first-pair : (states letters : ℕ) → (test : (state letter : ℕ) → Bool) → Fork
-first-pair n k f = cond (any n (λ q. any k (f q))) (At (smallest-pair n k f)) Nowhere
+first-pair n k f = cond (any n (λ s. any k (f s))) (At (smallest-pair n k f)) Nowhere
 
--- THE PLACE where an automaton forks: of all its states and letters
+-- THE PLACE where an automaton forks: the first pair of its states and letters that does
 unfoldable pub fork-place : Automaton → Fork
 fork-place a = first-pair (a .states) (a .letters) (forks a)
 
@@ -32,12 +32,12 @@ pub record Two-targets (a : Automaton) (state letter : ℕ) : Type 0 where
   pub to-one : a .edge state letter one ≡ true
   pub to-other : a .edge state letter other ≡ true
 
--- and that state is in Q2
+-- a state of Q2 forks on a letter: it has two targets there
 pub record Forks (a : Automaton) (state letter : ℕ) : Type 0 where
   pub inner : From-accepting a state
   pub targets : Two-targets a state letter
 
--- somewhere
+-- some state forks on some letter
 abbrev pub Some-fork : Automaton → Type 0
 Some-fork a = (state : ℕ) × (letter : ℕ) × Forks a state letter
 

@@ -1,4 +1,4 @@
--- What the step reads of a pattern beside its masks, and the test for semi-determinism over both. Assumes nothing: these are definitions.
+-- What the step reads of a pattern beside its masks, and where a pattern forks, over both. Assumes nothing: these are definitions.
 use mathlib.Core.Path.{_≡_}
 use mathlib.Core.Bool.{Bool, _&&_}
 use mathlib.Core.List.{List, []}
@@ -28,8 +28,8 @@ unfoldable pub mask-forks : (masks : List (List ℕ)) → (inner state letter : 
 mask-forks m i q c = has i q && two-targets (getD (getD m q []) c 0)
 
 -- where the pattern of these masks forks first
-unfoldable pub masks-fork : (masks : List (List ℕ)) → Shape → Fork
-masks-fork m s = first-pair (s .states) (s .letters) (mask-forks m (s .inner))
+unfoldable pub masks-place : (masks : List (List ℕ)) → Shape → Fork
+masks-place m s = first-pair (s .states) (s .letters) (mask-forks m (s .inner))
 
 -- what is read off a pattern: it is one, and the masks are its own
 pub record Shape-asks (table : List ℕ) (masks : List (List ℕ)) : Type 0 where

@@ -19,7 +19,7 @@ ghost use Rattle.tables.specs.Table.{pattern-range, table-refusal, meaning};
 ghost use Rattle.patterns.specs.Check.{checked, reading, masks-read};
 ghost use Rattle.patterns.specs.Masks.{row-of, masks-of, joined, joined-in, Row-asks};
 ghost use Rattle.patterns.specs.Pattern.{initial-states, accepting-states, moves};
-ghost use Rattle.patterns.specs.Shape.{shape-of, two-targets, masks-fork, Shape-asks, Small-shape};
+ghost use Rattle.patterns.specs.Shape.{shape-of, two-targets, masks-place, Shape-asks, Small-shape};
 
 // A place in a pattern: a state and a letter together.
 #[repr(C)]
@@ -184,7 +184,7 @@ fn two_targets(set: u32) -> bool
 // ends at the first such pair.
 fn first_fork(masks: &TargetSets, shape: Shape) -> Fork
     requires { ⌜ Small-shape shape ⌝ }
-    ensures { λ r. ⌜ r ≡ masks-fork (now (masks .entry)) shape ⌝ }
+    ensures { λ r. ⌜ r ≡ masks-place (now (masks .entry)) shape ⌝ }
 {
     let states = shape.states as u32;
     let letters = shape.letters as u32;

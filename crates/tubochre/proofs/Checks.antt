@@ -10,10 +10,10 @@ use Rattle.tables.proofs.Laws.{valid, meaning-closed}
 use Rattle.patterns.specs.Check.{check-refusal, no-place, check-place, as-checked, checked}
 use Rattle.patterns.specs.Forks.{Some-fork, Forks-first}
 use Rattle.patterns.specs.declared.Place.{Place}
-use Rattle.patterns.proofs.Answers.{Check-case, by-table, by-fork, by-none, check-cases, check-most, no-fork-place, fork-place-kept}
+use Rattle.patterns.proofs.Answers.{Check-case, by-table, by-fork, by-none, check-cases, check-most, no-fork-place, passed-no-place, fork-place-kept}
 use Rattle.patterns.proofs.Places.{uneven-place, place-right, even-right, uneven-right}
 use Rattle.tubochre.specs.Calls.{as-check-answer}
-use Rattle.tubochre.specs.Demand.{Placed-exactly, Checked-exactly, Check-demand}
+use Rattle.tubochre.specs.Demand.{Placed-exactly, Check-demand}
 use Rattle.tubochre.specs.declared.CheckAnswer.{CheckAnswer}
 
 -- EACH NUMBER IN ITS CASE
@@ -72,7 +72,7 @@ check-demand t r e =
     let number = ap (λ (x : CheckAnswer). x .number) e ∙ answer-number (check-refusal t) (check-place t) in
     let place =
     ap (λ (x : CheckAnswer). x .place) e
-    ∙ answer-place (check-refusal t) (check-place t) (λ none. no-fork-place t (λ ten. omega arith)) in
+    ∙ answer-place (check-refusal t) (check-place t) (passed-no-place t) in
     let case = check-cases t in
     record {
       table = rw number (by-its-table t case);

@@ -1,5 +1,5 @@
--- The second and the third demand are met, and refused builds are as they are stated, whatever the calls answer: for tables of every range
--- whose numbers fit their words and that allows what a pattern may have. Assumes nothing.
+-- The demands are met, whatever the calls answer: what the check and the build refuse, and the second and the third demand, for tables of
+-- every range whose numbers fit their words and that allows what a pattern may have. Assumes nothing.
 use mathlib.Core.Path.{_≡_, refl, _∙_, ap}
 use mathlib.Core.List.{List}
 use mathlib.Core.Logic.{_⊎_, inl, inr}
@@ -178,7 +178,7 @@ module _
 -- single accepting run; the decision says which; and the states are at most 2^p·3^a·4^r
 pub third-demand : (range : Limits) → Wider pattern-range range → Third-demand range
 unfolding Third-demand
-third-demand range wider t check r before after u v answer passes says accepted lasso =
+third-demand range wider t answer r before after u v checks passes says accepted lasso =
     compared-as wider t (build-passed says accepted) (build-fits says accepted) u v lasso (build-used says accepted)
     (build-states says accepted)
 

@@ -1,5 +1,6 @@
--- The second and the third demand, as statements over what the check, the build and the lasso decision answer and leave
--- (docs/RULES.md, "Numbering and result" and "Runs, and what the third demand compares"), for tables of any range in words of any bits.
+-- What the check and the build refuse, and the second and the third demand, as statements over what the check, the build and the lasso
+-- decision answer and leave (docs/RULES.md, "Refusals", "Numbering and result" and "Runs, and what the third demand compares"): of patterns,
+-- and of tables of any range in words of any bits.
 -- Assumes nothing: these are definitions.
 use mathlib.Core.Path.{_≡_}
 use mathlib.Core.Bool.{true}
@@ -110,7 +111,7 @@ pub record Refused-exactly (range : Limits) (t : List ℕ) (room : Room) (number
   -- nothing is refused where all fits, and no other number is answered
   pub none : (number ≡ 0) ↔ ((check-refusal t ≡ 0) × (Too-many-states range t room → ⊥) × (Too-many-words range t room → ⊥))
   pub no-other : number ≤ 12
-  -- 10 comes with the check's place
+  -- with 10 it is where the pattern forks first, and with every other number zero and zero
   pub place : Placed-exactly t number at
   -- what is counted is the whole reachable complement
   pub reached : check-refusal t ≡ 0 → Reached-exactly t
@@ -178,7 +179,9 @@ Third-demand range =
 
 -- ALL OF THEM, for tables of a range in words of so many bits
 pub record Demands (bits : ℕ) (range : Limits) : Type 0 where
+  -- of patterns alone
   pub check : Check-demand
+  -- of tables of the range
   pub second : Second-demand bits range
   pub refused : Refused-builds range
   pub lassos : Lasso-demand range

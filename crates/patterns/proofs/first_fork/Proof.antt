@@ -9,7 +9,7 @@ use borrow.Author.Needs.{needs}
 use Rattle.basics.specs.Bounded.{any}
 use Rattle.basics.proofs.Scans.{Scan, scan-start, scan-more, scan-none}
 use Rattle.sets.specs.Sets.{set-states, row-letters}
-use Rattle.patterns.specs.Shape.{mask-forks, masks-fork}
+use Rattle.patterns.specs.Shape.{mask-forks, masks-place}
 use Rattle.patterns.proofs.Forks.{outer-even, inner-forks}
 use Rattle.patterns.proofs.Pairs.{row, search-found, search-ended}
 use Rattle.patterns.proofs.first_fork.Statement.{statement}
@@ -27,57 +27,59 @@ Inv-search masks states letters inner state₀ state = Scan false (row states le
 abbrev μ-search : tie.MeasureT-search
 μ-search masks states letters inner state₀ state = states - state
 
--- at the head of a turn, where some states are left, the state is one of them
-module _ (c : tie.Else1 Inv-loop μ-loop Inv-search μ-search) where
+-- in a turn of the states, the state is one of them
+module _ (some-left : tie.Else1 Inv-loop μ-loop Inv-search μ-search) where
   abbrev begun : tie.Start Inv-loop μ-loop Inv-search μ-search
   begun = search
 
   abbrev at-state : tie.At-search Inv-loop μ-loop Inv-search μ-search
   at-state = search
 
-  left : at-state .search .state < begun .args .shape .states
-  left = let l = at-state .search .inv .upto in let ne = c .if1 .left in omega arith
+  inside : at-state .search .state < begun .args .shape .states
+  inside = let l = at-state .search .inv .upto in let ne = some-left .if1 .left in omega arith
 
   small : at-state .search .state < set-states
-  small = let l = left in let m = begun .pre .states in omega arith
+  small = let l = inside in let m = begun .pre .states in omega arith
 
 -- in a turn of the letters, the letter is one of the row's
-module _ (c : tie.In-loop Inv-loop μ-loop Inv-search μ-search) where
-  abbrev start : tie.Start Inv-loop μ-loop Inv-search μ-search
-  start = search
+module _ (turn : tie.In-loop Inv-loop μ-loop Inv-search μ-search) where
+  abbrev of-letter : tie.Else1 Inv-loop μ-loop Inv-search μ-search
+  of-letter = search
 
   abbrev at-letter : tie.At-loop Inv-loop μ-loop Inv-search μ-search
   at-letter = search
 
   few : at-letter .loop .letter < row-letters
-  few = let l = c .loop-test .taken in let m = start .pre .letters in omega arith
+  few = let l = turn .loop-test .taken in let m = begun of-letter .pre .letters in omega arith
 
 -- whether the state forks on the letter is whether its targets are two
-module _ (c : tie.After-two-targets Inv-loop μ-loop Inv-search μ-search) where
-  abbrev inside : tie.Then2 Inv-loop μ-loop Inv-search μ-search
-  inside = search
+module _ (tested : tie.After-two-targets Inv-loop μ-loop Inv-search μ-search) where
+  abbrev in-Q2 : tie.Then2 Inv-loop μ-loop Inv-search μ-search
+  in-Q2 = search
 
   abbrev turn : tie.In-loop Inv-loop μ-loop Inv-search μ-search
   turn = search
 
-  abbrev counted : tie.Else1 Inv-loop μ-loop Inv-search μ-search
-  counted = search
+  abbrev of-state : tie.Else1 Inv-loop μ-loop Inv-search μ-search
+  of-state = search
 
   forks-here :
-      {b : Bool} → c .two-targets .result ≡ b →
-      mask-forks (start turn .args .masks .now) (start turn .args .shape .inner) (at-state counted .search .state) (at-letter turn .loop .letter) ≡ b
-  forks-here e = inner-forks _ _ _ _ (inside .if2 .taken) (c .two-targets .ensures) e
+      {b : Bool} → tested .two-targets .result ≡ b →
+      mask-forks (begun of-state .args .masks .now) (begun of-state .args .shape .inner) (at-state of-state .search .state)
+      (at-letter turn .loop .letter)
+      ≡ b
+  forks-here e = inner-forks _ _ _ _ (in-Q2 .if2 .taken) (tested .two-targets .ensures) e
 
--- a state forks on no letter once it is passed
-module _ (c : tie.Joined2 Inv-loop μ-loop Inv-search μ-search) where
-  abbrev passing : tie.Else1 Inv-loop μ-loop Inv-search μ-search
-  passing = search
+-- a state that is passed forks on no letter
+module _ (passed : tie.Joined2 Inv-loop μ-loop Inv-search μ-search) where
+  abbrev of-passed : tie.Else1 Inv-loop μ-loop Inv-search μ-search
+  of-passed = search
 
   even :
-      any (begun passing .args .shape .letters)
-      (mask-forks (begun passing .args .masks .now) (begun passing .args .shape .inner) (at-state passing .search .state))
+      any (begun of-passed .args .shape .letters)
+      (mask-forks (begun of-passed .args .masks .now) (begun of-passed .args .shape .inner) (at-state of-passed .search .state))
       ≡ false
-  even = elim (c .if2 .came) [ inl w ↦ scan-none (w .1 .inv) (w .2 .left) | inr w ↦ outer-even _ _ _ _ (w .left) ]
+  even = elim (passed .if2 .came) [ inl w ↦ scan-none (w .1 .inv) (w .2 .left) | inr w ↦ outer-even _ _ _ _ (w .left) ]
 
 -- THE NEEDS
 cast-states : tie.Need-cast-states Inv-loop μ-loop Inv-search μ-search
@@ -102,13 +104,13 @@ cast-two-targets-2 : tie.Need-cast-two-targets-2 Inv-loop μ-loop Inv-search μ-
 cast-two-targets-2 c = search needs
 
 mul-two-targets : tie.Need-mul-two-targets Inv-loop μ-loop Inv-search μ-search
-mul-two-targets c = let at : tie.Else1 Inv-loop μ-loop Inv-search μ-search = search in let l = small at in omega arith
+mul-two-targets c = let l = small (of-letter c) in omega arith
 
 mul-two-targets-2 : tie.Need-mul-two-targets-2 Inv-loop μ-loop Inv-search μ-search
 mul-two-targets-2 c = let l = few c in omega arith
 
 index-1-two-targets : tie.Need-index-1-two-targets Inv-loop μ-loop Inv-search μ-search
-index-1-two-targets c = let at : tie.Else1 Inv-loop μ-loop Inv-search μ-search = search in small at
+index-1-two-targets c = small (of-letter c)
 
 index-2-two-targets : tie.Need-index-2-two-targets Inv-loop μ-loop Inv-search μ-search
 index-2-two-targets c = few c
@@ -117,7 +119,7 @@ two-targets-requires : tie.Need-two-targets-requires Inv-loop μ-loop Inv-search
 two-targets-requires c κs = tt
 
 add-letter : tie.Need-add-letter Inv-loop μ-loop Inv-search μ-search
-add-letter c = let at : tie.In-loop Inv-loop μ-loop Inv-search μ-search = search in let l = few at in omega arith
+add-letter c = let turn : tie.In-loop Inv-loop μ-loop Inv-search μ-search = search in let l = few turn in omega arith
 
 loop-less : tie.Need-loop-less Inv-loop μ-loop Inv-search μ-search
 loop-less c = omega arith
@@ -125,37 +127,37 @@ loop-less c = omega arith
 loop-again : tie.Need-loop-again Inv-loop μ-loop Inv-search μ-search
 loop-again c =
     let tested : tie.After-two-targets Inv-loop μ-loop Inv-search μ-search = search in
-    let at : tie.In-loop Inv-loop μ-loop Inv-search μ-search = search in
-    let looped : tie.At-loop Inv-loop μ-loop Inv-search μ-search = search in
-    scan-more (looped .loop .inv) (at .loop-test .taken) (forks-here tested (c .if3 .left))
+    let turn : tie.In-loop Inv-loop μ-loop Inv-search μ-search = search in
+    let at-letter : tie.At-loop Inv-loop μ-loop Inv-search μ-search = search in
+    scan-more (at-letter .loop .inv) (turn .loop-test .taken) (forks-here tested (c .if3 .left))
 
 add-state : tie.Need-add-state Inv-loop μ-loop Inv-search μ-search
-add-state c = let at : tie.Else1 Inv-loop μ-loop Inv-search μ-search = search in let l = small at in omega arith
+add-state c = let l = small (of-passed c) in omega arith
 
 search-less : tie.Need-search-less Inv-loop μ-loop Inv-search μ-search
-search-less c = let at : tie.Else1 Inv-loop μ-loop Inv-search μ-search = search in let l = left at in omega arith
+search-less c = let l = inside (of-passed c) in omega arith
 
 search-again : tie.Need-search-again Inv-loop μ-loop Inv-search μ-search
 search-again c =
-    let at : tie.Else1 Inv-loop μ-loop Inv-search μ-search = search in
-    let searched : tie.At-search Inv-loop μ-loop Inv-search μ-search = search in
-    scan-more (searched .search .inv) (left at) (even c)
+    let at-state : tie.At-search Inv-loop μ-loop Inv-search μ-search = search in
+    scan-more (at-state .search .inv) (inside (of-passed c)) (even c)
 
 returns : tie.Need-returns Inv-loop μ-loop Inv-search μ-search
-unfolding masks-fork
+unfolding masks-place
 returns c =
-    let searched : tie.At-search Inv-loop μ-loop Inv-search μ-search = search in
-    let all = c .if1 .taken in search-ended _ _ _ _ (omega arith) (searched .search .inv)
+    let at-state : tie.At-search Inv-loop μ-loop Inv-search μ-search = search in
+    let all = c .if1 .taken in search-ended _ _ _ _ (omega arith) (at-state .search .inv)
 
 returns-2 : tie.Need-returns-2 Inv-loop μ-loop Inv-search μ-search
-unfolding masks-fork
+unfolding masks-place
 returns-2 c =
     let tested : tie.After-two-targets Inv-loop μ-loop Inv-search μ-search = search in
-    let at : tie.In-loop Inv-loop μ-loop Inv-search μ-search = search in
-    let looped : tie.At-loop Inv-loop μ-loop Inv-search μ-search = search in
-    let of : tie.Else1 Inv-loop μ-loop Inv-search μ-search = search in
-    let searched : tie.At-search Inv-loop μ-loop Inv-search μ-search = search in
-    search-found _ _ _ _ _ (left of) (at .loop-test .taken) (searched .search .inv) (looped .loop .inv) (forks-here tested (c .if3 .taken))
+    let turn : tie.In-loop Inv-loop μ-loop Inv-search μ-search = search in
+    let at-letter : tie.At-loop Inv-loop μ-loop Inv-search μ-search = search in
+    let some-left : tie.Else1 Inv-loop μ-loop Inv-search μ-search = search in
+    let at-state : tie.At-search Inv-loop μ-loop Inv-search μ-search = search in
+    search-found _ _ _ _ _ (inside some-left) (turn .loop-test .taken) (at-state .search .inv) (at-letter .loop .inv)
+    (forks-here tested (c .if3 .taken))
 
 pub first-fork-spec : {M : Type 1} → statement M
 first-fork-spec =
