@@ -142,95 +142,52 @@ module _ (t : List ℕ) (number : ℕ) (told : number ≡ table-refusal pattern-
       unfolding reading as-reading
       even-passed e = rw (even-none t (table-passed none) (nowhere-right (meaning t) .0 (placed ∙ e)), shaped)
 
--- WHAT A READING SAYS
-number-in : PatternReading → ℕ
-number-in (read.Refused r p) = r
-number-in (read.Pattern shape) = 0
+-- WHAT A READING SAYS, of the number, the place and the shape that it is made of
+Says : PatternReading → (number : ℕ) → Place → Shape → Type 0
+Says (read.Refused r q) n p s = (r ≡ n) × (q ≡ p) × (n ≡ 0 → ⊥) × (Refused r q ≡ as-checked n p)
+Says (read.Pattern shape) n p s = (0 ≡ n) × (shape ≡ s) × (Passed ≡ as-checked n p)
 
-place-in : PatternReading → (other : Place) → Place
-place-in (read.Refused r p) other = p
-place-in (read.Pattern shape) other = other
-
-refusals-in : PatternReading → ℕ
-refusals-in (read.Refused r p) = 1
-refusals-in (read.Pattern shape) = 0
-
-shape-in : PatternReading → (other : Shape) → Shape
-shape-in (read.Refused r p) other = other
-shape-in (read.Pattern shape) other = shape
-
-checked-in : PatternReading → Checked
-checked-in (read.Refused r p) = Refused r p
-checked-in (read.Pattern shape) = Passed
-
-as-numbered : (number : ℕ) (p : Place) (shape : Shape) → number-in (as-reading number p shape) ≡ number
-unfolding as-reading number-in
-as-numbered zero p shape = refl
-as-numbered (suc r) p shape = refl
-
-as-placed : (number : ℕ) (p : Place) (shape : Shape) → place-in (as-reading number p shape) p ≡ p
-unfolding as-reading place-in
-as-placed zero p shape = refl
-as-placed (suc r) p shape = refl
-
-as-met : (told number : ℕ) (p q : Place) (shape : Shape) → read.Refused number q ≡ as-reading told p shape → told ≡ 0 → ⊥
-unfolding as-reading refusals-in
-as-met zero number p q shape e none = let z : _≡_ {A = ℕ} 1 0 = ap refusals-in e in omega arith
-as-met (suc r) number p q shape e none = omega arith
-
-as-shaped : (number : ℕ) (p : Place) (shape : Shape) → number ≡ 0 → shape-in (as-reading number p shape) shape ≡ shape
-unfolding as-reading shape-in
-as-shaped zero p shape none = refl
-as-shaped (suc r) p shape none = absurd (omega arith)
-
-as-in : (number : ℕ) (p : Place) (shape : Shape) → checked-in (as-reading number p shape) ≡ as-checked number p
-unfolding as-reading checked-in as-checked
-as-in zero p shape = refl
-as-in (suc r) p shape = refl
+says : (n : ℕ) (p : Place) (s : Shape) → Says (as-reading n p s) n p s
+unfolding Says as-reading as-checked
+says zero p s = (refl, refl, refl)
+says (suc r) p s = (refl, refl, (λ none. omega arith), refl)
 
 module _ (t : List ℕ) where
-  -- the check's answer
-  reading-in : checked-in (reading t) ≡ checked t
-  unfolding reading checked
-  reading-in = as-in (check-refusal t) (check-place t) (shape-of (moves (meaning t)))
+  reading-says : (r : PatternReading) → r ≡ reading t → Says r (check-refusal t) (check-place t) (shape-of (moves (meaning t)))
+  unfolding reading
+  reading-says r told = rw told (says (check-refusal t) (check-place t) (shape-of (moves (meaning t))))
 
-  -- a refusal: its number and its place are the check's
+  -- a refusal: its number and its place are the check's, and the number is no zero
   module _ (number : ℕ) (p : Place) (told : read.Refused number p ≡ reading t) where
-    pub answer-refused : Refused number p ≡ checked t
-    unfolding checked-in
-    answer-refused = ap checked-in told ∙ reading-in
-
     pub reading-refused : number ≡ check-refusal t
-    unfolding reading number-in
-    reading-refused = ap number-in told ∙ as-numbered (check-refusal t) (check-place t) (shape-of (moves (meaning t)))
+    unfolding Says
+    reading-refused = reading-says (read.Refused number p) told .0
 
     pub reading-place : p ≡ check-place t
-    unfolding reading place-in
-    reading-place =
-        ap (λ (r : PatternReading). place-in r (check-place t)) told
-        ∙ as-placed (check-refusal t) (check-place t) (shape-of (moves (meaning t)))
+    unfolding Says
+    reading-place = reading-says (read.Refused number p) told .1
 
-    -- and the number is no zero
     pub reading-met : number ≡ 0 → ⊥
-    unfolding reading
-    reading-met none =
-        as-met (check-refusal t) number (check-place t) p (shape-of (moves (meaning t))) told (sym reading-refused ∙ none)
+    unfolding Says
+    reading-met none = reading-says (read.Refused number p) told .2 (sym reading-refused ∙ none)
+
+    pub answer-refused : Refused number p ≡ checked t
+    unfolding Says checked
+    answer-refused = reading-says (read.Refused number p) told .3
 
   -- where it gives a shape the check passes, the shape is the pattern's, and so are the masks
   module _ (shape : Shape) (told : read.Pattern shape ≡ reading t) where
-    pub answer-passed : Passed ≡ checked t
-    unfolding checked-in
-    answer-passed = ap checked-in told ∙ reading-in
-
     pub reading-passed : 0 ≡ check-refusal t
-    unfolding reading number-in
-    reading-passed = ap number-in told ∙ as-numbered (check-refusal t) (check-place t) (shape-of (moves (meaning t)))
+    unfolding Says
+    reading-passed = reading-says (read.Pattern shape) told .0
 
     pub reading-shape : shape ≡ shape-of (moves (meaning t))
-    unfolding reading shape-in
-    reading-shape =
-        ap (λ (r : PatternReading). shape-in r (shape-of (moves (meaning t)))) told
-        ∙ as-shaped (check-refusal t) (check-place t) (shape-of (moves (meaning t))) (sym reading-passed)
+    unfolding Says
+    reading-shape = reading-says (read.Pattern shape) told .1
+
+    pub answer-passed : Passed ≡ checked t
+    unfolding Says checked
+    answer-passed = reading-says (read.Pattern shape) told .2
 
     pub reading-masks :
         (before masks : List (List ℕ)) → masks ≡ masks-read t before → masks ≡ masks-of (moves (meaning t))

@@ -37,6 +37,7 @@ place-same : {p q : Place} → p .state ≡ q .state → p .letter ≡ q .letter
 place-same {p} {q} e g =
     ap (λ (x : ℕ). record { state = x; letter = p .letter }) e ∙ ap (λ (y : ℕ). record { state = q .state; letter = y }) g
 
+-- a fork is at a place or nowhere
 pub at-or-nowhere : (f : Fork) → ((p : Place) × (f ≡ At p)) ⊎ (f ≡ Nowhere)
 at-or-nowhere Nowhere = inr refl
 at-or-nowhere (At p) = inl (p, refl)

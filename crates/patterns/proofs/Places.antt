@@ -19,7 +19,7 @@ use Rattle.patterns.proofs.Pairs.{at-nowhere, at-or-nowhere, first-is, 
 use Rattle.patterns.proofs.Split.{even-forks, two-right}
 
 module _ (a : Automaton) where
-  -- and where none does, it is semi-deterministic
+  -- where no state forks on any letter it is semi-deterministic
   forks-even : ((q c : ℕ) → q < a .states → c < a .letters → forks a q c ≡ false) → semi-deterministic a ≡ true
   unfolding semi-deterministic
   forks-even none =
