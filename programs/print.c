@@ -53,19 +53,31 @@ static struct edge *sorted_edges(const uint16_t *words)
     return all;
 }
 
-/* An arrow for each pair of states that an edge joins, with all letters on it, each once. */
-static void print_arrows(const uint16_t *words)
+static int same_ends(const struct edge *a, const struct edge *b)
+{
+    return a->source == b->source && a->target == b->target;
+}
+
+/* An arrow for each pair of states that an edge joins, with all letters on it, each once. Those of a fork are red; NULL
+ * where there is none. */
+static void print_arrows(const uint16_t *words, const struct tubochre_place *fork)
 {
     struct edge *const all = sorted_edges(words);
-    size_t i, records = words[2];
+    const size_t records = words[2];
+    size_t i;
+    int red = 0;
     for (i = 0; i < records; i++) {
-        const int same_ends = i > 0 && all[i - 1].source == all[i].source && all[i - 1].target == all[i].target;
-        if (!same_ends)
-            printf("%s    s%u -> s%u [label=\"%u", i > 0 ? "\"];\n" : "", all[i].source, all[i].target, all[i].letter);
-        else if (all[i - 1].letter != all[i].letter)
-            printf(",%u", all[i].letter);
+        const struct edge *const e = &all[i];
+        if (i == 0 || !same_ends(e - 1, e))
+            printf("    s%u -> s%u [label=\"%u", e->source, e->target, e->letter);
+        else if (e[-1].letter != e->letter)
+            printf(",%u", e->letter);
+        red = red || (fork != NULL && e->source == fork->state && e->letter == fork->letter);
+        if (i + 1 == records || !same_ends(e, e + 1)) {
+            puts(red ? "\", color=red];" : "\"];");
+            red = 0;
+        }
     }
-    fputs(records > 0 ? "\"];\n" : "", stdout);
     free(all);
 }
 
@@ -107,11 +119,11 @@ static void print_nodes(const uint16_t *words, const uint32_t *sets)
     }
 }
 
-void print_pattern_graph(const uint16_t *words)
+void print_pattern_graph(const uint16_t *words, const struct tubochre_place *fork)
 {
     puts("digraph pattern {\n    rankdir=LR;\n    node [shape=circle];");
     print_nodes(words, NULL);
-    print_arrows(words);
+    print_arrows(words, fork);
     puts("}");
 }
 
@@ -120,6 +132,6 @@ void print_complement_graph(const struct complement *c)
     puts("digraph complement {\n    rankdir=LR;\n    node [shape=ellipse];");
     puts("    label=\"below each number its sets N C S B\";");
     print_nodes(c->words, c->sets);
-    print_arrows(c->words);
+    print_arrows(c->words, NULL);
     puts("}");
 }

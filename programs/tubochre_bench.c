@@ -196,12 +196,12 @@ static int complement_refused(FILE *out, uint32_t number)
 
 /* ---- Graphs. */
 
-/* A pattern that forks can still be drawn: its table is sound. */
+/* A pattern that forks can still be drawn: its table is sound, and the drawing shows where. */
 static int draw_pattern(const struct words *w)
 {
     const struct tubochre_checked checked = tubochre_check(w->word, w->len);
     if (checked.number == TUBOCHRE_OK || checked.number == TUBOCHRE_FORK)
-        print_pattern_graph(w->word);
+        print_pattern_graph(w->word, checked.number == TUBOCHRE_FORK ? &checked.place : NULL);
     return checked.number == TUBOCHRE_OK ? FINE : pattern_refused(stderr, checked, w);
 }
 

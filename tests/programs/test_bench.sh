@@ -205,16 +205,22 @@ expect 'a place in a later line' 1 'pattern: refused (8) in line 4, column 3: re
     '' "$program" - <<<$'2 1 1\n0 1\n0 0\n0 7 0'
 expect 'a fork in a later line' 1 "pattern: refused (10) in line 5, column 3: $fork1" \
     '' "$program" - <<<$'2 1 2\n1 0\n2 1\n0 0 2\n0 1 0'
-expect 'a forking pattern is drawn all the same' 1 'digraph pattern {
+# State 1 forks on letter 1 and then on letter 2; state 0 forks too, and no accepting state reaches it.
+expect 'a forking pattern is drawn all the same, with the fork in red' 1 'digraph pattern {
     rankdir=LR;
     node [shape=circle];
     s0 [label="0"];
     i0 [shape=none, label=""];
     i0 -> s0;
     s1 [label="1", peripheries=2];
-    s1 -> s0 [label="0"];
-    s1 -> s1 [label="0"];
-}' "pattern: refused (10) in line 1, column 23: $fork1" "$program" --dot pattern - <<<'2 1 2 1 0 2 1 0 0 2 0 1 0'
+    s2 [label="2"];
+    s0 -> s0 [label="1"];
+    s0 -> s1 [label="1"];
+    s1 -> s1 [label="0,1,2", color=red];
+    s1 -> s2 [label="1,2", color=red];
+    s2 -> s1 [label="1"];
+}' "pattern: refused (10) in line 1, column 45: $(fork 1 1 1 4 2 5)" "$program" --dot pattern - \
+    <<<'3 3 8 1 1 2 3 0 8 1 0 2 1 1 0 0 1 4 1 1 5 1 2 6 2 1 7 2 2 0 1 1 0'
 expect 'its complement is not' 1 '' "pattern: refused (10) in line 1, column 23: $fork1" \
     "$program" --dot complement - <<<'2 1 2 1 0 2 1 0 0 2 0 1 0'
 expect 'a refused text is not drawn' 1 '' "pattern: refused (1) in line 1, column 1: 'x' is no digit, space or newline" \
