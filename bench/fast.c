@@ -346,8 +346,7 @@ struct fast_counts fast_build(const uint16_t *table, size_t len, uint16_t *words
                               size_t sets_len, enum fast_lookup lookup)
 {
     struct pattern p;
-    const struct fast_checked checked = read_pattern(table, len, &p);
-    struct fast_counts counts = {checked.number, 0, 0, checked.place};
+    struct fast_counts counts = {read_pattern(table, len, &p).number, 0, 0};
     struct build b = {&p, lookup, sets, 0, WIDE, NULL, 512, NULL, 0, 0};
     size_t used_words = 0, used_sets = 0;
     if (sets_len / SETS < b.most)

@@ -234,8 +234,8 @@ static int same_checked(struct fast_checked a, struct fast_checked b)
 
 static void check_row(const char *name, const struct drawn_table *t, struct fast_checked expected)
 {
-    const struct tubochre_checked l = tubochre_check(t->words, t->len);
-    const struct fast_checked by_library = {l.number, {l.place.state, l.place.letter}};
+    const struct tubochre_checked answered = tubochre_check(t->words, t->len);
+    const struct fast_checked by_library = {answered.number, {answered.place.state, answered.place.letter}};
     struct input in;
     struct times times;
     must(same_checked(by_library, expected), "a check by the library");

@@ -130,7 +130,7 @@ static unsigned record_on(const uint16_t *t, unsigned r, unsigned letter, unsign
     return r;
 }
 
-/* Of the targets at a place, two or more: the first in the state's chain, and the first that differs from it. */
+/* Names two targets of a fork: the first in the state's chain, and the first that differs from it. */
 static struct place fork_at(const uint16_t *t, struct tubochre_place at)
 {
     const unsigned state = at.state, letter = at.letter;

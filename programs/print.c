@@ -58,8 +58,8 @@ static int same_ends(const struct edge *a, const struct edge *b)
     return a->source == b->source && a->target == b->target;
 }
 
-/* An arrow for each pair of states that an edge joins, with all letters on it, each once. Those of a fork are red; NULL
- * where there is none. */
+/* An arrow for each pair of states that an edge joins, with all letters on it, each once. fork is where the table forks,
+ * or NULL: that state's arrows with that letter are red. */
 static void print_arrows(const uint16_t *words, const struct tubochre_place *fork)
 {
     struct edge *const all = sorted_edges(words);

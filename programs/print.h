@@ -8,8 +8,8 @@
 void print_states(const struct complement *c);
 
 /* A table that passes 2 to 9, or a complement, as a graph in DOT: accepting states have a double ring, an arrow from
- * nowhere marks initial ones, and all letters from one state to another stand on one arrow. Where the table forks, or
- * NULL: these arrows are red. */
+ * nowhere marks initial ones, and all letters from one state to another stand on one arrow. fork is where the
+ * table forks, or NULL where it does not: that state's arrows with that letter are red. */
 void print_pattern_graph(const uint16_t *words, const struct tubochre_place *fork);
 void print_complement_graph(const struct complement *c);
 

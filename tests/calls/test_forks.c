@@ -104,8 +104,8 @@ static void try_singles(void)
 
 /* ---- Every choice of places, and of accepting states. */
 
-/* Place i is letter i % 2 of state i / 2. */
-enum { PLACES = 6, MARKS = PLACES / 2 };
+/* Place i is letter i % 2 of state i / 2; state BEHIND is where forks lead. */
+enum { PLACES = 6, FORKING = PLACES / 2, BEHIND = FORKING };
 
 /* States 0 to 2 lead to themselves on both letters, and at the chosen places to state 3 too, which accepts and has no
  * edge. So those of them that are marked accepting are the only others in Q2. */
@@ -113,7 +113,7 @@ static void try_choice(unsigned forks, unsigned marks)
 {
     static struct drawn_table t;
     struct drawn_edge edge[2 * PLACES];
-    uint8_t flags[MARKS + 1] = {0, 0, 0, 2};
+    uint8_t flags[FORKING + 1] = {0, 0, 0, 2};
     struct tubochre_place first = {0, 0};
     uint32_t number = TUBOCHRE_OK, count = 0, i;
     char name[60];
@@ -121,23 +121,23 @@ static void try_choice(unsigned forks, unsigned marks)
         const uint16_t state = (uint16_t)(i / 2), letter = (uint16_t)(i % 2);
         edge[count++] = (struct drawn_edge){state, letter, state};
         if (forks >> i & 1)
-            edge[count++] = (struct drawn_edge){state, letter, MARKS};
+            edge[count++] = (struct drawn_edge){state, letter, BEHIND};
         if (number == TUBOCHRE_OK && forks >> i & 1 && marks >> state & 1) {
             number = TUBOCHRE_FORK;
             first = (struct tubochre_place){state, letter};
         }
     }
-    for (i = 0; i < MARKS; i++)
+    for (i = 0; i < FORKING; i++)
         flags[i] = marks >> i & 1 ? 2 : 0;
     snprintf(name, sizeof name, "forks %u, accepting states %u", forks, marks);
-    draw_from_edges(&t, MARKS + 1, 2, flags, edge, count);
+    draw_from_edges(&t, FORKING + 1, 2, flags, edge, count);
     try_pattern(name, &t, number, first);
 }
 
 static void try_choices(void)
 {
     unsigned forks, marks;
-    for (marks = 0; marks < 1U << MARKS; marks++)
+    for (marks = 0; marks < 1U << FORKING; marks++)
         for (forks = 0; forks < 1U << PLACES; forks++)
             try_choice(forks, marks);
 }

@@ -59,7 +59,7 @@ module _ (limits : Limits) (words records n m : ℕ) where
 -- WHICH REFUSAL
 module _ (limits : Limits) (t : List ℕ) (lends : Lent) where
   -- the check's own
-  pub check-refuses : {k : ℕ} → k ≡ check-refusal t → (k ≡ 0 → ⊥) → build-refusal limits t (room-of lends) ≡ k
+  check-refuses : {k : ℕ} → k ≡ check-refusal t → (k ≡ 0 → ⊥) → build-refusal limits t (room-of lends) ≡ k
   unfolding build-refusal or-else
   check-refuses {k} e ne = rw (← e, ne-eqb k 0 ne) refl
 
@@ -71,7 +71,7 @@ module _ (limits : Limits) (t : List ℕ) (lends : Lent) where
     room-only = rw passed refl
 
     -- 11
-    pub states-refuse :
+    states-refuse :
         {l : Lent} {p : Progress} → Ends (quadruples limits) (complement t) l p → p .full ≡ true → Same-sizes l lends →
         build-refusal limits t (room-of lends) ≡ 11
     unfolding capacity room-of
@@ -104,7 +104,7 @@ module _ (limits : Limits) (t : List ℕ) (lends : Lent) where
 
 -- WHAT IS SAID
 -- a refusal
-pub says-refused :
+says-refused :
     {limits : Limits} {t : List ℕ} {lends l after : Lent} {k : ℕ} {p : Place} {r : Counts} →
     build-refusal limits t (room-of lends) ≡ k → (k ≡ 0 → ⊥) → p ≡ check-place t →
     Refused-with k p r l after → Same-sizes l lends → Build-says limits t r lends after

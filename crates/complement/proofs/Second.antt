@@ -1,5 +1,6 @@
 -- The second demand: what is built of a pattern that passes the check is its reachable NCSB complement, exactly; its words are a table
--- that means it, of each range that it fits; and they are what an accepted build leaves. Assumes nothing.
+-- that means it, of each range that it fits; and they are what an accepted build leaves. Of any build, which number and place it answers.
+-- Assumes nothing.
 use mathlib.Core.Path.{_≡_, refl, sym, _∙_, ap}
 use mathlib.Core.List.{List}
 use Prim.Native.Nat.{ℕ, zero, suc, _*_, _≤_}
@@ -34,7 +35,7 @@ use Rattle.layout.proofs.Valid.{chained-valid}
 use Rattle.layout.proofs.Words.{chained-length}
 use Rattle.record_words.specs.Record.{record-words}
 use Rattle.record_words.proofs.Laws.{rows-long}
-use Rattle.complement.specs.Build.{Lent, room-of, room-refusal, build-refusal, as-counts, after-build, Build-says, used, used-sets}
+use Rattle.complement.specs.Build.{Lent, Room, room-of, room-refusal, build-refusal, as-counts, after-build, Build-says, used, used-sets}
 use Rattle.complement.specs.Complement.{system-of, complement, complement-automaton, complement-words, sets-words}
 use Rattle.complement.specs.declared.Counts.{Counts}
 use Rattle.complement.proofs.Room.{states-over, table-over, all-fits, room-cases}
@@ -130,17 +131,22 @@ build-number {limits} {t} {r} {before} says =
     ap (λ (c : Counts). c .number) (says .answer)
     ∙ counts-number (build-refusal limits t (room-of before)) (check-place t) (length (complement t .states)) (length (complement t .edges))
 
--- and its place is the check's
+-- it is zero only where the check passes and there is room
+none-refuses :
+    (limits : Limits) (t : List ℕ) (room : Room) → build-refusal limits t room ≡ 0 →
+    (check-refusal t ≡ 0)
+    × (room-refusal limits room (length (complement t .states)) (length (complement t .edges)) ≡ 0)
+unfolding build-refusal
+none-refuses limits t room none =
+    or-else-none (check-refusal t) (room-refusal limits room (length (complement t .states)) (length (complement t .edges))) none
+
+-- its place is the check's
 pub build-place :
     {limits : Limits} {t : List ℕ} {r : Counts} {before after : Lent} → Build-says limits t r before after → r .place ≡ check-place t
-unfolding build-refusal
 build-place {limits} {t} {r} {before} says =
     ap (λ (c : Counts). c .place) (says .answer)
     ∙ counts-place (build-refusal limits t (room-of before)) (check-place t) (length (complement t .states)) (length (complement t .edges))
-    (λ none.
-    passed-no-place t
-    (or-else-none (check-refusal t)
-    (room-refusal limits (room-of before) (length (complement t .states)) (length (complement t .edges))) none .0))
+    (λ none. passed-no-place t (none-refuses limits t (room-of before) none .0))
 
 module _
     {limits : Limits} {t : List ℕ} {r : Counts} {before after : Lent} (says : Build-says limits t r before after)
@@ -157,21 +163,13 @@ module _
   unfolding as-counts
   build-edges = ap (λ (c : Counts). c .edges) (says .answer) ∙ rw build-accepted
 
-  build-parts :
-      (check-refusal t ≡ 0)
-      × (room-refusal limits (room-of before) (length (complement t .states)) (length (complement t .edges)) ≡ 0)
-  unfolding build-refusal
-  build-parts =
-      or-else-none (check-refusal t)
-      (room-refusal limits (room-of before) (length (complement t .states)) (length (complement t .edges))) build-accepted
-
   -- so the pattern passes the check, and its complement fits the range
   pub build-passed : check-refusal t ≡ 0
-  build-passed = build-parts .0
+  build-passed = none-refuses limits t (room-of before) build-accepted .0
 
   pub build-fits : Fits limits t
   build-fits =
-      let none = build-parts .1 in
+      let none = none-refuses limits t (room-of before) build-accepted .1 in
       elim (room-cases limits (room-of before) (length (complement t .states)) (length (complement t .edges))) [
         | states-over many e ↦ absurd (omega arith)
         | table-over few fewer long e ↦ absurd (omega arith)

@@ -1,6 +1,6 @@
 -- From the parts of a reading to what it answers and leaves, and from a reading to the check's answer: its number, which is at most 10, and its
 -- place. Assumes nothing.
-use mathlib.Core.Path.{_≡_, refl, sym, _∙_, ap}
+use mathlib.Core.Path.{_≡_, refl, sym, _∙_}
 use mathlib.Core.Bool.{true, false}
 use mathlib.Core.List.{List}
 use mathlib.Core.Logic.{inl, inr}
@@ -12,12 +12,11 @@ use Rattle.basics.proofs.Booleans.{either, eqb-eq, eqb-ne, eq-eqb, ne-eqb}
 use Rattle.basics.proofs.Refusing.{answer-most}
 use Rattle.tables.specs.Table.{pattern-range, table-refusal, meaning}
 use Rattle.tables.proofs.Refusals.{table-most}
-use Rattle.patterns.specs.Check.{check-refusal, no-place, place-of, check-place, as-checked, checked, as-reading, reading, masks-read}
+use Rattle.patterns.specs.Check.{check-refusal, no-place, place-of-fork, check-place, as-checked, checked, as-reading, reading, masks-read}
 use Rattle.patterns.specs.Forks.{fork-place}
 use Rattle.patterns.specs.Masks.{masks-of}
 use Rattle.patterns.specs.Pattern.{semi-deterministic, moves}
 use Rattle.patterns.specs.Shape.{shape-of, masks-place, Shape-asks, Small-shape}
-use Rattle.patterns.specs.declared.Checked.{Checked}
 use Rattle.patterns.specs.declared.Checked.the-variants.{Passed, Refused}
 use Rattle.patterns.specs.declared.Fork.{Fork}
 use Rattle.patterns.specs.declared.Fork.the-variants.{Nowhere, At}
@@ -51,7 +50,7 @@ module _ (t : List ℕ) where
 
   -- 10 comes with the place where the pattern forks
   pub fork-place-kept : {p : Place} → check-refusal t ≡ 10 → fork-place (meaning t) ≡ At p → check-place t ≡ p
-  unfolding check-place place-of
+  unfolding check-place place-of-fork
   fork-place-kept ten e = rw (eq-eqb ten, e)
 
   -- refusals 2 to 9 passed: 10 exactly where the pattern is not semi-deterministic

@@ -18,7 +18,7 @@ use Rattle.patterns.specs.Pattern.{targets-of, inner-of, forks, moves}
 use Rattle.patterns.specs.Shape.{shape-of, two-targets, mask-forks, masks-place}
 use Rattle.patterns.proofs.Masks.{Fits-masks, mask-right, targets-lt}
 
--- a set has two members where its number has two digits 1
+-- a set has more than one member exactly if its number has more than one digit 1
 pub two-ones : (set : ℕ) → set < 2 ^ set-states → ltb 1 (ones set) ≡ two-targets set
 unfolding two-targets
 two-ones set l = ap (ltb 1) (sym (size-ones set-states set l))
@@ -30,7 +30,7 @@ module _ (masks : List (List ℕ)) (inner state : ℕ) where
   outer-even k h =
       let e : inner / 2 ^ state % 2 ≡ 0 = omega arith in any-none k (mask-forks masks inner state) (λ c l. rw e)
 
-  -- one that is forks on a letter where its targets are two
+  -- one that is forks on a letter exactly where it has two targets there
   pub inner-forks :
       (letter : ℕ) {b c : Bool} → inner / 2 ^ state % 2 ≡ 1 → b ≡ two-targets (getD (getD masks state []) letter 0) → b ≡ c →
       mask-forks masks inner state letter ≡ c

@@ -47,7 +47,7 @@ module _ (a : Automaton) where
 
 -- BY EDGES
 module _ (a : Automaton) (closed : Closed a) where
-  -- a state of Q2 has two targets on a letter
+  -- the test holds exactly if a state of Q2 has two targets on the letter
   forks-right : (q c : ℕ) → (forks a q c ≡ true) ↔ Forks a q c
   unfolding forks
   forks-right q c =

@@ -11,14 +11,14 @@ use Rattle.basics.proofs.Lists.{map-same}
 use Rattle.sets.specs.Sets.{has, size, set-of}
 use Rattle.tables.specs.Rows.{pattern-A, pattern-B, no-initial, forked, doubled}
 use Rattle.tables.specs.Table.{pattern-range, n-of, k-of, m-of, flags-of, head-of, record-at, letter-of, target-of, next-of, is-initial, is-accepting, chain-has, edge, meaning, flags-good, records-good, named, heads-good, nexts-good, chains-good, table-refusal}
-use Rattle.patterns.specs.Check.{check-refusal, place-of, check-place, as-checked, checked}
+use Rattle.patterns.specs.Check.{check-refusal, place-of-fork, check-place, as-checked, checked}
 use Rattle.patterns.specs.Forks.{smallest-pair, first-pair, fork-place}
 use Rattle.patterns.specs.Pattern.{targets-of, initial-states, accepting-states, grown, reached-in, inner-of, forks, semi-deterministic}
 use Rattle.patterns.specs.Rows.{Check-row, passes, refused, forks-at, check-rows, check-row}
 
 -- the one computation
 all-right : map (λ (r : Check-row). checked (r .words)) check-rows ≡ map (λ (r : Check-row). r .answer) check-rows
-unfolding each any count least or-else has size set-of pattern-A pattern-B no-initial forked doubled pattern-range n-of k-of m-of flags-of head-of record-at letter-of target-of next-of is-initial is-accepting chain-has edge meaning flags-good records-good named heads-good nexts-good chains-good table-refusal check-refusal targets-of accepting-states grown reached-in inner-of forks semi-deterministic smallest-pair first-pair fork-place place-of check-place as-checked checked passes refused forks-at check-rows
+unfolding each any count least or-else has size set-of pattern-A pattern-B no-initial forked doubled pattern-range n-of k-of m-of flags-of head-of record-at letter-of target-of next-of is-initial is-accepting chain-has edge meaning flags-good records-good named heads-good nexts-good chains-good table-refusal check-refusal targets-of accepting-states grown reached-in inner-of forks semi-deterministic smallest-pair first-pair fork-place place-of-fork check-place as-checked checked passes refused forks-at check-rows
 all-right = refl
 
 -- every row is right

@@ -1,6 +1,6 @@
--- What the construction asks of a pattern: the sets say what the automaton says, and of a semi-deterministic one Q2 meets the four laws
--- of the deterministic part. Assumes nothing.
--- Only here are the laws of Q2 shown: whoever builds on them cites Split, whatever Q2 is.
+-- What the construction asks of a pattern: the sets say what the automaton says, two targets are two edges, and of a semi-deterministic one
+-- Q2 meets the four laws of the deterministic part. Assumes nothing.
+-- Only here are the laws of Q2 shown that the construction rests on: whoever builds on them cites Split, whatever Q2 is.
 use mathlib.Core.Path.{_≡_, refl, sym, _∙_}
 use mathlib.Core.Bool.{true, false, not}
 use mathlib.Core.Logic.{_↔_, inl, inr}
@@ -53,7 +53,7 @@ module _ (a : Automaton) (closed : Closed a) where
             let l = and-le-l (accepting-states a) (inner-of a) in let m = accepting-lt a in omega arith;
       }
 
-  -- a state has two targets on a letter
+  -- a state's set of targets on a letter has more than one exactly if two edges lead to different states
   pub two-right : (q c : ℕ) → (ltb 1 (size (a .states) (targets-of a q c)) ≡ true) ↔ Two-targets a q c
   unfolding size
   two-right q c = (
@@ -75,13 +75,14 @@ module _ (a : Automaton) (closed : Closed a) where
         (has-targets q c (two .other) ∙ two .to-other))),
   )
 
-  -- a state of Q2 that does not fork has at most one target
+  -- of a semi-deterministic automaton no state of Q2 has two targets on a letter
   no-two : semi-deterministic a ≡ true → (p c : ℕ) → has (inner-of a) p ≡ true → Two-targets a p c → ⊥
   unfolding forks
   no-two even p c h two =
       let ends = closed .edge p c (two .one) (two .to-one) in
       clash (and-make h (two-right p c .1 two)) (even-forks a even p c (ends .0) (ends .1))
 
+  -- so two edges of it on one letter lead to the same state
   inner-single :
       semi-deterministic a ≡ true → (p c q r : ℕ) → has (inner-of a) p ≡ true → a .edge p c q ≡ true →
       a .edge p c r ≡ true → q ≡ r

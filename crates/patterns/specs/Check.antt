@@ -27,13 +27,13 @@ abbrev pub no-place : Place
 no-place = record { state = 0; letter = 0 }
 
 -- the place of a fork, or none
-unfoldable pub place-of : Fork → Place
-place-of Nowhere = no-place
-place-of (At p) = p
+unfoldable pub place-of-fork : Fork → Place
+place-of-fork Nowhere = no-place
+place-of-fork (At p) = p
 
 -- THE PLACE in the check's answer: with 10 where the pattern forks, and with every other number none
 unfoldable pub check-place : List ℕ → Place
-check-place t = cond (eqb (check-refusal t) 10) (place-of (fork-place (meaning t))) no-place
+check-place t = cond (eqb (check-refusal t) 10) (place-of-fork (fork-place (meaning t))) no-place
 
 -- the answer for each number and place
 unfoldable pub as-checked : (number : ℕ) → Place → Checked

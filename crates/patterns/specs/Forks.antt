@@ -12,7 +12,7 @@ use Rattle.patterns.specs.declared.Fork.{Fork}
 use Rattle.patterns.specs.declared.Fork.the-variants.{Nowhere, At}
 use Rattle.patterns.specs.declared.Place.{Place}
 
--- the smallest state that has a letter of which a test holds, and the smallest such letter
+-- the smallest state that has a letter of which a test holds, and the smallest such letter; asked for only where there is one
 unfoldable pub smallest-pair : (states letters : ℕ) → (test : (state letter : ℕ) → Bool) → Place
 smallest-pair n k f = let q = least n (λ s. any k (f s)) in record { state = q; letter = least k (f q) }
 
@@ -20,7 +20,7 @@ smallest-pair n k f = let q = least n (λ s. any k (f s)) in record { state = q;
 unfoldable pub first-pair : (states letters : ℕ) → (test : (state letter : ℕ) → Bool) → Fork
 first-pair n k f = cond (any n (λ s. any k (f s))) (At (smallest-pair n k f)) Nowhere
 
--- THE PLACE where an automaton forks: the first pair of its states and letters that does
+-- THE PLACE where an automaton forks: the first pair of a state and a letter of it at which it does
 unfoldable pub fork-place : Automaton → Fork
 fork-place a = first-pair (a .states) (a .letters) (forks a)
 

@@ -35,7 +35,7 @@ pub const NO_PLACE: Place = Place {
 };
 
 // Where a pattern forks first, if it does.
-pub enum Fork {
+pub(crate) enum Fork {
     Nowhere,
     At(Place),
 }

@@ -41,9 +41,9 @@ pub record Placed-exactly (t : List ℕ) (number : ℕ) (at : Place) : Type 0 wh
 
 -- THE CHECK: each refusal comes in its case and in no other
 pub record Checked-exactly (t : List ℕ) (r : CheckAnswer) : Type 0 where
-  -- 2 to 9 are those of a pattern's table
+  -- 2 to 9 are those of a pattern's table, and there is no 1
   pub table : (k : ℕ) → 1 ≤ k → k ≤ 9 → (r .number ≡ k) ↔ (table-refusal pattern-range t ≡ k)
-  -- 10: none of them, and some state of Q2 has two targets on one letter; the pattern passes where none has
+  -- 10: none of them, and some state of Q2 has two targets on one letter; 0: none of them, and no state has
   pub forked : (r .number ≡ 10) ↔ ((table-refusal pattern-range t ≡ 0) × Some-fork (meaning t))
   pub passed : (r .number ≡ 0) ↔ ((table-refusal pattern-range t ≡ 0) × (Some-fork (meaning t) → ⊥))
   pub no-other : r .number ≤ 10
@@ -111,7 +111,7 @@ pub record Refused-exactly (range : Limits) (t : List ℕ) (room : Room) (number
   -- nothing is refused where all fits, and no other number is answered
   pub none : (number ≡ 0) ↔ ((check-refusal t ≡ 0) × (Too-many-states range t room → ⊥) × (Too-many-words range t room → ⊥))
   pub no-other : number ≤ 12
-  -- with 10 it is where the pattern forks first, and with every other number zero and zero
+  -- the place, with 10 and with every other number
   pub place : Placed-exactly t number at
   -- what is counted is the whole reachable complement
   pub reached : check-refusal t ≡ 0 → Reached-exactly t

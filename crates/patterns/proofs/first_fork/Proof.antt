@@ -22,7 +22,7 @@ abbrev μ-loop : tie.MeasureT-loop
 μ-loop masks states letters inner state letter₀ letter = letters - letter
 
 abbrev Inv-search : tie.InvT-search
-Inv-search masks states letters inner state₀ state = Scan false (row states letters (mask-forks masks inner)) states state
+Inv-search masks states letters inner state₀ state = Scan false (row letters (mask-forks masks inner)) states state
 
 abbrev μ-search : tie.MeasureT-search
 μ-search masks states letters inner state₀ state = states - state
@@ -127,9 +127,7 @@ loop-less c = omega arith
 loop-again : tie.Need-loop-again Inv-loop μ-loop Inv-search μ-search
 loop-again c =
     let tested : tie.After-two-targets Inv-loop μ-loop Inv-search μ-search = search in
-    let turn : tie.In-loop Inv-loop μ-loop Inv-search μ-search = search in
-    let at-letter : tie.At-loop Inv-loop μ-loop Inv-search μ-search = search in
-    scan-more (at-letter .loop .inv) (turn .loop-test .taken) (forks-here tested (c .if3 .left))
+    scan-more (at-letter (turn tested) .loop .inv) (turn tested .loop-test .taken) (forks-here tested (c .if3 .left))
 
 add-state : tie.Need-add-state Inv-loop μ-loop Inv-search μ-search
 add-state c = let l = small (of-passed c) in omega arith
@@ -139,8 +137,7 @@ search-less c = let l = inside (of-passed c) in omega arith
 
 search-again : tie.Need-search-again Inv-loop μ-loop Inv-search μ-search
 search-again c =
-    let at-state : tie.At-search Inv-loop μ-loop Inv-search μ-search = search in
-    scan-more (at-state .search .inv) (inside (of-passed c)) (even c)
+    scan-more (at-state (of-passed c) .search .inv) (inside (of-passed c)) (even c)
 
 returns : tie.Need-returns Inv-loop μ-loop Inv-search μ-search
 unfolding masks-place
@@ -152,12 +149,8 @@ returns-2 : tie.Need-returns-2 Inv-loop μ-loop Inv-search μ-search
 unfolding masks-place
 returns-2 c =
     let tested : tie.After-two-targets Inv-loop μ-loop Inv-search μ-search = search in
-    let turn : tie.In-loop Inv-loop μ-loop Inv-search μ-search = search in
-    let at-letter : tie.At-loop Inv-loop μ-loop Inv-search μ-search = search in
-    let some-left : tie.Else1 Inv-loop μ-loop Inv-search μ-search = search in
-    let at-state : tie.At-search Inv-loop μ-loop Inv-search μ-search = search in
-    search-found _ _ _ _ _ (inside some-left) (turn .loop-test .taken) (at-state .search .inv) (at-letter .loop .inv)
-    (forks-here tested (c .if3 .taken))
+    search-found _ _ _ _ _ (inside (of-state tested)) (turn tested .loop-test .taken) (at-state (of-state tested) .search .inv)
+    (at-letter (turn tested) .loop .inv) (forks-here tested (c .if3 .taken))
 
 pub first-fork-spec : {M : Type 1} → statement M
 first-fork-spec =
