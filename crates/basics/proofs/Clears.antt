@@ -1,4 +1,5 @@
--- Laws of clearing a buffer: word by word from the front, that only its length matters, what zero words are, and clearing a part. Assumes nothing.
+-- Laws of filling a buffer, word by word from the front, and of clearing one: that only its length matters, what zero words are, and
+-- clearing a part. Assumes nothing.
 use mathlib.Core.Path.{_≡_, refl, sym, ap, _∙_}
 use mathlib.Core.List.{List, _++_, append-nil}
 use Prim.Native.Nat.{ℕ, zero, suc, _+_, _-_, _≤_, _<_}
@@ -9,27 +10,26 @@ use lib.ListN.{length, getD, set, take, drop, replicate, length-replicate, lengt
 use lib.Seq.{length-take-le, getD-drop, getD-append-add}
 use Rattle.basics.specs.Buffers.{zeros}
 
--- the first i words are zero, and the others as they were
-pub record Clearing (w w-now : List ℕ) (i : ℕ) : Type 0 where
+-- the first i words are so much, and the others as they were
+pub record Filling (a : ℕ) (w w-now : List ℕ) (i : ℕ) : Type 0 where
   pub upto : i ≤ length w
   pub same : length w-now ≡ length w
-  pub is : w-now ≡ replicate i 0 ++ drop i w
+  pub is : w-now ≡ replicate i a ++ drop i w
 
-pub clearing-start : (w : List ℕ) → Clearing w w 0
-clearing-start w = record { upto = omega arith; same = refl; is = fill-none w 0 }
+pub filling-start : (a : ℕ) (w : List ℕ) → Filling a w w 0
+filling-start a w = record { upto = omega arith; same = refl; is = fill-none w a }
 
-module _ {w w1 : List ℕ} {i : ℕ} (h : Clearing w w1 i) where
-  pub clearing-turn : i < length w1 → Clearing w (set w1 i 0) (i + 1)
-  clearing-turn l =
+module _ {a : ℕ} {w w1 : List ℕ} {i : ℕ} (h : Filling a w w1 i) where
+  pub filling-turn : i < length w1 → Filling a w (set w1 i a) (i + 1)
+  filling-turn l =
       let b : i < length w = omega arith in
-      record { upto = omega arith; same = length-set w1 i 0 ∙ h .same; is = rw (h .is) (fill-more i 0 w b) }
+      record { upto = omega arith; same = length-set w1 i a ∙ h .same; is = rw (h .is) (fill-more i a w b) }
 
-  pub clearing-end : length w1 ≤ i → w1 ≡ zeros w
-  unfolding zeros
-  clearing-end l =
+  pub filling-end : length w1 ≤ i → w1 ≡ replicate (length w) a
+  filling-end l =
       let e : i ≡ length w = omega arith in
       let f : length w ≤ i = omega arith in
-      let z : replicate i 0 ++ drop i w ≡ replicate (length w) 0 = rw (drop-of-length-le w f, append-nil, e) in h .is ∙ z
+      let z : replicate i a ++ drop i w ≡ replicate (length w) a = rw (drop-of-length-le w f, append-nil, e) in h .is ∙ z
 
 -- only the length of what was there matters
 pub zeros-same : (w w1 : List ℕ) → length w1 ≡ length w → zeros w1 ≡ zeros w

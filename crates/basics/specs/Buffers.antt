@@ -1,13 +1,19 @@
--- Refusals one after the other, and what a call leaves in a lent buffer. Assumes nothing: these are definitions.
+-- Refusals one after the other, what a call answers that writes items, and what it leaves in a lent buffer. Assumes nothing: these are definitions.
 use mathlib.Core.Bool.{cond}
 use mathlib.Core.List.{List, _++_}
-use Prim.Native.Nat.{ℕ, _-_}
+use Prim.Native.Nat.{ℕ, zero, suc, _-_}
 use lib.Dec.{eqb}
 use lib.ListN.{length, replicate}
+use Rattle.basics.specs.declared.Written.{Written}
 
 -- the first refusal that is not zero
 unfoldable pub or-else : (first second : ℕ) → ℕ
 or-else a b = cond (eqb a 0) b a
+
+-- the answer for a refusal's number, zero where nothing is refused, and for how many items were written
+unfoldable pub as-written : (number count : ℕ) → Written
+as-written zero count = record { number = 0; count = count }
+as-written (suc r) count = record { number = suc r; count = 0 }
 
 -- a buffer that is all zero
 unfoldable pub zeros : (before : List ℕ) → List ℕ
