@@ -17,7 +17,7 @@ use Rattle.automata.proofs.Decision.{takes-right}
 use Rattle.tables.specs.Table.{Limits, n-of, k-of, meaning, table-refusal}
 use Rattle.tables.proofs.Laws.{valid, meaning-closed}
 use Rattle.lassos.specs.Decision.{as-decision, decision, Lasso-says}
-use Rattle.lassos.specs.Refusals.{longest-part, parts-refusal, lasso-refusal}
+use Rattle.lassos.specs.Refusals.{longest-part, lengths-refusal, parts-refusal, lasso-refusal}
 use Rattle.lassos.specs.declared.Decision.{Decision}
 use Rattle.lassos.specs.declared.Decision.the-variants.{Taken, NotTaken, Refused}
 use Rattle.lassos.proofs.Decides.{as-refused}
@@ -46,7 +46,7 @@ number-refused n (suc r) b e = let s : suc r ≡ n = cc in (s, omega arith)
 lasso-number :
     (n k : ℕ) (u v : List ℕ) (w : ℕ) → Lasso k u v → (parts-refusal n k u v w ≡ 0 → ⊥) →
     (parts-refusal n k u v w ≡ 14) ⊎ (parts-refusal n k u v w ≡ 16)
-unfolding parts-refusal
+unfolding lengths-refusal parts-refusal or-else
 lasso-number n k u v w lasso met =
     let some : eqb (length v) 0 ≡ false = ne-eqb (length v) 0 (λ z. let o = lasso .endless in omega arith) in
     let below : not (all-below k u && all-below k v) ≡ false = not-true (and-make (lasso .prefix) (lasso .loop)) in

@@ -1,5 +1,5 @@
 -- Laws of refusals 13 to 16: what each test finds, and what holds of a table and a lasso that none refuses. Assumes nothing.
-use mathlib.Core.Path.{_≡_, _∙_}
+use mathlib.Core.Path.{_≡_, sym, _∙_}
 use mathlib.Core.Bool.{Bool, true, false, _&&_, _||_, not}
 use mathlib.Core.List.{List}
 use Prim.Native.Nat.{ℕ, _+_, _*_, _^_, _≤_, _<_}
@@ -9,11 +9,12 @@ use lib.Dec.{ltb, eqb}
 use lib.ListN.{length, getD}
 use Rattle.basics.specs.Buffers.{or-else}
 use Rattle.basics.proofs.Booleans.{and-l, and-r, false-not, eq-eqb, eqb-ne, ne-eqb, lt-ltb, ge-ltb, ltb-ge, or-false, both-within}
-use Rattle.basics.proofs.Refusing.{passed, or-else-none}
+use Rattle.basics.proofs.Refusing.{passed, answer-most, or-else-none}
 use Rattle.basics.proofs.Scans.{scan-fails}
 use Rattle.automata.specs.Lasso.{all-below, Lasso}
 use Rattle.tables.specs.Table.{Limits, n-of, k-of, table-refusal}
-use Rattle.lassos.specs.Refusals.{longest-part, parts-refusal, lasso-refusal}
+use Rattle.tables.proofs.Refusals.{table-most}
+use Rattle.lassos.specs.Refusals.{longest-part, lengths-refusal, parts-refusal, lasso-refusal}
 use Rattle.lassos.specs.Width.{machine-bits, Few}
 
 -- A LETTER of a part that is none
@@ -21,46 +22,74 @@ pub not-below : (k : ℕ) (u : List ℕ) (i : ℕ) → i < length u → k ≤ ge
 unfolding all-below
 not-below k u i l b = scan-fails (λ j. ltb (getD u j 0) k) (length u) i l (ge-ltb b)
 
--- THE TESTS one after the other
-module _ (n k : ℕ) (u v : List ℕ) (w : ℕ) where
-  pub parts-13 : length v ≡ 0 → 13 ≡ parts-refusal n k u v w
-  unfolding parts-refusal
-  parts-13 e = cc (eq-eqb e)
+-- THE LENGTHS one after the other
+module _ (p l : ℕ) where
+  pub lengths-13 : l ≡ 0 → 13 ≡ lengths-refusal p l
+  unfolding lengths-refusal
+  lengths-13 e = cc (eq-eqb e)
 
-  module _ (some : length v ≡ 0 → ⊥) where
-    past-13 : eqb (length v) 0 ≡ false
-    past-13 = ne-eqb (length v) 0 some
+  module _ (some : l ≡ 0 → ⊥) where
+    past-13 : eqb l 0 ≡ false
+    past-13 = ne-eqb l 0 some
 
-    pub parts-14-prefix : longest-part < length u → 14 ≡ parts-refusal n k u v w
-    unfolding parts-refusal
-    parts-14-prefix l = cc (past-13, lt-ltb l)
+    pub lengths-14-prefix : longest-part < p → 14 ≡ lengths-refusal p l
+    unfolding lengths-refusal
+    lengths-14-prefix long = cc (past-13, lt-ltb long)
 
-    module _ (short : length u ≤ longest-part) where
-      pub parts-14-loop : longest-part < length v → 14 ≡ parts-refusal n k u v w
-      unfolding parts-refusal
-      parts-14-loop l = cc (past-13, ge-ltb short, lt-ltb l)
+    module _ (short : p ≤ longest-part) where
+      pub lengths-14-loop : longest-part < l → 14 ≡ lengths-refusal p l
+      unfolding lengths-refusal
+      lengths-14-loop long = cc (past-13, ge-ltb short, lt-ltb long)
 
-      module _ (short′ : length v ≤ longest-part) {p : Bool} (is-p : p ≡ all-below k u) where
-        past-14 : (ltb longest-part (length u) || ltb longest-part (length v)) ≡ false
-        past-14 = or-false (ge-ltb short) (ge-ltb short′)
+      pub lengths-pass : l ≤ longest-part → 0 ≡ lengths-refusal p l
+      unfolding lengths-refusal
+      lengths-pass short′ = cc (past-13, or-false (ge-ltb short) (ge-ltb short′))
 
-        pub parts-15-prefix : p ≡ false → 15 ≡ parts-refusal n k u v w
-        unfolding parts-refusal
-        parts-15-prefix e = cc (past-13, past-14)
+-- lengths that are not refused
+pub record Short (p l : ℕ) : Type 0 where
+  pub endless : 1 ≤ l
+  pub prefix : p ≤ longest-part
+  pub loop : l ≤ longest-part
 
-        module _ (yes-p : p ≡ true) {q : Bool} (is-q : q ≡ all-below k v) where
-          pub parts-15-loop : q ≡ false → 15 ≡ parts-refusal n k u v w
-          unfolding parts-refusal
-          parts-15-loop e = cc (past-13, past-14)
+pub lengths-past : (p l : ℕ) → lengths-refusal p l ≡ 0 → Short p l
+unfolding lengths-refusal
+lengths-past p l h =
+    let a = passed (eqb l 0) 12 _ h in
+    let b = passed (ltb longest-part p || ltb longest-part l) 13 0 (a .1) in
+    let some = eqb-ne l 0 (a .0) in
+    let (prefix-short, loop-short) = both-within longest-part p longest-part l (b .0) in
+    record { endless = omega arith; prefix = prefix-short; loop = loop-short }
 
-          module _ (yes-q : q ≡ true) where
-            pub parts-16 : w < 4 * n * (length u + length v) → 16 ≡ parts-refusal n k u v w
-            unfolding parts-refusal
-            parts-16 l = cc (past-13, past-14, lt-ltb l)
+-- THE TESTS one after the other, the lengths first
+module _ (n k : ℕ) (u v : List ℕ) (w : ℕ) {x : ℕ} (is-lengths : x ≡ lengths-refusal (length u) (length v)) where
+  pub parts-lengths : (x ≡ 0 → ⊥) → x ≡ parts-refusal n k u v w
+  unfolding parts-refusal or-else
+  parts-lengths met =
+      let far : eqb (lengths-refusal (length u) (length v)) 0 ≡ false =
+      ne-eqb (lengths-refusal (length u) (length v)) 0 (λ z. met (is-lengths ∙ z)) in cc
 
-            pub parts-pass : 4 * n * (length u + length v) ≤ w → 0 ≡ parts-refusal n k u v w
-            unfolding parts-refusal
-            parts-pass l = cc (past-13, past-14, ge-ltb l)
+  module _ (fine : x ≡ 0) where
+    past-14 : eqb (lengths-refusal (length u) (length v)) 0 ≡ true
+    past-14 = eq-eqb (sym is-lengths ∙ fine)
+
+    module _ {p : Bool} (is-p : p ≡ all-below k u) where
+      pub parts-15-prefix : p ≡ false → 15 ≡ parts-refusal n k u v w
+      unfolding parts-refusal or-else
+      parts-15-prefix e = cc past-14
+
+      module _ (yes-p : p ≡ true) {q : Bool} (is-q : q ≡ all-below k v) where
+        pub parts-15-loop : q ≡ false → 15 ≡ parts-refusal n k u v w
+        unfolding parts-refusal or-else
+        parts-15-loop e = cc past-14
+
+        module _ (yes-q : q ≡ true) where
+          pub parts-16 : w < 4 * n * (length u + length v) → 16 ≡ parts-refusal n k u v w
+          unfolding parts-refusal or-else
+          parts-16 l = cc (past-14, lt-ltb l)
+
+          pub parts-pass : 4 * n * (length u + length v) ≤ w → 0 ≡ parts-refusal n k u v w
+          unfolding parts-refusal or-else
+          parts-pass l = cc (past-14, ge-ltb l)
 
 -- for fewer states than some number with which the largest product can be counted through, the words that are needed can be counted too
 pub needed-fits :
@@ -82,6 +111,24 @@ module _ (range : Limits) (t u v : List ℕ) (w : ℕ) where
   unfolding lasso-refusal or-else
   parts-then z a b e = let c : eqb (table-refusal range t) 0 ≡ true = eq-eqb z in cc
 
+-- NO NUMBER is above 16
+pub lengths-most : (p l : ℕ) → lengths-refusal p l ≤ 16
+unfolding lengths-refusal
+lengths-most p l =
+    answer-most (eqb l 0) 16 (omega arith)
+    (answer-most (ltb longest-part p || ltb longest-part l) 16 (omega arith) (omega arith))
+
+pub lasso-most : (range : Limits) (t u v : List ℕ) (w : ℕ) → lasso-refusal range t u v w ≤ 16
+unfolding lasso-refusal parts-refusal or-else
+lasso-most range t u v w =
+    let table = table-most range t in
+    answer-most (eqb (table-refusal range t) 0) 16
+    (answer-most (eqb (lengths-refusal (length u) (length v)) 0) 16
+    (answer-most (not (all-below (k-of t) u && all-below (k-of t) v)) 16 (omega arith)
+    (answer-most (ltb w (4 * n-of t * (length u + length v))) 16 (omega arith) (omega arith)))
+    (lengths-most (length u) (length v)))
+    (omega arith)
+
 -- WHAT IS NOT REFUSED
 pub record Accepted (range : Limits) (t u v : List ℕ) (w : ℕ) : Type 0 where
   pub valid : table-refusal range t ≡ 0
@@ -92,19 +139,16 @@ pub record Accepted (range : Limits) (t u v : List ℕ) (w : ℕ) : Type 0 where
 
 parts-past :
     (n k : ℕ) (u v : List ℕ) (w : ℕ) → parts-refusal n k u v w ≡ 0 →
-    Lasso k u v × (length u ≤ longest-part) × (length v ≤ longest-part) × (4 * n * (length u + length v) ≤ w)
+    Short (length u) (length v) × Lasso k u v × (4 * n * (length u + length v) ≤ w)
 unfolding parts-refusal
 parts-past n k u v w h =
-    let a = passed (eqb (length v) 0) 12 _ h in
-    let b = passed (ltb longest-part (length u) || ltb longest-part (length v)) 13 _ (a .1) in
-    let c = passed (not (all-below k u && all-below k v)) 14 _ (b .1) in
+    let a = or-else-none (lengths-refusal (length u) (length v)) _ h in
+    let short = lengths-past (length u) (length v) (a .0) in
+    let c = passed (not (all-below k u && all-below k v)) 14 _ (a .1) in
     let d = passed (ltb w (4 * n * (length u + length v))) 15 0 (c .1) in
-    let some = eqb-ne (length v) 0 (a .0) in
-    let both = false-not (all-below k u && all-below k v) (c .0) in
-    let (prefix-short, loop-short) = both-within longest-part (length u) longest-part (length v) (b .0) in (
-      record { prefix = and-l (all-below k v) both; loop = and-r (all-below k u) both; endless = omega arith },
-      prefix-short,
-      loop-short,
+    let both = false-not (all-below k u && all-below k v) (c .0) in (
+      short,
+      record { prefix = and-l (all-below k v) both; loop = and-r (all-below k u) both; endless = short .endless },
       ltb-ge w (4 * n * (length u + length v)) (d .0),
     )
 
@@ -112,11 +156,11 @@ pub accepted : (range : Limits) (t u v : List ℕ) (w : ℕ) → lasso-refusal r
 unfolding lasso-refusal
 accepted range t u v w h =
     let both = or-else-none (table-refusal range t) (parts-refusal (n-of t) (k-of t) u v w) h in
-    let parts = parts-past (n-of t) (k-of t) u v w (both .1) in
+    let (short, lasso, room) = parts-past (n-of t) (k-of t) u v w (both .1) in
     record {
       valid = both .0;
-      lasso = parts .0;
-      prefix-short = parts .1;
-      loop-short = parts .2;
-      room = parts .3;
+      lasso = lasso;
+      prefix-short = short .prefix;
+      loop-short = short .loop;
+      room = room;
     }

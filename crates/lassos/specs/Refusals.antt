@@ -12,13 +12,16 @@ use Rattle.tables.specs.Table.{Limits, n-of, k-of, table-refusal}
 abbrev pub longest-part : ℕ
 longest-part = 4096
 
+-- 13 and 14, by how many letters the prefix and the loop have
+unfoldable pub lengths-refusal : (prefix loop : ℕ) → ℕ
+lengths-refusal p l = cond (eqb l 0) 13 (cond (ltb longest-part p || ltb longest-part l) 14 0)
+
 -- 13 to 16, for a table of n states and k letters and so many work words
 unfoldable pub parts-refusal : (n k : ℕ) → (u v : List ℕ) → (work : ℕ) → ℕ
 parts-refusal n k u v w =
-    cond (eqb (length v) 0) 13
-    (cond (ltb longest-part (length u) || ltb longest-part (length v)) 14
+    or-else (lengths-refusal (length u) (length v))
     (cond (not (all-below k u && all-below k v)) 15
-    (cond (ltb w (4 * n * (length u + length v))) 16 0)))
+    (cond (ltb w (4 * n * (length u + length v))) 16 0))
 
 -- 2 to 9 in a range, then those
 unfoldable pub lasso-refusal : Limits → (t u v : List ℕ) → (work : ℕ) → ℕ

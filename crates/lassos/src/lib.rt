@@ -19,11 +19,11 @@ ghost use Rattle.automata.specs.Decision.{takes?};
 ghost use Rattle.automata.specs.Lasso.{all-below};
 ghost use Rattle.tables.specs.Table.{wide-range, meaning, table-refusal};
 ghost use Rattle.lassos.specs.Decision.{decision, Lasso-says, Takes-asks};
-ghost use Rattle.lassos.specs.Refusals.{parts-refusal};
+ghost use Rattle.lassos.specs.Refusals.{lengths-refusal, parts-refusal};
 ghost use Rattle.lassos.specs.Width.{width-16};
 
 // The letters that a prefix may have, and a loop.
-const PART_LETTERS: usize = 4096;
+pub const PART_LETTERS: usize = 4096;
 
 // What the decision answers: taken, not taken, or the number of the refusal.
 pub enum Decision {
@@ -47,19 +47,30 @@ fn letters_below(part: &[u8], k: usize) -> bool
     true
 }
 
+// Refusal 13 or 14, by how many letters the prefix and the loop have, or zero. No letter is looked at.
+pub fn lengths_refusal(prefix: usize, cycle: usize) -> u32
+    ensures { λ r. ⌜ r ≡ lengths-refusal prefix cycle ⌝ }
+{
+    if cycle == 0 {
+        return 13;
+    }
+    if prefix > PART_LETTERS {
+        return 14;
+    }
+    if cycle > PART_LETTERS {
+        return 14;
+    }
+    0
+}
+
 // The first of refusals 13 to 16 that a lasso meets for a table of n states and k letters and so many work words, or zero.
 fn parts_refusal(n: usize, k: usize, prefix: &[u8], cycle: &[u8], work: usize) -> u32
     requires { ⌜ n < 2 ^ width-16 .work-bits ⌝ }
     ensures { λ r. ⌜ r ≡ parts-refusal n k (now (prefix .entry)) (now (cycle .entry)) work ⌝ }
 {
-    if cycle.len() == 0 {
-        return 13;
-    }
-    if prefix.len() > PART_LETTERS {
-        return 14;
-    }
-    if cycle.len() > PART_LETTERS {
-        return 14;
+    let lengths = lengths_refusal(prefix.len(), cycle.len());
+    if lengths != 0 {
+        return lengths;
     }
     if !letters_below(prefix, k) {
         return 15;
@@ -84,10 +95,10 @@ fn takes(table: &[u16], prefix: &[u8], cycle: &[u8], work: &mut [u32]) -> bool
     search(table, prefix, cycle, work, states, size)
 }
 
-// Decides whether a table takes a lasso, where the table has passed its check already. A caller in the crate that has a tray of many lassos
-// gets each answer from it after one check of the table: nothing is asked of the work words, and nothing is said of what is left in them, so
-// that one clearing behind the last lasso is enough.
-fn decide_checked(table: &[u16], prefix: &[u8], cycle: &[u8], work: &mut [u32]) -> Decision
+// Decides whether a table takes a lasso, where the table has passed its check already. Who has many lassos for one table gets each answer
+// from it after one check: nothing is asked of the work words, and nothing is said of what is left in them, so that one clearing behind the
+// last lasso is enough.
+pub fn decide_checked(table: &[u16], prefix: &[u8], cycle: &[u8], work: &mut [u32]) -> Decision
     requires { ⌜ table-refusal wide-range (now table) ≡ 0 ⌝ }
     ensures { λ d. ⌜ d ≡ decision wide-range (now (table .entry)) (now (prefix .entry)) (now (cycle .entry)) (length (now (work .entry))) ⌝ }
 {
