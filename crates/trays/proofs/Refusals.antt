@@ -1,0 +1,85 @@
+-- Laws of refusals 17 and 18, and of what a call answers and leaves in each case. Assumes nothing.
+use mathlib.Core.Path.{_≡_, refl, sym, _∙_}
+use mathlib.Core.Bool.{true, false}
+use mathlib.Core.List.{List, map}
+use mathlib.Core.Logic.{inl, inr}
+use Prim.Native.Nat.{ℕ, zero, suc}
+use native.Mathlib.Omega.{arith}
+use lib.Dec.{eqb}
+use lib.ListN.{length, replicate}
+use Rattle.basics.specs.Buffers.{or-else, as-written, zeros}
+use Rattle.basics.specs.declared.Written.{Written}
+use Rattle.basics.proofs.Booleans.{either, eq-eqb, ne-eqb, eqb-eq}
+use Rattle.tables.specs.Table.{Limits, table-refusal}
+use Rattle.trays.specs.Answers.{list-refusal, tray-refusal, byte-of, tray-bytes}
+use Rattle.trays.specs.Steps.{Answers-says}
+use Rattle.trays.specs.Tray.{tray}
+
+-- a refusal's answer
+refused-answer : (x y : ℕ) → x ≡ y → (x ≡ 0 → ⊥) → (count : ℕ) → record { number = x; count = 0 } ≡ as-written y count
+unfolding as-written
+refused-answer x zero e met count = absurd (met e)
+refused-answer x (suc y) e met count = rw e
+
+-- THE LIST: whether words are left, then the count
+module _ (s : List ℕ) (b : ℕ) where
+  pub list-17 : (length (tray s .left) ≡ 0 → ⊥) → 17 ≡ list-refusal s b
+  unfolding list-refusal
+  list-17 some = cc (ne-eqb (length (tray s .left)) 0 some)
+
+  module _ (exact : length (tray s .left) ≡ 0) {n : ℕ} (counted : n ≡ length (tray s .lassos)) where
+    pub list-18 : (n ≡ b → ⊥) → 18 ≡ list-refusal s b
+    unfolding list-refusal
+    list-18 ne = cc (eq-eqb exact, ne-eqb (length (tray s .lassos)) b (λ e. ne (counted ∙ e)))
+
+    pub list-passes : n ≡ b → 0 ≡ list-refusal s b
+    unfolding list-refusal
+    list-passes e = cc (eq-eqb exact, eq-eqb (sym counted ∙ e))
+
+-- a list that is not refused ends exactly, and has as many lassos as there are bytes
+pub record List-fits (s : List ℕ) (b : ℕ) : Type 0 where
+  pub exact : length (tray s .left) ≡ 0
+  pub counted : length (tray s .lassos) ≡ b
+
+pub list-fits : (s : List ℕ) (b : ℕ) → list-refusal s b ≡ 0 → List-fits s b
+unfolding list-refusal
+list-fits s b h =
+    elim (either (eqb (length (tray s .left)) 0)) [
+      | inr some ↦ absurd (let z : _≡_ {A = ℕ} 17 0 = rw some at h in omega arith)
+      | inl exact ↦
+          elim (either (eqb (length (tray s .lassos)) b)) [
+            | inl same ↦ record { exact = eqb-eq (length (tray s .left)) 0 exact; counted = eqb-eq (length (tray s .lassos)) b same }
+            | inr other ↦ absurd (let z : _≡_ {A = ℕ} 18 0 = rw (exact, other) at h in omega arith)
+          ]
+    ]
+
+-- THE CALL: the list first, then the table, then each lasso
+module _ (range : Limits) (t s a : List ℕ) (work : ℕ) {x : ℕ} (is-list : x ≡ list-refusal s (length a)) where
+  pub answers-list :
+      (x ≡ 0 → ⊥) → {a-now : List ℕ} → a-now ≡ replicate (length a) 0 →
+      Answers-says range t s (record { number = x; count = 0 }) a a-now work
+  unfolding tray-refusal tray-bytes or-else zeros
+  answers-list met {a-now} cleared =
+      let far : eqb (list-refusal s (length a)) 0 ≡ false = ne-eqb (list-refusal s (length a)) 0 (λ z. met (is-list ∙ z)) in
+      record { answer = rw far (refused-answer x (list-refusal s (length a)) is-list met (length (tray s .lassos))); bytes = rw far cleared }
+
+  module _ (fine : x ≡ 0) {y : ℕ} (is-table : y ≡ table-refusal range t) where
+    near : eqb (list-refusal s (length a)) 0 ≡ true
+    near = eq-eqb (sym is-list ∙ fine)
+
+    pub answers-table :
+        (y ≡ 0 → ⊥) → {a-now : List ℕ} → a-now ≡ replicate (length a) y →
+        Answers-says range t s (record { number = y; count = 0 }) a a-now work
+    unfolding tray-refusal tray-bytes or-else
+    answers-table met {a-now} all =
+        let far : eqb (table-refusal range t) 0 ≡ false = ne-eqb (table-refusal range t) 0 (λ z. met (is-table ∙ z)) in
+        record { answer = rw near (refused-answer y (table-refusal range t) is-table met (length (tray s .lassos))); bytes = rw (near, far, ← is-table) all }
+
+    pub answers-each :
+        y ≡ 0 → {a-now : List ℕ} → a-now ≡ map (byte-of range t work) (tray s .lassos) → {n : ℕ} → n ≡ length a →
+        Answers-says range t s (record { number = 0; count = n }) a a-now work
+    unfolding tray-refusal tray-bytes or-else as-written
+    answers-each none {a-now} each counted =
+        let passed : table-refusal range t ≡ 0 = sym is-table ∙ none in
+        let count = list-fits s (length a) (sym is-list ∙ fine) .counted in
+        record { answer = rw (near, passed, count, counted); bytes = rw (near, passed) each }
