@@ -1,7 +1,7 @@
 -- Refusals one after the other: where the answer is none, no refusal is met; the answer is at most the greatest of them. Assumes nothing.
 use mathlib.Core.Path.{_≡_, refl}
 use mathlib.Core.Bool.{Bool, true, false, cond}
-use mathlib.Core.Logic.{inl, inr}
+use mathlib.Core.Logic.{_⊎_, inl, inr}
 use Prim.Native.Nat.{ℕ, suc, _≤_}
 use native.Mathlib.Omega.{arith}
 use lib.Dec.{eqb}
@@ -17,6 +17,20 @@ passed false k others h = (refl, h)
 pub answer-most : (b : Bool) {x y : ℕ} (limit : ℕ) → x ≤ limit → y ≤ limit → cond b x y ≤ limit
 answer-most true limit a b = a
 answer-most false limit a b = b
+
+-- an answer is none or at least what a refusal that is met is, if those behind it are so
+pub answer-least : (b : Bool) {x y : ℕ} (least : ℕ) → least ≤ x → (y ≡ 0) ⊎ (least ≤ y) → (cond b x y ≡ 0) ⊎ (least ≤ cond b x y)
+answer-least true least a c = inr a
+answer-least false least a c = c
+
+-- so is the first of two refusals, if both are so
+pub or-else-least : (x y least : ℕ) → (x ≡ 0) ⊎ (least ≤ x) → (y ≡ 0) ⊎ (least ≤ y) → (or-else x y ≡ 0) ⊎ (least ≤ or-else x y)
+unfolding or-else
+or-else-least x y least a b =
+    elim (either (eqb x 0)) [
+      | inl e ↦ rw e b
+      | inr e ↦ rw e a
+    ]
 
 -- the first of two refusals is none, and neither is the second
 pub or-else-none : (x y : ℕ) → or-else x y ≡ 0 → (x ≡ 0) × (y ≡ 0)

@@ -1,7 +1,8 @@
 -- Laws of refusals 13 to 16: what each test finds, and what holds of a table and a lasso that none refuses. Assumes nothing.
-use mathlib.Core.Path.{_≡_, sym, _∙_}
+use mathlib.Core.Path.{_≡_, refl, sym, _∙_}
 use mathlib.Core.Bool.{Bool, true, false, _&&_, _||_, not}
 use mathlib.Core.List.{List}
+use mathlib.Core.Logic.{_⊎_, inl}
 use Prim.Native.Nat.{ℕ, _+_, _*_, _^_, _≤_, _<_}
 use native.Mathlib.Omega.{arith}
 use native.Mathlib.Nat.{mul-le-mul}
@@ -9,7 +10,7 @@ use lib.Dec.{ltb, eqb}
 use lib.ListN.{length, getD}
 use Rattle.basics.specs.Buffers.{or-else}
 use Rattle.basics.proofs.Booleans.{and-l, and-r, false-not, eq-eqb, eqb-ne, ne-eqb, lt-ltb, ge-ltb, ltb-ge, or-false, both-within}
-use Rattle.basics.proofs.Refusing.{passed, answer-most, or-else-none}
+use Rattle.basics.proofs.Refusing.{passed, answer-most, answer-least, or-else-none, or-else-least}
 use Rattle.basics.proofs.Scans.{scan-fails}
 use Rattle.automata.specs.Lasso.{all-below, Lasso}
 use Rattle.tables.specs.Table.{Limits, n-of, k-of, table-refusal}
@@ -128,6 +129,19 @@ lasso-most range t u v w =
     (answer-most (ltb w (4 * n-of t * (length u + length v))) 16 (omega arith) (omega arith)))
     (lengths-most (length u) (length v)))
     (omega arith)
+
+-- NONE BELOW 13 is the lasso's own
+lengths-least : (p l : ℕ) → (lengths-refusal p l ≡ 0) ⊎ (13 ≤ lengths-refusal p l)
+unfolding lengths-refusal
+lengths-least p l =
+    answer-least (eqb l 0) 13 (omega arith) (answer-least (ltb longest-part p || ltb longest-part l) 13 (omega arith) (inl refl))
+
+pub parts-least : (n k : ℕ) (u v : List ℕ) (w : ℕ) → (parts-refusal n k u v w ≡ 0) ⊎ (13 ≤ parts-refusal n k u v w)
+unfolding parts-refusal
+parts-least n k u v w =
+    or-else-least (lengths-refusal (length u) (length v)) _ 13 (lengths-least (length u) (length v))
+    (answer-least (not (all-below k u && all-below k v)) 13 (omega arith)
+    (answer-least (ltb w (4 * n * (length u + length v))) 13 (omega arith) (inl refl)))
 
 -- WHAT IS NOT REFUSED
 pub record Accepted (range : Limits) (t u v : List ℕ) (w : ℕ) : Type 0 where

@@ -52,7 +52,7 @@ unfolding lasso-end
 end-further s i = omega arith
 
 -- a list without length
-empty-list : {A : Type 0} (xs : List A) → length xs ≡ 0 → xs ≡ []
+pub empty-list : {A : Type 0} (xs : List A) → length xs ≡ 0 → xs ≡ []
 empty-list [] e = refl
 empty-list (x ∷ xs) e = absurd (omega arith)
 

@@ -14,6 +14,10 @@ pub record Parts : Type 0 where
 unfoldable pub parted : (prefix : ℕ) → (letters : List ℕ) → Parts
 parted p x = record { prefix = take p x; loop = drop p x }
 
+-- a lasso without letters, which stands beyond the last of a list
+abbrev pub no-lasso : Parts
+no-lasso = record { prefix = []; loop = [] }
+
 -- WRITING: the words of a lasso are its prefix length, its loop length, and its letters
 unfoldable pub lasso-words : Parts → List ℕ
 lasso-words x = length (x .prefix) ∷ (length (x .loop) ∷ (x .prefix ++ x .loop))

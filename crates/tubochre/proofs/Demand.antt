@@ -33,6 +33,7 @@ use Rattle.tubochre.specs.declared.Answer.{Answer}
 use Rattle.tubochre.specs.Demand.{Reached-exactly, Second-demand, Refused-builds, Not-refused, Compared, Third-demand, Demands}
 use Rattle.tubochre.proofs.Answers.{not-refused, lasso-demand}
 use Rattle.tubochre.proofs.Checks.{placed-exactly, check-demand}
+use Rattle.tubochre.proofs.Trays.{tray-demand, third-tray}
 use Rattle.tubochre.proofs.Refusals.{Met, which-refusal, refused-checked, checked-refused, refused-states, states-refused, refused-words, words-refused, refused-none, none-refused, refused-most}
 
 -- THE COMPLEMENT of a pattern that passes is exactly what is reached
@@ -190,7 +191,9 @@ demands {range} fits wider =
       second = second-demand fits;
       refused = refused-builds range;
       lassos = lasso-demand range;
+      trays = tray-demand range;
       third = third-demand range wider;
+      third-tray = third-tray range (third-demand range wider);
     }
 
 -- and for wide tables of 16-bit words

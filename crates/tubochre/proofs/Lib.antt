@@ -3,4 +3,5 @@ pub mod Checks
 pub mod Demand
 pub mod Inside
 pub mod Refusals
+pub mod Trays
 pub mod Trying

@@ -1,13 +1,14 @@
--- What the check and the build refuse, and the second and the third demand, as statements over what the check, the build and the lasso
--- decision answer and leave (docs/RULES.md, "Refusals", "Numbering and result" and "Runs, and what the third demand compares"): of patterns,
--- and of tables of any range in words of any bits.
+-- What the check, the build and a tray refuse, and the second and the third demand, as statements over what the check, the build, the lasso
+-- decision and a tray's call answer and leave (docs/RULES.md, "Refusals", "Numbering and result", "A tray of lassos" and "Runs, and what the
+-- third demand compares"): of patterns, and of tables of any range in words of any bits.
 -- Assumes nothing: these are definitions.
 use mathlib.Core.Path.{_≡_}
 use mathlib.Core.Bool.{true}
 use mathlib.Core.List.{List}
 use mathlib.Core.Logic.{_⊎_, _↔_}
 use Prim.Native.Nat.{ℕ, _^_, _≤_, _<_}
-use lib.ListN.{length, getD}
+use lib.ListN.{length, getD, replicate}
+use Rattle.basics.specs.declared.Written.{Written}
 use Rattle.automata.specs.Automaton.{Accepting-run, Takes, Single-run, Same}
 use Rattle.automata.specs.Lasso.{letter-at, Lasso}
 use Rattle.automata.specs.System.{Member, Reached, Exactly}
@@ -28,6 +29,8 @@ use Rattle.lassos.specs.Decision.{Lasso-says}
 use Rattle.lassos.specs.Refusals.{lasso-refusal}
 use Rattle.lassos.specs.declared.Decision.{Decision}
 use Rattle.lassos.specs.declared.Decision.the-variants.{Taken, NotTaken, Refused}
+use Rattle.trays.specs.Answers.{Tray-says}
+use Rattle.trays.specs.Tray.{Parts, no-lasso, list-of}
 use Rattle.tubochre.specs.Calls.{as-check-answer, Lasso-answers}
 use Rattle.tubochre.specs.declared.Answer.{Answer}
 use Rattle.tubochre.specs.declared.CheckAnswer.{CheckAnswer}
@@ -138,6 +141,41 @@ unfoldable pub Lasso-demand : Limits → Type 0
 Lasso-demand range =
     (t u v : List ℕ) (d : Decision) (w w-now : List ℕ) → Lasso-says range t u v d w w-now → Decided-exactly range t u v d (length w)
 
+-- A TRAY. What the byte of a lasso says, of a table that is not refused
+pub record Byte-exactly (range : Limits) (t : List ℕ) (x : Parts) (byte work : ℕ) : Type 0 where
+  -- 13 to 16: the first of them that is met, and there is no other
+  pub refused : (number : ℕ) → 2 ≤ number → (byte ≡ number) ↔ (lasso-refusal range t (x .prefix) (x .loop) work ≡ number)
+  -- 1 exactly if none is met and there is an accepting run, and 0 exactly if none is met and there is none
+  pub taken : (byte ≡ 1) ↔ ((lasso-refusal range t (x .prefix) (x .loop) work ≡ 0) × Takes (meaning t) (letter-at (x .prefix) (x .loop)))
+  pub not-taken :
+      (byte ≡ 0) ↔ ((lasso-refusal range t (x .prefix) (x .loop) work ≡ 0) × (Takes (meaning t) (letter-at (x .prefix) (x .loop)) → ⊥))
+
+-- what a tray's call answers on a table t and a list s, with so many bytes and work words, and the bytes that it leaves
+pub record Tray-exactly (range : Limits) (t s : List ℕ) (r : Written) (bytes work : ℕ) (left : List ℕ) : Type 0 where
+  -- 17: no lassos make up the list; 18: lassos do, and they are not as many as the bytes
+  pub cut : (r .number ≡ 17) ↔ ((xs : List Parts) → s ≡ list-of xs → ⊥)
+  pub miscounted : (r .number ≡ 18) ↔ ((xs : List Parts) × (s ≡ list-of xs) × (length xs ≡ bytes → ⊥))
+  -- then the table: 2 to 9 are its own, 0 where it is not refused, and there is no other number
+  pub table :
+      (k : ℕ) → k ≤ 9 →
+      (r .number ≡ k) ↔ ((xs : List Parts) × (s ≡ list-of xs) × (length xs ≡ bytes) × (table-refusal range t ≡ k))
+  pub no-other : (r .number ≤ 9) ⊎ ((r .number ≡ 17) ⊎ (r .number ≡ 18))
+  -- an accepted call answers how many bytes it wrote, a refused one none
+  pub count : r .number ≡ 0 → r .count ≡ bytes
+  pub no-count : (r .number ≡ 0 → ⊥) → r .count ≡ 0
+  -- the bytes: zero after 17 and 18, the table's number in each after a refusal of the table, and else what is said of the lasso there
+  pub list-bytes : 17 ≤ r .number → left ≡ replicate bytes 0
+  pub table-bytes : 1 ≤ r .number → r .number ≤ 9 → left ≡ replicate bytes (r .number)
+  pub lasso-bytes :
+      r .number ≡ 0 → (xs : List Parts) → s ≡ list-of xs → (i : ℕ) → i < length xs →
+      Byte-exactly range t (getD xs i no-lasso) (getD left i 0) work
+
+-- whatever a tray's call answers and leaves
+unfoldable pub Tray-demand : Limits → Type 0
+Tray-demand range =
+    (t s : List ℕ) (r : Written) (a a-now w w-now : List ℕ) → Tray-says range t s r a a-now w w-now →
+    Tray-exactly range t s r (length a) (length w) a-now
+
 -- THE THIRD DEMAND. A decision that does not refuse
 unfoldable pub Not-refused : Decision → Type 0
 Not-refused d = (number : ℕ) → d ≡ Refused number → ⊥
@@ -177,6 +215,23 @@ Third-demand range =
     answer ≡ checked t → answer ≡ Passed → Build-says range t r before after → r .number ≡ 0 →
     Lasso (k-of t) u v → Compared range t (used r (after .words)) u v (r .states)
 
+-- THE THIRD DEMAND, of a tray. The bytes of a lasso on a pattern t and on the words c left of its complement: opposite, 1 for exactly the
+-- one that takes it
+pub data Opposite (t c : List ℕ) (x : Parts) (first second : ℕ) : Type 0 where
+  by-pattern : Takes (meaning t) (letter-at (x .prefix) (x .loop)) → first ≡ 1 → second ≡ 0 → Opposite t c x first second
+  by-complement : Takes (meaning c) (letter-at (x .prefix) (x .loop)) → first ≡ 0 → second ≡ 1 → Opposite t c x first second
+
+-- whatever pattern passes the check, whatever room its complement is built in without refusal, and whatever list is tried on both without
+-- refusal: at each place where both bytes are 0 or 1
+unfoldable pub Third-tray : Limits → Type 0
+Third-tray range =
+    (t : List ℕ) (answer : Checked) (r : Counts) (before after : Lent) → answer ≡ checked t → answer ≡ Passed →
+    Build-says range t r before after → r .number ≡ 0 →
+    (s : List ℕ) (p q : Written) (a a-now w w-now b b-now z z-now : List ℕ) → Tray-says range t s p a a-now w w-now →
+    Tray-says range (used r (after .words)) s q b b-now z z-now → p .number ≡ 0 → q .number ≡ 0 →
+    (xs : List Parts) → s ≡ list-of xs → (i : ℕ) → i < length xs → getD a-now i 0 ≤ 1 → getD b-now i 0 ≤ 1 →
+    Opposite t (used r (after .words)) (getD xs i no-lasso) (getD a-now i 0) (getD b-now i 0)
+
 -- ALL OF THEM, for tables of a range in words of so many bits
 pub record Demands (bits : ℕ) (range : Limits) : Type 0 where
   -- of patterns alone
@@ -185,4 +240,6 @@ pub record Demands (bits : ℕ) (range : Limits) : Type 0 where
   pub second : Second-demand bits range
   pub refused : Refused-builds range
   pub lassos : Lasso-demand range
+  pub trays : Tray-demand range
   pub third : Third-demand range
+  pub third-tray : Third-tray range

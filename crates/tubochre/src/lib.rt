@@ -1,4 +1,5 @@
 // The calls for C, and one call that tries a lasso on a pattern and on its complement.
+use basics::Written;
 use complement::Counts;
 use lassos::Decision;
 use patterns::Checked;
@@ -9,6 +10,7 @@ ghost use mathlib.Core.Path.{_≡_};
 ghost use Rattle.patterns.specs.Check.{checked};
 ghost use Rattle.tables.specs.Table.{wide-range};
 ghost use Rattle.complement.specs.Build.{lent, Build-says};
+ghost use Rattle.trays.specs.Answers.{Tray-says};
 ghost use Rattle.tubochre.specs.Calls.{as-check-answer, as-answer, Lasso-answers};
 ghost use Rattle.tubochre.specs.Trying.{Used-inside, Decided-built, Trial-says};
 
@@ -69,6 +71,19 @@ pub extern "C" fn tubochre_lasso(
     ensures { λ r. ⌜ Lasso-answers wide-range (now (table .entry)) (now (prefix .entry)) (now (cycle .entry)) r (now (work .entry)) (now (work .exit)) ⌝ }
 {
     in_numbers(lassos::decide_lasso(table, prefix, cycle, work))
+}
+
+// A byte for each lasso of a list: whether a table takes it.
+#[no_mangle]
+pub extern "C" fn tubochre_tray(
+    table: &[u16],
+    list: &[u16],
+    answers: &mut [u8],
+    work: &mut [u32],
+) -> Written
+    ensures { λ r. ⌜ Tray-says wide-range (now (table .entry)) (now (list .entry)) r (now (answers .entry)) (now (answers .exit)) (now (work .entry)) (now (work .exit)) ⌝ }
+{
+    trays::decide_tray(table, list, answers, work)
 }
 
 fn in_numbers(decision: Decision) -> Answer

@@ -1,0 +1,253 @@
+-- What the answer of a tray's call says: each refusal comes in its case and in no other, how many bytes are written, and what each byte
+-- says of its lasso. Assumes nothing.
+use mathlib.Core.Path.{_≡_, refl, sym, ap, _∙_}
+use mathlib.Core.List.{List, [], _∷_, map}
+use mathlib.Core.Logic.{_⊎_, inl, inr, _↔_}
+use Prim.Native.Nat.{ℕ, zero, suc, _≤_, _<_}
+use native.Mathlib.Omega.{arith}
+use lib.Dec.{eqb}
+use lib.ListN.{length, getD, replicate}
+use Rattle.basics.specs.Buffers.{or-else, as-written, zeros}
+use Rattle.basics.specs.declared.Written.{Written}
+use Rattle.basics.proofs.Booleans.{same-or, eq-eqb, ne-eqb}
+use Rattle.basics.proofs.Lists.{getD-map}
+use Rattle.tables.specs.Table.{Limits, n-of, k-of, table-refusal}
+use Rattle.tables.proofs.Refusals.{table-most}
+use Rattle.lassos.specs.Decision.{decision, Lasso-says}
+use Rattle.lassos.specs.Refusals.{parts-refusal, lasso-refusal}
+use Rattle.lassos.specs.declared.Decision.{Decision}
+use Rattle.lassos.specs.declared.Decision.the-variants.{Taken, NotTaken, Refused}
+use Rattle.lassos.proofs.Answers.{says-refused}
+use Rattle.lassos.proofs.Decides.{decided-refused}
+use Rattle.lassos.proofs.Parts.{parts-least, table-first}
+use Rattle.trays.specs.Answers.{list-refusal, tray-refusal, as-byte, byte-of, tray-bytes, Tray-says}
+use Rattle.trays.specs.Tray.{Parts, Tray, no-lasso, list-of, tray}
+use Rattle.trays.proofs.Reading.{tray-of-list, ends-exactly}
+use Rattle.trays.proofs.Refusals.{list-17, list-18, list-passes, list-fits}
+use Rattle.trays.proofs.Walking.{empty-list}
+
+-- THE LISTS that lassos make up
+made-of : {s : List ℕ} (xs : List Parts) → s ≡ list-of xs → tray s ≡ record { lassos = xs; left = [] }
+made-of xs e = ap tray e ∙ tray-of-list xs
+
+-- a list is cut short, or made of lassos: not as many as the bytes, or as many
+data List-case (s : List ℕ) (b : ℕ) : Type 0 where
+  cut : list-refusal s b ≡ 17 → ((xs : List Parts) → s ≡ list-of xs → ⊥) → List-case s b
+  miscounted : list-refusal s b ≡ 18 → (xs : List Parts) → s ≡ list-of xs → (length xs ≡ b → ⊥) → List-case s b
+  fits : list-refusal s b ≡ 0 → (xs : List Parts) → s ≡ list-of xs → length xs ≡ b → List-case s b
+
+list-case : (s : List ℕ) (b : ℕ) → List-case s b
+list-case s b =
+    elim (same-or (length (tray s .left)) 0) [
+      | inr some ↦
+          cut (sym (list-17 s b some)) (λ xs e. some (ap (λ (y : Tray). length (y .left)) (made-of xs e)))
+      | inl exact ↦
+          let made : s ≡ list-of (tray s .lassos) =
+          (let ends = ends-exactly s .0 (empty-list (tray s .left) exact) in
+          ends .1 ∙ ap list-of (sym (ap (λ (y : Tray). y .lassos) (made-of (ends .0) (ends .1))))) in
+          elim (same-or (length (tray s .lassos)) b) [
+            | inl same ↦ fits (sym (list-passes s b exact refl same)) (tray s .lassos) made same
+            | inr other ↦ miscounted (sym (list-18 s b exact refl other)) (tray s .lassos) made other
+          ]
+    ]
+
+-- lassos that make up one list are one list of lassos
+same-count : {s : List ℕ} (xs ys : List Parts) → s ≡ list-of xs → s ≡ list-of ys → length xs ≡ length ys
+same-count xs ys e f = ap (λ (y : Tray). length (y .lassos)) (sym (made-of xs e) ∙ made-of ys f)
+
+list-passed : (s : List ℕ) (b : ℕ) (xs : List Parts) → s ≡ list-of xs → length xs ≡ b → list-refusal s b ≡ 0
+list-passed s b xs made count =
+    let lassos = made-of xs made in
+    sym
+    (list-passes s b (ap (λ (y : Tray). length (y .left)) lassos) refl (ap (λ (y : Tray). length (y .lassos)) lassos ∙ count))
+
+-- THE NUMBERS, each in its case
+module _ (range : Limits) (t s : List ℕ) (b : ℕ) where
+  by-list : (list-refusal s b ≡ 0 → ⊥) → tray-refusal range t s b ≡ list-refusal s b
+  unfolding tray-refusal or-else
+  by-list met = rw (ne-eqb (list-refusal s b) 0 met)
+
+  by-table : list-refusal s b ≡ 0 → tray-refusal range t s b ≡ table-refusal range t
+  unfolding tray-refusal or-else
+  by-table none = rw (eq-eqb none)
+
+  -- where the list passes, the number is the table's
+  few-numbers : list-refusal s b ≡ 0 → tray-refusal range t s b ≤ 9
+  few-numbers none = let most = table-most range t in rw (by-table none) most
+
+  pub cut-right : (tray-refusal range t s b ≡ 17) ↔ ((xs : List Parts) → s ≡ list-of xs → ⊥)
+  cut-right =
+      elim (list-case s b) [
+        | cut e none ↦ ((λ h. none), λ h. by-list (omega arith) ∙ e)
+        | miscounted e xs made other ↦
+            ((λ h. absurd (let n = by-list (omega arith) in omega arith)), λ h. absurd (h xs made))
+        | fits e xs made same ↦ ((λ h. absurd (let n = few-numbers e in omega arith)), λ h. absurd (h xs made))
+      ]
+
+  pub miscounted-right : (tray-refusal range t s b ≡ 18) ↔ ((xs : List Parts) × (s ≡ list-of xs) × (length xs ≡ b → ⊥))
+  miscounted-right =
+      elim (list-case s b) [
+        | cut e none ↦ ((λ h. absurd (let n = by-list (omega arith) in omega arith)), λ h. absurd (none (h .0) (h .1)))
+        | miscounted e xs made other ↦ ((λ h. (xs, made, other)), λ h. by-list (omega arith) ∙ e)
+        | fits e xs made same ↦ (
+          (λ h. absurd (let n = few-numbers e in omega arith)),
+          λ h. absurd (h .2 (same-count (h .0) xs (h .1) made ∙ same)),
+        )
+      ]
+
+  -- what the table decides: the list is made of as many lassos as there are bytes
+  pub table-right :
+      (k : ℕ) → k ≤ 9 →
+      (tray-refusal range t s b ≡ k) ↔ ((xs : List Parts) × (s ≡ list-of xs) × (length xs ≡ b) × (table-refusal range t ≡ k))
+  table-right k few =
+      elim (list-case s b) [
+        | cut e none ↦ ((λ h. absurd (let n = by-list (omega arith) in omega arith)), λ h. absurd (none (h .0) (h .1)))
+        | miscounted e xs made other ↦ (
+          (λ h. absurd (let n = by-list (omega arith) in omega arith)),
+          λ h. absurd (other (same-count xs (h .0) made (h .1) ∙ h .2)),
+        )
+        | fits e xs made same ↦ ((λ h. (xs, made, same, sym (by-table e) ∙ h)), λ h. by-table e ∙ h .3)
+      ]
+
+  pub no-other-number : (tray-refusal range t s b ≤ 9) ⊎ ((tray-refusal range t s b ≡ 17) ⊎ (tray-refusal range t s b ≡ 18))
+  no-other-number =
+      elim (list-case s b) [
+        | cut e none ↦ inr (inl (by-list (omega arith) ∙ e))
+        | miscounted e xs made other ↦ inr (inr (by-list (omega arith) ∙ e))
+        | fits e xs made same ↦ inl (few-numbers e)
+      ]
+
+-- WHAT A CALL ANSWERS AND LEAVES
+as-number : (number count : ℕ) → as-written number count .number ≡ number
+unfolding as-written
+as-number zero count = refl
+as-number (suc r) count = refl
+
+as-count : (number count : ℕ) → number ≡ 0 → as-written number count .count ≡ count
+unfolding as-written
+as-count zero count e = refl
+as-count (suc r) count e = absurd (omega arith)
+
+as-none : (number count : ℕ) → (number ≡ 0 → ⊥) → as-written number count .count ≡ 0
+unfolding as-written
+as-none zero count ne = absurd (ne refl)
+as-none (suc r) count ne = refl
+
+module _
+    {range : Limits} {t s : List ℕ} {r : Written} {a a-now w w-now : List ℕ} (says : Tray-says range t s r a a-now w w-now) where
+  abbrev met : ℕ
+  met = tray-refusal range t s (length a)
+
+  pub says-number : r .number ≡ met
+  says-number = ap (λ (x : Written). x .number) (says .answer) ∙ as-number met (length (tray s .lassos))
+
+  -- an accepted call answers how many bytes it wrote, which is all that were lent; a refused one answers none
+  pub says-count : r .number ≡ 0 → r .count ≡ length a
+  says-count none =
+      let passed : met ≡ 0 = sym says-number ∙ none in
+      let (xs, made, count, table) = table-right range t s (length a) 0 (omega arith) .0 passed in
+      let lassos : length (tray s .lassos) ≡ length xs = ap (λ (y : Tray). length (y .lassos)) (made-of xs made) in
+      ap (λ (x : Written). x .count) (says .answer) ∙ (as-count met (length (tray s .lassos)) passed ∙ (lassos ∙ count))
+
+  pub says-none : (r .number ≡ 0 → ⊥) → r .count ≡ 0
+  says-none ne =
+      ap (λ (x : Written). x .count) (says .answer) ∙ as-none met (length (tray s .lassos)) (λ z. ne (says-number ∙ z))
+
+  -- after 17 and 18 all bytes are zero
+  pub says-list : 17 ≤ r .number → a-now ≡ replicate (length a) 0
+  unfolding tray-bytes zeros
+  says-list far =
+      let number = says-number in
+      elim (same-or (list-refusal s (length a)) 0) [
+        | inl passed ↦ absurd (let few = few-numbers range t s (length a) passed in omega arith)
+        | inr other ↦ says .bytes ∙ rw (ne-eqb (list-refusal s (length a)) 0 other)
+      ]
+
+  -- after a refusal of the table each is its number
+  pub says-table : 1 ≤ r .number → r .number ≤ 9 → a-now ≡ replicate (length a) (r .number)
+  unfolding tray-bytes
+  says-table some few =
+      let number = says-number in
+      let (xs, made, count, table) = table-right range t s (length a) (r .number) few .0 (sym number) in
+      let passed = list-passed s (length a) xs made count in
+      says .bytes ∙ rw (eq-eqb passed, ne-eqb (table-refusal range t) 0 (omega arith), table)
+
+  -- of an accepted call, the byte at a place is that of the lasso there
+  pub says-byte :
+      r .number ≡ 0 → (xs : List Parts) → s ≡ list-of xs → (i : ℕ) → i < length xs →
+      getD a-now i 0 ≡ byte-of range t (length w) (getD xs i no-lasso)
+  unfolding tray-bytes
+  says-byte none xs made i l =
+      let passed : met ≡ 0 = sym says-number ∙ none in
+      let (ys, made′, count, table) = table-right range t s (length a) 0 (omega arith) .0 passed in
+      let listed = list-passed s (length a) ys made′ count in
+      let lassos : tray s .lassos ≡ xs = ap (λ (y : Tray). y .lassos) (made-of xs made) in
+      let bytes : a-now ≡ map (byte-of range t (length w)) xs = says .bytes ∙ rw (eq-eqb listed, eq-eqb table, lassos) in
+      ap (λ (x : List ℕ). getD x i 0) bytes ∙ getD-map (byte-of range t (length w)) xs no-lasso 0 i l
+
+-- EACH BYTE IS THE SINGLE CALL'S: also where the table is refused, since a single call then answers its number
+table-byte :
+    (range : Limits) (t : List ℕ) (w : ℕ) → (table-refusal range t ≡ 0 → ⊥) → (x : Parts) → table-refusal range t ≡ byte-of range t w x
+unfolding byte-of as-byte
+table-byte range t w met x =
+    ap as-byte
+    (decided-refused range t (x .prefix) (x .loop) w (table-first range t (x .prefix) (x .loop) w refl met) met)
+
+all-same : (f : Parts → ℕ) (n : ℕ) → ((x : Parts) → n ≡ f x) → (xs : List Parts) → replicate (length xs) n ≡ map f xs
+all-same f n h [] = refl
+all-same f n h (x ∷ xs) = ap (λ (m : ℕ). m ∷ replicate (length xs) n) (h x) ∙ ap (λ (ms : List ℕ). f x ∷ ms) (all-same f n h xs)
+
+pub bytes-single :
+    (range : Limits) (t s a : List ℕ) (w : ℕ) → list-refusal s (length a) ≡ 0 → tray-bytes range t s a w ≡ map (byte-of range t w) (tray s .lassos)
+unfolding tray-bytes
+bytes-single range t s a w fine =
+    let count = list-fits s (length a) fine .counted in
+    elim (same-or (table-refusal range t) 0) [
+      | inl none ↦ rw (eq-eqb fine, eq-eqb none)
+      | inr met ↦
+          rw (eq-eqb fine, ne-eqb (table-refusal range t) 0 met, ← count)
+          (all-same (byte-of range t w) (table-refusal range t) (table-byte range t w met) (tray s .lassos))
+    ]
+
+-- A BYTE TELLS which decision it stands for, if no refusal's number is 0 or 1
+pub record Tells (d : Decision) : Type 0 where
+  pub taken : (as-byte d ≡ 1) ↔ (d ≡ Taken)
+  pub not-taken : (as-byte d ≡ 0) ↔ (d ≡ NotTaken)
+  pub refused : (number : ℕ) → 2 ≤ number → (as-byte d ≡ number) ↔ (d ≡ Refused number)
+
+byte-tells : (d : Decision) → ((number : ℕ) → d ≡ Refused number → 2 ≤ number) → Tells d
+unfolding as-byte
+byte-tells Taken most =
+    record {
+      taken = ((λ h. refl), λ h. refl);
+      not-taken = ((λ h. absurd (omega arith)), λ h. absurd (let z : _≡_ {A = ℕ} 0 1 = cc in omega arith));
+      refused = λ n two. ((λ h. absurd (omega arith)), λ h. absurd (let z : _≡_ {A = ℕ} 0 1 = cc in omega arith));
+    }
+byte-tells NotTaken most =
+    record {
+      taken = ((λ h. absurd (omega arith)), λ h. absurd (let z : _≡_ {A = ℕ} 0 1 = cc in omega arith));
+      not-taken = ((λ h. refl), λ h. refl);
+      refused = λ n two. ((λ h. absurd (omega arith)), λ h. absurd (let z : _≡_ {A = ℕ} 0 1 = cc in omega arith));
+    }
+byte-tells (Refused r) most =
+    let two = most r refl in
+    record {
+      taken = ((λ h. absurd (omega arith)), λ h. absurd (let z : _≡_ {A = ℕ} 0 1 = cc in omega arith));
+      not-taken = ((λ h. absurd (omega arith)), λ h. absurd (let z : _≡_ {A = ℕ} 0 1 = cc in omega arith));
+      refused = λ n two. ((λ h. ap Refused h), λ h. cc);
+    }
+
+-- on a table that has passed its check each byte tells its decision
+pub tells-decision :
+    (range : Limits) (t u v w : List ℕ) → table-refusal range t ≡ 0 → Tells (decision range t u v (length w))
+unfolding lasso-refusal or-else
+tells-decision range t u v w valid =
+    byte-tells (decision range t u v (length w))
+    (λ number refused.
+    let says : Lasso-says range t u v (decision range t u v (length w)) w (zeros w) = record { answer = refl; work = refl } in
+    let (same, some) = says-refused says number .0 refused in
+    let own : lasso-refusal range t u v (length w) ≡ parts-refusal (n-of t) (k-of t) u v (length w) = rw (eq-eqb valid) in
+    elim (parts-least (n-of t) (k-of t) u v (length w)) [
+      | inl none ↦ absurd (omega arith)
+      | inr least ↦ omega arith
+    ])
