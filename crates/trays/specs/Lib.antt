@@ -1,3 +1,4 @@
 pub mod Answers
+pub mod Rows
 pub mod Steps
 pub mod Tray

@@ -99,13 +99,13 @@ fn decide_each(table: &[u16], list: &[u16], answers: &mut [u8], work: &mut [u32]
 {
     let mut letters = [0u8; LASSO_LETTERS];
     let mut at = 0;
-    let mut i = 0;
-    while i < answers.len() {
+    let mut filled = 0;
+    while filled < answers.len() {
         let end = lasso_end(list, at);
         let prefix = list[at] as usize;
-        answers[i] = lasso_byte(table, &list[at + 2..end], prefix, &mut letters, work);
+        answers[filled] = lasso_byte(table, &list[at + 2..end], prefix, &mut letters, work);
         at = end;
-        i += 1;
+        filled += 1;
     }
 }
 

@@ -13,11 +13,11 @@ use Rattle.trays.proofs.decide_each.Statement.{statement}
 use Rattle.trays.proofs.decide_each.Tie as tie
 
 abbrev Inv-loop : tie.InvT-loop
-Inv-loop table list answers₀ work₀ letters₀ at₀ i₀ answers work letters at i =
-    Deciding (byte-of wide-range table (length work₀)) list answers₀ (length work₀) answers work letters at i
+Inv-loop table list answers₀ work₀ letters₀ at₀ filled₀ answers work letters at filled =
+    Deciding (byte-of wide-range table (length work₀)) list answers₀ (length work₀) answers work letters at filled
 
 abbrev μ-loop : tie.MeasureT-loop
-μ-loop table list answers₀ work₀ letters₀ at₀ i₀ answers work letters at i = length answers₀ - i
+μ-loop table list answers₀ work₀ letters₀ at₀ filled₀ answers work letters at filled = length answers₀ - filled
 
 loop-holds : tie.Need-loop-holds Inv-loop μ-loop
 loop-holds c =
@@ -37,7 +37,7 @@ module _ (c : tie.After-lasso-end Inv-loop μ-loop) where
   abbrev turn : tie.At-loop Inv-loop μ-loop
   turn = search
 
-  more : turn .loop .i < length (turn .loop .answers)
+  more : turn .loop .filled < length (turn .loop .answers)
   more = let inside-loop : tie.In-loop Inv-loop μ-loop = search in inside-loop .loop-test .taken
 
   begins : turn .loop .at + 1 < length (now (start .args .list))
@@ -91,8 +91,8 @@ lasso-byte-requires c κs =
 slice-write-answers : tie.Need-slice-write-answers Inv-loop μ-loop
 slice-write-answers c = let ended : tie.After-lasso-end Inv-loop μ-loop = search in more ended
 
-add-i : tie.Need-add-i Inv-loop μ-loop
-add-i c = let ended : tie.After-lasso-end Inv-loop μ-loop = search in omega (arith, more ended)
+add-filled : tie.Need-add-filled Inv-loop μ-loop
+add-filled c = let ended : tie.After-lasso-end Inv-loop μ-loop = search in omega (arith, more ended)
 
 loop-less : tie.Need-loop-less Inv-loop μ-loop
 loop-less c =
@@ -136,7 +136,7 @@ decide-each-spec =
     slice-aggregate-lasso-byte
     lasso-byte-requires
     slice-write-answers
-    add-i
+    add-filled
     loop-less
     loop-again
     same-length
