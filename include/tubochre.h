@@ -14,6 +14,13 @@
  * table. A lasso is a prefix and a loop of letters; it stands for the word that reads the prefix once and then the
  * loop for ever. RULES.md (docs, and share/doc/tubochre where installed) has all rules.
  *
+ * A list holds the lassos of a tray as 16-bit words, one lasso behind the other without anything between them:
+ *
+ *     prefix length, loop length, the letters of the prefix, the letters of the loop
+ *
+ * So the lassos "nothing, then 0 for ever" and "1 1, then 0 1 for ever" are the list {0, 1, 0, 2, 2, 1, 1, 0, 1}. An
+ * empty list holds none.
+ *
  * What the caller sees to:
  *
  *   - A buffer is a pointer and the number of its elements (not bytes), aligned as C asks for its element type (2 bytes
@@ -25,7 +32,7 @@
  * What every call keeps to, for every content of its buffers:
  *
  *   - It returns. It reads and writes nothing outside the lent buffers, and holds no pointer after it has returned.
- *   - Tables, prefixes and loops are only read. Nothing is assumed of what the written buffers hold before.
+ *   - Tables, prefixes, loops and lists are only read. Nothing is assumed of what the written buffers hold before.
  *   - All of a written buffer is written, however much of it is used: what is lent beyond the need costs its clearing.
  *   - It has no state from call to call, no global variables, and allocates nothing, so any number of threads may call
  *     at the same time, each with written buffers of its own.
@@ -39,6 +46,9 @@
  *   - A decision: tubochre_work_words(n, prefix_len, loop_len) work words, which is 4 n (prefix_len + loop_len). For
  *     the largest table and the longest lasso that is TUBOCHRE_WORK_WORDS_MOST words, 8.6 GB; a pattern needs at most
  *     1,048,576 words, 4.2 MB.
+ *   - A tray: tubochre_list_lassos(list, list_len) bytes, no more and no fewer, and
+ *     tubochre_tray_work_words(n, list, list_len) work words: what its dearest lasso needs, since the lassos use the
+ *     same words in turn.
  *
  * What a call costs:
  *
@@ -48,6 +58,8 @@
  *     half a second. 11 comes as soon as there are too many states, 12 only when all states are known.
  *   - A decision: time that grows with records times (prefix_len + loop_len), at most; it may find its answer early.
  *     Then all work words are cleared, those beyond the need too, and also where it refuses.
+ *   - A tray: one check of the table and one clearing of the work words for all of it, and for each lasso what its
+ *     search costs. A decision checks and clears for each lasso, which is most of its time where searches are short.
  *
  * The calls are proved against contracts that say the same. This header, the programs that call, and the compiler's
  * back end are outside those proofs. The header is C99 and C++11; the archives are for x86-64 Linux.
@@ -60,7 +72,7 @@
 
 /* The version of this header, of the archives and of the programs. */
 #define TUBOCHRE_VERSION_MAJOR 0
-#define TUBOCHRE_VERSION_MINOR 2
+#define TUBOCHRE_VERSION_MINOR 3
 #define TUBOCHRE_VERSION_PATCH 0
 #define TUBOCHRE_VERSION_TEXT(major, minor, patch) #major "." #minor "." #patch
 #define TUBOCHRE_VERSION_OF(major, minor, patch) TUBOCHRE_VERSION_TEXT(major, minor, patch)
@@ -72,7 +84,8 @@ extern "C" {
 
 /* Why a call refuses. The tests are made in this order, each over all of the table before the next one starts, and the
  * answer is the first that fails. The check gives 2 to 10, the build 2 to 12, the lasso decision 2 to 9 (in the wide
- * range, where 5 cannot occur) and 13 to 16. Refusal 10 of the check and of the build comes with a place. */
+ * range, where 5 cannot occur) and 13 to 16. A tray gives 17 and 18 first, and then 2 to 9 in the wide range; 13 to 16
+ * are bytes of its lassos there and refuse no tray. Refusal 10 of the check and of the build comes with a place. */
 enum tubochre_refusal {
     TUBOCHRE_OK = 0,           /* not refused */
     TUBOCHRE_TEXT = 1,         /* only programs that read text: not decimal words from 0 to 65,535, or too many */
@@ -91,7 +104,9 @@ enum tubochre_refusal {
     TUBOCHRE_LOOP_EMPTY = 13,  /* the loop is empty */
     TUBOCHRE_LASSO_LONG = 14,  /* the prefix or the loop is longer than 4,096 */
     TUBOCHRE_LETTER = 15,      /* a letter of the prefix or the loop is k or more */
-    TUBOCHRE_WORK = 16         /* the work words are fewer than 4 n (prefix length + loop length) */
+    TUBOCHRE_WORK = 16,        /* the work words are fewer than 4 n (prefix length + loop length) */
+    TUBOCHRE_LIST = 17,        /* the list does not end exactly at a lasso's end: words are missing or left over */
+    TUBOCHRE_BYTES = 18        /* the answer bytes are not as many as the list's lassos */
 };
 
 /* The largest tables and lassos, and what a build stores for a state. */
@@ -108,7 +123,7 @@ enum tubochre_limit {
     TUBOCHRE_WORK_WORDS_MOST = 2147450880 /* 4 * 65,535 * (4,096 + 4,096): the largest table, the longest lasso */
 };
 
-/* What a lasso decision says of a lasso that it does not refuse: a truth value. */
+/* What a lasso decision, or a byte of a tray, says of a lasso that it does not refuse: a truth value. */
 enum tubochre_taken { TUBOCHRE_NOT_TAKEN = 0, TUBOCHRE_TAKEN = 1 };
 
 /* Where a pattern forks: the smallest state, accepting or reached from an accepting one by edges, that has two targets
@@ -137,6 +152,13 @@ struct tubochre_decision {
     uint32_t number, taken;
 };
 
+/* What a call answers that writes items and is no build: number 0 and how many items it wrote, or the number of the
+ * refusal and count 0. An accepted call may write no items: only number tells a refusal. */
+struct tubochre_written {
+    uint32_t number;
+    uint64_t count;
+};
+
 /* Checks a pattern: number 0 if it passes, otherwise which of 2 to 10 refuses it, and with 10 the place. */
 struct tubochre_checked tubochre_check(const uint16_t *table, size_t table_len);
 
@@ -160,6 +182,21 @@ struct tubochre_counts tubochre_build(const uint16_t *table, size_t table_len, u
 struct tubochre_decision tubochre_lasso(const uint16_t *table, size_t table_len, const uint8_t *prefix,
                                         size_t prefix_len, const uint8_t *loop, size_t loop_len, uint32_t *work,
                                         size_t work_len);
+
+/* Tries all lassos of a list on one wide table, and answers how many there are. Each gets the answer byte that has its
+ * place in the list: 1 taken, 0 not taken, or which of 13 to 16 refuses it, all as a decision with the same work words
+ * would say. So 16 is measured for each lasso against all work words, 13 comes before 14, and letters are looked at of
+ * those lassos alone that pass both. A letter word above 255 is a letter of k or more. A lasso that is refused refuses
+ * no other lasso and not the call.
+ *
+ * The call is refused by 17, then by 18, then by 2 to 9. After 17 and 18 all bytes are zero; after 2 to 9 each of them
+ * is that number, and a tray without lassos is refused all the same. All work words are zero after every call, refused
+ * or not.
+ *
+ * Of a pattern that passes the check and the used part of its complement's words, one says 1 and the other 0 wherever
+ * neither byte is a refusal. */
+struct tubochre_written tubochre_tray(const uint16_t *table, size_t table_len, const uint16_t *list, size_t list_len,
+                                      uint8_t *answers, size_t answers_len, uint32_t *work, size_t work_len);
 
 /* One state of a complement: its four sets of pattern states, in which state q adds 2^q. They have the paper's names:
  * include this header before any macro of such a name. */
@@ -193,6 +230,8 @@ static inline const char *tubochre_refusal_text(uint32_t number)
         "the prefix or the loop is longer than 4096 letters",
         "a letter of the prefix or the loop is none of the table's letters",
         "fewer work words are lent than 4 * states * (prefix length + loop length)",
+        "the list does not end exactly at a lasso's end",
+        "the answer bytes are not as many as the list's lassos",
     };
     return number < sizeof text / sizeof text[0] ? text[number] : "there is no refusal of that number";
 }
@@ -213,6 +252,50 @@ static inline size_t tubochre_sets_words(uint32_t states)
 static inline size_t tubochre_work_words(uint32_t states, size_t prefix_len, size_t loop_len)
 {
     return 4 * (size_t)states * (prefix_len + loop_len);
+}
+
+/* The words that a lasso takes in a list; each part has at most 65,535 letters there, for its length is a word. */
+static inline size_t tubochre_lasso_words(size_t prefix_len, size_t loop_len)
+{
+    return 2 + prefix_len + loop_len;
+}
+
+/* Where the lasso ends that begins at word `at` of a list, at most list_len: the next one begins there, or the list
+ * ends. 0 where the list ends before the lasso does, or there is none. Any words may be the list. */
+static inline size_t tubochre_lasso_end(const uint16_t *list, size_t list_len, size_t at)
+{
+    const size_t left = list_len - at;
+    size_t words;
+    if (left < 2)
+        return 0;
+    words = tubochre_lasso_words(list[at], list[at + 1]);
+    return words <= left ? at + words : 0;
+}
+
+/* How many lassos a list holds: the answer bytes to lend. Of a list that tubochre_tray refuses by 17 those are counted
+ * that are whole, up to where it is cut. */
+static inline size_t tubochre_list_lassos(const uint16_t *list, size_t list_len)
+{
+    size_t count = 0, at;
+    for (at = tubochre_lasso_end(list, list_len, 0); at != 0; at = tubochre_lasso_end(list, list_len, at))
+        count++;
+    return count;
+}
+
+/* The work words to lend for a tray on a table of so many states, so that 16 refuses none of the list's lassos: the
+ * most that one of them needs, of those that 13 and 14 let pass. */
+static inline size_t tubochre_tray_work_words(uint32_t states, const uint16_t *list, size_t list_len)
+{
+    size_t most = 0, at = 0, end;
+    for (end = tubochre_lasso_end(list, list_len, 0); end != 0; end = tubochre_lasso_end(list, list_len, at)) {
+        const size_t prefix_len = list[at], loop_len = list[at + 1];
+        const size_t need = tubochre_work_words(states, prefix_len, loop_len);
+        if (loop_len > 0 && prefix_len <= TUBOCHRE_LASSO_PART_MOST && loop_len <= TUBOCHRE_LASSO_PART_MOST &&
+            need > most)
+            most = need;
+        at = end;
+    }
+    return most;
 }
 
 /* A bound on a complement's states, 2^p 3^a 4^r: a counts the accepting states, r the other states that they reach, and

@@ -17,14 +17,18 @@ static void expect(int holds, const char *what)
 static void try_sentences(void)
 {
     uint32_t i, j;
-    for (i = 0; i <= 17; i++) {
+    for (i = 0; i <= 19; i++) {
         const char *const text = tubochre_refusal_text(i);
         expect(text != NULL && strlen(text) > 10, "each refusal has a sentence");
         for (j = 0; j < i; j++)
             expect(strcmp(text, tubochre_refusal_text(j)) != 0, "and one of its own");
     }
-    expect(strcmp(tubochre_refusal_text(17), tubochre_refusal_text(UINT32_MAX)) == 0, "above 16 there is no refusal");
+    expect(strcmp(tubochre_refusal_text(19), tubochre_refusal_text(UINT32_MAX)) == 0, "above 18 there is no refusal");
     expect(strcmp(tubochre_refusal_text(TUBOCHRE_LOOP_EMPTY), "the loop is empty") == 0, "13 is the empty loop");
+    expect(strcmp(tubochre_refusal_text(TUBOCHRE_LIST), "the list does not end exactly at a lasso's end") == 0,
+           "17 is the list's end");
+    expect(strcmp(tubochre_refusal_text(TUBOCHRE_BYTES), "the answer bytes are not as many as the list's lassos") == 0,
+           "18 is the number of bytes");
 }
 
 static void try_sizes(void)
@@ -45,7 +49,53 @@ static void try_sizes(void)
     expect(tubochre_bound(UINT32_MAX, UINT32_MAX, UINT32_MAX) == UINT64_MAX, "nor does the largest");
 }
 
-/* The answers are words in a row, without gaps. That the archives lay them out so, the tests of the calls show. */
+/* Lassos of 0 and 1, 2 and 3, 1 and 0 letters. */
+static const uint16_t list[] = {0, 1, 5, 2, 3, 5, 5, 5, 5, 5, 1, 0, 5};
+
+enum { LIST_LEN = sizeof list / sizeof list[0], FIRST_END = 3, SECOND_END = 10 };
+
+/* The list cut at every place: whole lassos alone count. */
+static void try_cut_list(void)
+{
+    size_t len;
+    for (len = 0; len <= LIST_LEN; len++) {
+        const size_t lassos = (len >= FIRST_END) + (len >= SECOND_END) + (len >= LIST_LEN);
+        const size_t work = len >= SECOND_END ? 4 * 7 * 5 : len >= FIRST_END ? 4 * 7 * 1 : 0;
+        expect(tubochre_list_lassos(list, len) == lassos, "the lassos of a list that is cut");
+        expect(tubochre_tray_work_words(7, list, len) == work, "the work words of a list that is cut");
+        expect(tubochre_lasso_end(list, len, 0) == (len >= FIRST_END ? FIRST_END : 0), "the first lasso's end");
+    }
+    expect(tubochre_lasso_end(list, LIST_LEN, FIRST_END) == SECOND_END, "the second lasso's end");
+    expect(tubochre_lasso_end(list, SECOND_END - 1, FIRST_END) == 0, "the second lasso is cut");
+    expect(tubochre_lasso_end(list, LIST_LEN, SECOND_END) == LIST_LEN, "the third lasso's end");
+    expect(tubochre_lasso_end(list, LIST_LEN, LIST_LEN) == 0, "there is no fourth lasso");
+    expect(tubochre_list_lassos(NULL, 0) == 0 && tubochre_tray_work_words(7, NULL, 0) == 0, "no words at all");
+}
+
+/* A list of one lasso with parts of these lengths. */
+static size_t work_words(size_t prefix_len, size_t loop_len)
+{
+    static uint16_t words[2 + 2 * 65535];
+    words[0] = (uint16_t)prefix_len;
+    words[1] = (uint16_t)loop_len;
+    expect(tubochre_list_lassos(words, tubochre_lasso_words(prefix_len, loop_len)) == 1, "a list of one lasso");
+    expect(tubochre_list_lassos(words, tubochre_lasso_words(prefix_len, loop_len) - 1) == 0, "and one word fewer");
+    return tubochre_tray_work_words(65535, words, tubochre_lasso_words(prefix_len, loop_len));
+}
+
+static void try_lists(void)
+{
+    expect(tubochre_lasso_words(0, 0) == 2 && tubochre_lasso_words(3, 5) == 10, "the words of a lasso in a list");
+    try_cut_list();
+    expect(work_words(0, 1) == tubochre_work_words(65535, 0, 1), "the shortest lasso");
+    expect(work_words(4096, 4096) == TUBOCHRE_WORK_WORDS_MOST, "the longest lasso");
+    expect(work_words(4097, 1) == 0 && work_words(1, 4097) == 0 && work_words(65535, 65535) == 0,
+           "lassos that 14 refuses need no work words");
+    expect(work_words(0, 0) == 0 && work_words(4096, 0) == 0, "nor do those without a loop");
+}
+
+/* The answers have no gaps but one, before a count of 64 bits. That the archives lay them out so, the tests of the
+ * calls show. */
 static void try_layouts(void)
 {
     expect(sizeof(struct tubochre_place) == 8 && offsetof(struct tubochre_place, state) == 0 &&
@@ -61,6 +111,9 @@ static void try_layouts(void)
     expect(sizeof(struct tubochre_decision) == 8 && offsetof(struct tubochre_decision, number) == 0 &&
                offsetof(struct tubochre_decision, taken) == 4,
            "what a decision answers");
+    expect(sizeof(struct tubochre_written) == 16 && offsetof(struct tubochre_written, number) == 0 &&
+               offsetof(struct tubochre_written, count) == 8,
+           "what a tray answers");
     expect(sizeof(struct tubochre_quadruple) == TUBOCHRE_RECORD_WORDS * sizeof(uint32_t), "a record");
 }
 
@@ -76,6 +129,7 @@ int main(void)
     try_version();
     try_sentences();
     try_sizes();
+    try_lists();
     try_layouts();
     puts(failed ? "test_header: FAILED" : "ok: the header\ntest_header: all expectations held");
     return failed;
