@@ -32,6 +32,7 @@ run_tests() {
     "$1/test_rooms"
     "$1/test_limits"
     "$1/test_null"
+    "$1/test_tray"
     "$1/test_records"
     "$1/test_places"
     tests/programs/test_bench.sh "$1/tubochre-bench" "$listing"
@@ -128,8 +129,8 @@ run_tests "$out-sanitized"
 
 if command -v valgrind >/dev/null; then
     say 'the same under valgrind, the comparison shorter'
-    for test in "$out/test_calls" "$out/test_forks" "$out/test_rooms" "$out/test_null" "$out/test_records" \
-        "$out/compare --trials 60"; do
+    for test in "$out/test_calls" "$out/test_forks" "$out/test_rooms" "$out/test_null" "$out/test_tray" \
+        "$out/test_records" "$out/compare --trials 60"; do
         # shellcheck disable=SC2086 # a program and its arguments
         valgrind -q --error-exitcode=1 --leak-check=full $test
     done

@@ -174,3 +174,94 @@ uint32_t decide(const uint16_t *table, size_t len, struct lasso l)
     const struct tubochre_decision d = lent_lasso(table, len, l, work_len);
     return d.number == TUBOCHRE_OK ? d.taken : d.number + 100;
 }
+
+/* ---- Trays. */
+
+/* On a table and a list that lie where they are to lie. */
+static struct tried tray_once(struct tray t, enum fence_side side)
+{
+    const struct fence bytes_fence = fence_make(t.bytes);
+    const struct fence work_fence = fence_make(t.work_len * sizeof(uint32_t));
+    uint8_t *const bytes = spoilt(&bytes_fence, t.bytes, side);
+    uint32_t *const work = spoilt(&work_fence, t.work_len * sizeof *work, side);
+    struct tried tried;
+    tried.written = tubochre_tray(t.table, t.table_len, t.list, t.list_len, bytes, t.bytes, work, t.work_len);
+    tried.bytes = t.bytes;
+    tried.byte = kept(bytes, t.bytes);
+    expect(all_zero(work, t.work_len * sizeof *work), "all work words are zero after a tray");
+    fence_free(bytes_fence);
+    fence_free(work_fence);
+    return tried;
+}
+
+static struct tried tray_apart(struct tray t, enum fence_side side)
+{
+    const struct fence table_fence = fence_make(t.table_len * sizeof *t.table);
+    const struct fence list_fence = fence_make(t.list_len * sizeof *t.list);
+    struct tried tried;
+    t.table = copied(&table_fence, t.table, t.table_len * sizeof *t.table, side);
+    t.list = copied(&list_fence, t.list, t.list_len * sizeof *t.list, side);
+    tried = tray_once(t, side);
+    fence_free(table_fence);
+    fence_free(list_fence);
+    return tried;
+}
+
+static struct tried tray_inside(struct tray t, enum fence_side side)
+{
+    const struct fence fence = fence_make(t.table_len * sizeof *t.table);
+    const uint16_t *const copy = copied(&fence, t.table, t.table_len * sizeof *t.table, side);
+    struct tried tried;
+    t.list = copy + (t.list - t.table);
+    t.table = copy;
+    tried = tray_once(t, side);
+    fence_free(fence);
+    return tried;
+}
+
+static int byte_allowed(uint32_t number, uint8_t byte)
+{
+    if (number == TUBOCHRE_OK)
+        return byte <= TUBOCHRE_TAKEN || (byte >= TUBOCHRE_LOOP_EMPTY && byte <= TUBOCHRE_WORK);
+    return byte == (number == TUBOCHRE_LIST || number == TUBOCHRE_BYTES ? 0 : number);
+}
+
+static void expect_of_every_tray(const struct tried *t)
+{
+    const uint32_t number = t->written.number;
+    size_t i;
+    expect(t->written.count == (number == TUBOCHRE_OK ? t->bytes : 0), "%u comes with the count %llu for %zu bytes",
+           (unsigned)number, (unsigned long long)t->written.count, t->bytes);
+    for (i = 0; i < t->bytes; i++)
+        if (!byte_allowed(number, t->byte[i]))
+            expect(0, "%u leaves %u in byte %zu of %zu", (unsigned)number, (unsigned)t->byte[i], i, t->bytes);
+}
+
+static struct tried tray_twice(struct tray t, struct tried (*once)(struct tray, enum fence_side))
+{
+    struct tried tried, again;
+    fence_watch("a tray");
+    tried = once(t, FENCE_LOW);
+    again = once(t, FENCE_HIGH);
+    expect(tried.written.number == again.written.number && tried.written.count == again.written.count &&
+               memcmp(tried.byte, again.byte, t.bytes) == 0,
+           "two trays of the same lassos agree in each byte");
+    expect_of_every_tray(&tried);
+    tried_free(&again);
+    return tried;
+}
+
+struct tried lent_tray(struct tray t)
+{
+    return tray_twice(t, tray_apart);
+}
+
+struct tried lent_tray_inside(struct tray t)
+{
+    return tray_twice(t, tray_inside);
+}
+
+void tried_free(struct tried *t)
+{
+    free(t->byte);
+}

@@ -1,4 +1,4 @@
-/* What the tests of the C calls share: the three calls made on fenced memory. */
+/* What the tests of the C calls share: the four calls made on fenced memory. */
 #ifndef TEST_H
 #define TEST_H
 
@@ -40,5 +40,28 @@ struct tubochre_decision lent_lasso(const uint16_t *table, size_t len, struct la
 
 /* With as many work words as it needs: 1 taken, 0 not taken, and the number plus 100 where it is refused. */
 uint32_t decide(const uint16_t *table, size_t len, struct lasso l);
+
+/* What a tray is tried with: table, list, and how many bytes and work words are lent. */
+struct tray {
+    const uint16_t *table;
+    size_t table_len;
+    const uint16_t *list;
+    size_t list_len, bytes, work_len;
+};
+
+struct tried {
+    struct tubochre_written written;
+    size_t bytes;
+    uint8_t *byte;
+};
+
+/* Also expects what holds of every tray: all work words are zero; the count is that of the bytes where it is accepted,
+ * and 0 otherwise; the bytes are zero after 17 and 18, its number after any other refusal, and otherwise 0, 1 or 13 to
+ * 16 each. */
+struct tried lent_tray(struct tray t);
+
+/* The same where the list is a part of the table's own words. */
+struct tried lent_tray_inside(struct tray t);
+void tried_free(struct tried *t);
 
 #endif

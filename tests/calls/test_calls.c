@@ -1,4 +1,5 @@
-/* The three calls on the tables that the rules work out by hand, and every refusal from 2 to 16. */
+/* The calls on the tables that the rules work out by hand, and every refusal from 2 to 16; a tray's own are in
+ * test_tray.c. */
 #include "rings.h"
 #include "test.h"
 
@@ -130,7 +131,7 @@ static void try_finite_run(void)
     built_free(&b);
 }
 
-/* ---- Refusals of a table: each by all three calls, in the pattern's range and in the wide one. */
+/* ---- Refusals of a table: each by all four calls, in the pattern's range and in the wide one. */
 
 struct damaged {
     const char *name;
@@ -170,6 +171,18 @@ static const struct damaged damaged_tables[] = {
     {"a fork before every accepting state", 0, 0, 13, {2, 1, 2, 1, 1, 2, 0, 0, 0, 2, 0, 1, 0}},
 };
 
+/* The same lasso twice, with as many work words as it needs. */
+static void try_table_by_tray(const char *name, const uint16_t *words, size_t len, uint32_t in_wide)
+{
+    static const uint16_t list[] = {1, 1, 0, 0, 1, 1, 0, 0};
+    const size_t work_len = len < 3 ? 0 : tubochre_work_words(words[0], 1, 1);
+    struct tried t = lent_tray((struct tray){words, len, list, LENGTH(list), 2, work_len});
+    expect(t.written.number == in_wide, "%s: the tray", name);
+    expect(in_wide != 0 || t.byte[0] <= TUBOCHRE_TAKEN, "%s: the tray decides", name);
+    expect(t.byte[0] == t.byte[1], "%s: the same lasso twice", name);
+    tried_free(&t);
+}
+
 static void try_table(const char *name, const uint16_t *words, size_t len, uint32_t in_pattern, uint32_t in_wide)
 {
     static const uint8_t letters[] = {0};
@@ -181,6 +194,7 @@ static void try_table(const char *name, const uint16_t *words, size_t len, uint3
     expect(b.counts.number == in_pattern, "%s: the build", name);
     expect(same_place(b.counts.place, checked.place), "%s: the place", name);
     expect(in_wide == 0 ? decision < 100 : decision == 100 + in_wide, "%s: the lasso decision", name);
+    try_table_by_tray(name, words, len, in_wide);
     built_free(&b);
 }
 

@@ -81,25 +81,38 @@ static void try_most_records(void)
 /* ---- All calls on one pattern, in memory of one's own. */
 
 enum { P = 7, R = 8, K = 2, PATTERN_LEN = 3 + (2 + 3 * K) * (P + R + 1) };
-enum { SETS_LEN = TUBOCHRE_RECORD_WORDS * (P << R) + 100, LOOP_LEN = 5 };
+enum { SETS_LEN = TUBOCHRE_RECORD_WORDS * (P << R) + 100, PREFIX_LEN = 3, LOOP_LEN = 5 };
+
+/* A tray of the longest lasso that is decided, and of the one that the single calls are asked about. */
+enum { LONGEST = 2 * TUBOCHRE_LASSO_PART_MOST, LIST_LEN = 2 + LONGEST + 2 + PREFIX_LEN + LOOP_LEN, LASSOS = 2 };
+
+/* Enough for the longest lasso on the pattern, but not on its complement, where it is refused. */
+enum { WORK_LEN = 4 * (P + R + 1) * LONGEST };
+
+struct asked {
+    struct tubochre_decision single;
+    struct tubochre_written tray;
+    uint8_t bytes[LASSOS];
+};
 
 struct job {
     uint8_t loop[LOOP_LEN];
     uint16_t pattern[PATTERN_LEN];
     uint16_t words[20000];
-    uint32_t sets[SETS_LEN], work[400000];
+    uint16_t list[LIST_LEN];
+    uint32_t sets[SETS_LEN], work[WORK_LEN];
     struct tubochre_checked checked;
     struct tubochre_counts counts;
-    struct tubochre_decision by_pattern, by_complement;
+    struct asked pattern_asked, complement_asked;
     struct tubochre_quadruple records[P << R];
 };
 
-static const uint8_t job_prefix[] = {0, 1, 1};
+static const uint8_t job_prefix[PREFIX_LEN] = {0, 1, 1};
 
-static struct tubochre_decision decide_in(struct job *j, const uint16_t *table, size_t len)
+static void ask(struct job *j, const uint16_t *table, size_t len, struct asked *asked)
 {
-    return tubochre_lasso(table, len, job_prefix, sizeof job_prefix, j->loop, LOOP_LEN, j->work,
-                          sizeof j->work / sizeof j->work[0]);
+    asked->single = tubochre_lasso(table, len, job_prefix, PREFIX_LEN, j->loop, LOOP_LEN, j->work, WORK_LEN);
+    asked->tray = tubochre_tray(table, len, j->list, LIST_LEN, asked->bytes, LASSOS, j->work, WORK_LEN);
 }
 
 static void *all_calls(void *data)
@@ -108,10 +121,24 @@ static void *all_calls(void *data)
     j->checked = tubochre_check(j->pattern, PATTERN_LEN);
     j->counts = tubochre_build(j->pattern, PATTERN_LEN, j->words, sizeof j->words / sizeof j->words[0],
                                j->sets, SETS_LEN);
-    j->by_pattern = decide_in(j, j->pattern, PATTERN_LEN);
-    j->by_complement = decide_in(j, j->words, tubochre_table_words(j->counts.states, j->counts.edges));
+    ask(j, j->pattern, PATTERN_LEN, &j->pattern_asked);
+    ask(j, j->words, tubochre_table_words(j->counts.states, j->counts.edges), &j->complement_asked);
     tubochre_records(j->records, P << R, j->sets, SETS_LEN);
     return NULL;
+}
+
+/* The lasso's letters go on through both parts of the longest one. */
+static void fill_list(struct job *j)
+{
+    uint16_t *const last = j->list + 2 + LONGEST;
+    size_t i;
+    j->list[0] = j->list[1] = TUBOCHRE_LASSO_PART_MOST;
+    last[0] = PREFIX_LEN;
+    last[1] = LOOP_LEN;
+    for (i = 0; i < PREFIX_LEN + LOOP_LEN; i++)
+        last[2 + i] = i < PREFIX_LEN ? job_prefix[i] : j->loop[i - PREFIX_LEN];
+    for (i = 0; i < LONGEST; i++)
+        j->list[2 + i] = last[2 + i % (PREFIX_LEN + LOOP_LEN)];
 }
 
 /* Each kind of job has a pattern and a loop of its own: of the outer states `kind` is the initial one, and the loop's
@@ -126,7 +153,21 @@ static struct job *new_job(unsigned kind)
     j->pattern[3 + 2 * kind] = 1;
     for (i = 0; i < LOOP_LEN; i++)
         j->loop[i] = kind >> i & 1;
+    fill_list(j);
     return j;
+}
+
+/* The bytes are what the single calls say: of the second lasso; the first is too long for the complement. */
+static void expect_answers(const struct job *j)
+{
+    const struct asked *const p = &j->pattern_asked, *const c = &j->complement_asked;
+    expect(p->single.number == TUBOCHRE_OK && c->single.number == TUBOCHRE_OK, "neither is refused");
+    expect(p->single.taken != c->single.taken, "exactly one takes the lasso");
+    expect(p->tray.number == TUBOCHRE_OK && p->tray.count == LASSOS && c->tray.number == TUBOCHRE_OK &&
+               c->tray.count == LASSOS,
+           "both trays are tried");
+    expect(p->bytes[0] <= TUBOCHRE_TAKEN && c->bytes[0] == TUBOCHRE_WORK, "the longest lasso");
+    expect(p->bytes[1] == p->single.taken && c->bytes[1] == c->single.taken, "a byte is what the single call says");
 }
 
 /* ---- The stack. */
@@ -135,8 +176,8 @@ static void try_stack(void)
 {
     struct job *const j = new_job(0);
     const size_t used = stack_used(all_calls, j);
-    expect(j->checked.number == 0 && j->counts.number == 0 && j->by_pattern.number == 0,
-           "the calls on a stack of their own");
+    expect(j->checked.number == 0 && j->counts.number == 0, "the calls on a stack of their own");
+    expect_answers(j);
     expect(used < STACK_PROMISED, "the calls use %zu bytes of stack", used);
     printf("    the calls used %zu bytes of stack\n", used);
     free(j);
@@ -152,12 +193,17 @@ static void *many_calls(void *data)
     return NULL;
 }
 
+static int same_asked(const struct asked *a, const struct asked *b)
+{
+    return memcmp(&a->single, &b->single, sizeof a->single) == 0 && a->tray.number == b->tray.number &&
+           a->tray.count == b->tray.count && memcmp(a->bytes, b->bytes, LASSOS) == 0;
+}
+
 static int same_results(const struct job *a, const struct job *b)
 {
     return memcmp(&a->checked, &b->checked, sizeof a->checked) == 0 &&
-           memcmp(&a->counts, &b->counts, sizeof a->counts) == 0 &&
-           memcmp(&a->by_pattern, &b->by_pattern, sizeof a->by_pattern) == 0 &&
-           memcmp(&a->by_complement, &b->by_complement, sizeof a->by_complement) == 0 &&
+           memcmp(&a->counts, &b->counts, sizeof a->counts) == 0 && same_asked(&a->pattern_asked, &b->pattern_asked) &&
+           same_asked(&a->complement_asked, &b->complement_asked) &&
            memcmp(a->words, b->words, sizeof a->words) == 0 && memcmp(a->sets, b->sets, sizeof a->sets) == 0 &&
            memcmp(a->work, b->work, sizeof a->work) == 0 && memcmp(a->records, b->records, sizeof a->records) == 0;
 }
@@ -178,9 +224,7 @@ static void try_threads(void)
     for (i = 0; i < THREADS; i++) {
         expect(pthread_join(thread[i], NULL) == 0, "a thread ends");
         expect(same_results(alone[i], each[i]), "thread %u has every word of the calls made alone", i);
-        expect(alone[i]->by_pattern.number == TUBOCHRE_OK && alone[i]->by_complement.number == TUBOCHRE_OK,
-               "neither is refused");
-        expect(alone[i]->by_pattern.taken != alone[i]->by_complement.taken, "exactly one takes the lasso");
+        expect_answers(alone[i]);
     }
     for (i = 0; i < THREADS; i++) {
         expect(i == 0 || !same_results(alone[0], alone[i]), "thread %u has a job of its own", i);

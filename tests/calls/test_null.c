@@ -5,17 +5,19 @@
 
 #include <string.h>
 
-enum { WORDS = 40, SETS = 4 * TUBOCHRE_RECORD_WORDS, WORK = 64, RECORDS = 3 };
+enum { WORDS = 40, SETS = 4 * TUBOCHRE_RECORD_WORDS, WORK = 64, RECORDS = 3, LASSOS = 2 };
 
 static const uint16_t pattern[] = {2, 2, 4, 1, 1, 2, 4, 0, 0, 2, 1, 0, 3, 0, 1, 0, 0, 1, 0};
 static const uint16_t forking[] = {2, 1, 2, 1, 0, 2, 1, 0, 0, 2, 0, 1, 0};
 static const uint8_t letters[] = {0, 1};
+static const uint16_t list[] = {0, 1, 0, 1, 2, 0, 0, 1};
 
 /* All that the calls write. */
 struct written {
     uint16_t words[WORDS];
     uint32_t sets[SETS], work[WORK];
     struct tubochre_quadruple records[RECORDS];
+    uint8_t bytes[LASSOS];
     uint32_t answer[5];
 };
 
@@ -71,6 +73,17 @@ static struct written lasso(unsigned empty, int null)
     return w;
 }
 
+static struct written tray(unsigned empty, int null)
+{
+    struct written w = before();
+    const struct tubochre_written written =
+        tubochre_tray(TABLE(empty & 1, null), LENT(list, empty & 2, null), LENT(w.bytes, empty & 4, null),
+                      LENT(w.work, empty & 8, null));
+    w.answer[0] = written.number;
+    w.answer[1] = (uint32_t)written.count;
+    return w;
+}
+
 static struct written records(unsigned empty, int null)
 {
     static const uint32_t sets[] = {1, 0, 0, 0, 1, 2, 0, 2};
@@ -96,12 +109,14 @@ int main(void)
     static const uint32_t by_check[] = {0, 2};
     static const uint32_t by_build[] = {0, 2, 12, 2, 11, 2, 11, 2};
     static const uint32_t by_lasso[] = {0, 2, 0, 2, 13, 2, 13, 2, 16, 2, 16, 2, 13, 2, 13, 2};
+    static const uint32_t by_tray[] = {0, 2, 18, 18, 18, 18, 0, 2, 0, 2, 18, 18, 18, 18, 0, 2};
     static const uint32_t fork_by_check[] = {10, 2}, fork_by_build[] = {10, 2, 10, 2, 10, 2, 10, 2};
     static const uint32_t by_records[] = {0xa5a5a5a5, 0xa5a5a5a5, 0xa5a5a5a5, 0xa5a5a5a5}; /* it answers nothing */
     ASK_ABOUT(pattern);
     try_call("check", check, 1, by_check);
     try_call("build", build, 3, by_build);
     try_call("lasso", lasso, 4, by_lasso);
+    try_call("tray", tray, 4, by_tray);
     ASK_ABOUT(forking);
     try_call("check of a fork", check, 1, fork_by_check);
     try_call("build of a fork", build, 3, fork_by_build);
