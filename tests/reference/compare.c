@@ -1,4 +1,4 @@
-/* Compares the library's three calls with the reference, on random patterns, lassos and damaged tables.
+/* Compares the library's four calls with the reference, on random patterns, lassos, trays and damaged tables.
  *
  *     compare [--seed N] [--trials N]
  *
@@ -25,7 +25,9 @@ enum {
     DAMAGES = 2,     /* for each pattern */
     WORDS_ROOM = 700000,
     SETS_ROOM = TUBOCHRE_RECORD_WORDS * TUBOCHRE_WIDE_STATES_MOST + 100,
-    WORK_ROOM = 40 * 1000 * 1000
+    WORK_ROOM = 40 * 1000 * 1000,
+    TRAY_WORK = 1000 * 1000, /* lassos of a tray that need more are refused by 16 */
+    BYTES_ROOM = DRAWN_LIST / 2 + 16
 };
 
 static const uint64_t default_seed = 20160404;
@@ -41,8 +43,18 @@ static struct {
     uint64_t patterns, passed, built, lassos, decisions, damaged, taken, states, edges, runs_checked;
     uint64_t at_zero, elsewhere; /* forks: at state 0 and letter 0, and at any other place */
     uint64_t largest;
-    uint64_t refused[17];
+    uint64_t refused[19];
 } tally;
+
+/* What was met of trays. */
+static struct {
+    uint64_t tried, cut, left_over, byte_few, byte_many, of_table, empty;
+    uint64_t some_short;   /* some lassos were refused by 16 and others were decided */
+    uint64_t wide_letters; /* lassos that were refused for a letter above 255 alone, whose low byte is a letter */
+    uint64_t huge;         /* lassos of 65,535 and 65,535 letters */
+    uint64_t opposite;     /* lassos that pattern and complement both decided */
+    uint64_t bytes[17];    /* of accepted trays */
+} trays;
 
 static void differ(const char *format, ...)
 {
@@ -69,9 +81,10 @@ static void print_table(const char *name, const uint16_t *words, size_t len)
 /* ---- Lent memory. */
 
 static struct {
-    struct fence table, prefix, loop, words, sets, work;
+    struct fence table, prefix, loop, words, sets, work, list, bytes;
     uint16_t *expected_words;
     uint32_t *expected_sets, *expected_work;
+    uint8_t *expected_bytes;
 } lent;
 
 static void make_rooms(void)
@@ -82,9 +95,12 @@ static void make_rooms(void)
     lent.words = fence_make(WORDS_ROOM * sizeof(uint16_t));
     lent.sets = fence_make(SETS_ROOM * sizeof(uint32_t));
     lent.work = fence_make(WORK_ROOM * sizeof(uint32_t));
+    lent.list = fence_make(DRAWN_LIST * sizeof(uint16_t));
+    lent.bytes = fence_make(BYTES_ROOM);
     lent.expected_words = room_for(WORDS_ROOM, sizeof(uint16_t));
     lent.expected_sets = room_for(SETS_ROOM, sizeof(uint32_t));
     lent.expected_work = room_for(WORK_ROOM, sizeof(uint32_t));
+    lent.expected_bytes = room_for(BYTES_ROOM, 1);
 }
 
 static enum fence_side some_side(struct random *r)
@@ -113,7 +129,7 @@ static void must_be_unchanged(const char *what, const void *now, const void *bef
         differ("%s: the %s was written", trial.text, what);
 }
 
-/* ---- The three calls beside the reference. */
+/* ---- The calls beside the reference. */
 
 static void compare_places(const char *call, const uint16_t *table, size_t len, struct tubochre_place place,
                            struct reference_place expected)
@@ -222,6 +238,98 @@ static struct tubochre_decision compare_lasso(struct random *r, const uint16_t *
     return d;
 }
 
+/* ---- Trays beside the reference. */
+
+/* Whether all letters of the lasso that begins here are below k, if only their low bytes count. */
+static int low_bytes_are_letters(const uint16_t *lasso, uint32_t k)
+{
+    size_t i, letters = (size_t)lasso[0] + lasso[1];
+    for (i = 0; i < letters; i++)
+        if (lasso[2 + i] % 256 >= k)
+            return 0;
+    return 1;
+}
+
+static void tally_lassos(const uint16_t *table, const struct drawn_list *l)
+{
+    uint64_t decided = 0, short_of = 0;
+    size_t at = 0, i;
+    for (i = 0; at < l->len; i++, at = tubochre_lasso_end(l->words, l->len, at)) {
+        const uint8_t byte = lent.expected_bytes[i];
+        trays.bytes[byte]++;
+        decided += byte <= TUBOCHRE_TAKEN;
+        short_of += byte == TUBOCHRE_WORK;
+        trays.wide_letters += byte == TUBOCHRE_LETTER && low_bytes_are_letters(l->words + at, table[1]);
+        trays.huge += l->words[at] == 65535 && l->words[at + 1] == 65535;
+    }
+    trays.some_short += decided > 0 && short_of > 0;
+    trays.empty += l->len == 0;
+}
+
+/* The words behind the last whole lasso. */
+static size_t words_left(const struct drawn_list *l)
+{
+    size_t at = 0, end;
+    for (end = tubochre_lasso_end(l->words, l->len, 0); end != 0; end = tubochre_lasso_end(l->words, l->len, at))
+        at = end;
+    return l->len - at;
+}
+
+static void tally_tray(const uint16_t *table, const struct drawn_list *l, size_t bytes, uint32_t number)
+{
+    const size_t lassos = tubochre_list_lassos(l->words, l->len);
+    trays.tried++;
+    tally.refused[number]++;
+    switch (number) {
+    case TUBOCHRE_OK: tally_lassos(table, l); break;
+    case TUBOCHRE_LIST:
+        trays.cut += words_left(l) > 1;
+        trays.left_over += words_left(l) == 1;
+        break;
+    case TUBOCHRE_BYTES:
+        trays.byte_few += bytes + 1 == lassos;
+        trays.byte_many += bytes == lassos + 1;
+        break;
+    default: trays.of_table += lassos > 0; break;
+    }
+}
+
+static void tray_differs(const uint16_t *table, size_t len, const struct drawn_list *l)
+{
+    print_table("table", table, len);
+    print_table("list", l->words, l->len);
+}
+
+/* The bytes are left in lent.expected_bytes. */
+static void compare_tray(struct random *r, const uint16_t *table, size_t len, const struct drawn_list *l, size_t bytes,
+                         size_t work_len)
+{
+    const uint16_t *const copy = lend_copy(r, &lent.table, table, len * sizeof *table);
+    const uint16_t *const list = lend_copy(r, &lent.list, l->words, l->len * sizeof *list);
+    uint8_t *const answers = lend_garbage(r, &lent.bytes, bytes);
+    uint32_t *const work = lend_garbage(r, &lent.work, work_len * sizeof *work);
+    const struct reference_written expected = reference_tray(table, len, l->words, l->len, lent.expected_bytes, bytes,
+                                                             lent.expected_work, work_len);
+    const struct tubochre_written w = tubochre_tray(copy, len, list, l->len, answers, bytes, work, work_len);
+    size_t i = 0;
+    must_be_unchanged("table", copy, table, len * sizeof *table);
+    must_be_unchanged("list", list, l->words, l->len * sizeof *list);
+    while (i < bytes && answers[i] == lent.expected_bytes[i])
+        i++;
+    if (w.number != expected.number || w.count != expected.count || i < bytes)
+        tray_differs(table, len, l);
+    if (w.number != expected.number || w.count != expected.count)
+        differ("%s: a tray of %zu words with %zu bytes and %zu work words is answered %" PRIu32 " %" PRIu64
+               " instead of %" PRIu32 " %" PRIu64,
+               trial.text, l->len, bytes, work_len, w.number, w.count, expected.number, expected.count);
+    if (i < bytes)
+        differ("%s: byte %zu of %zu, with %zu work words, is %u instead of %u", trial.text, i, bytes, work_len,
+               (unsigned)answers[i], (unsigned)lent.expected_bytes[i]);
+    if (memcmp(work, lent.expected_work, work_len * sizeof *work) != 0)
+        differ("%s: a tray with %zu work words leaves some that are not zero", trial.text, work_len);
+    tally_tray(table, l, bytes, expected.number);
+}
+
 /* ---- Rooms. */
 
 /* As much as is needed, or more; in the limits of what is lent here. */
@@ -250,6 +358,31 @@ static void fit_lasso(struct drawn_lasso *l, uint32_t states)
     while (tubochre_work_words(states, l->prefix_len, l->loop_len) + 9 > WORK_ROOM) {
         l->prefix_len /= 2;
         l->loop_len = l->loop_len / 2 + 1;
+    }
+}
+
+/* As many bytes as the list has lassos; or one more, one fewer, or any. */
+static size_t some_bytes(struct random *r, const struct drawn_list *l)
+{
+    const size_t lassos = tubochre_list_lassos(l->words, l->len);
+    switch (random_below(r, 20)) {
+    case 0: return lassos + 1;
+    case 1: return lassos - (lassos > 0);
+    case 2: return random_below(r, (uint32_t)lassos + 9);
+    default: return lassos;
+    }
+}
+
+/* Work words for all lassos of a list; or some more, one fewer, or any below. */
+static size_t some_work(struct random *r, uint32_t states, const struct drawn_list *l)
+{
+    const size_t need = tubochre_tray_work_words(states, l->words, l->len);
+    const size_t most = need < TRAY_WORK ? need : TRAY_WORK;
+    switch (random_below(r, 5)) {
+    case 0: return random_below(r, (uint32_t)most + 1);
+    case 1: return most - (most > 0);
+    case 2: return most + random_below(r, 9);
+    default: return most;
     }
 }
 
@@ -299,6 +432,40 @@ static void third_demand(struct random *r, const struct drawn_table *t, const ui
         compare_lasso(r, complement, len, &l, short_work(r, counts.states, &l));
 }
 
+/* The same list tried on both: opposite bytes wherever both decide. */
+static void opposite_trays(struct random *r, const struct drawn_table *t, const uint16_t *complement,
+                           struct tubochre_counts counts)
+{
+    static struct drawn_list l;
+    static uint8_t by_pattern[BYTES_ROOM];
+    const uint8_t *const by_complement = lent.expected_bytes;
+    size_t lassos, i;
+    draw_list(r, &l, t->words[1]);
+    lassos = tubochre_list_lassos(l.words, l.len);
+    compare_tray(r, t->words, t->len, &l, lassos, some_work(r, t->words[0], &l));
+    memcpy(by_pattern, lent.expected_bytes, lassos);
+    compare_tray(r, complement, tubochre_table_words(counts.states, counts.edges), &l, lassos,
+                 some_work(r, counts.states, &l));
+    for (i = 0; i < lassos; i++)
+        if (by_pattern[i] <= TUBOCHRE_TAKEN && by_complement[i] <= TUBOCHRE_TAKEN) {
+            trays.opposite++;
+            if (by_pattern[i] == by_complement[i])
+                differ("%s: pattern and complement both say %u of lasso %zu of a tray", trial.text,
+                       (unsigned)by_pattern[i], i);
+        }
+}
+
+/* A list that may be damaged, in any room, on any table. */
+static void some_tray(struct random *r, const uint16_t *table, size_t len)
+{
+    const uint32_t states = len < 3 ? 1 : table[0], letters = len < 3 || table[1] > 16 ? 16 : table[1];
+    static struct drawn_list l;
+    draw_list(r, &l, letters);
+    if (random_chance(r, 30))
+        draw_list_damage(r, &l);
+    compare_tray(r, table, len, &l, some_bytes(r, &l), some_work(r, states, &l));
+}
+
 static void odd_lasso(struct random *r, const uint16_t *table, size_t len)
 {
     const uint32_t states = len < 3 ? 1 : table[0], letters = len < 3 || table[1] > 16 ? 16 : table[1];
@@ -344,6 +511,8 @@ static void try_complement(struct random *r, const struct drawn_table *t, const 
     for (i = 0; i < LASSOS; i++)
         third_demand(r, t, words, counts);
     odd_lasso(r, words, len);
+    opposite_trays(r, t, words, counts);
+    some_tray(r, words, len);
     free(words);
 }
 
@@ -366,6 +535,7 @@ static void try_pattern(struct random *r, struct drawn_table *t)
         for (i = 0; i < LASSOS; i++)
             plain_lasso(r, t->words, t->len);
     odd_lasso(r, t->words, t->len);
+    some_tray(r, t->words, t->len);
     reference_forget(complement);
 }
 
@@ -375,6 +545,7 @@ static void try_wide(struct random *r, struct drawn_table *t)
     draw_wide(r, t);
     for (i = 0; i < WIDE_LASSOS; i++)
         plain_lasso(r, t->words, t->len);
+    some_tray(r, t->words, t->len);
 }
 
 static void build_in_some_room(struct random *r, const struct drawn_table *t)
@@ -398,6 +569,7 @@ static void try_damaged(struct random *r, struct drawn_table *t)
         plain_lasso(r, t->words, t->len);
     else
         odd_lasso(r, t->words, t->len);
+    some_tray(r, t->words, t->len);
 }
 
 static void run_trial(uint64_t seed)
@@ -422,22 +594,60 @@ static void print_summary(uint64_t seed, uint64_t trials)
 {
     int i;
     printf("answers by refusal:");
-    for (i = 0; i <= 16; i++)
+    for (i = 0; i <= 18; i++)
         printf(" %d:%" PRIu64, i, tally.refused[i]);
+    printf("\nbytes of trays:");
+    for (i = 0; i <= 16; i++)
+        if (trays.bytes[i] > 0)
+            printf(" %d:%" PRIu64, i, trays.bytes[i]);
     printf("\ncompare: ok: seeds %" PRIu64 " to %" PRIu64 ": %" PRIu64 " patterns (%" PRIu64 " passed, %" PRIu64
            " built: %" PRIu64 " states, %" PRIu64 " edges, largest %" PRIu64 "), %" PRIu64 " lassos (%" PRIu64
            " decisions, %" PRIu64 " taken, the third demand on %" PRIu64 "), %" PRIu64 " damaged tables, %" PRIu64
-           " forks (%" PRIu64 " at state 0 and letter 0), 0 differences\n",
+           " forks (%" PRIu64 " at state 0 and letter 0), %" PRIu64 " trays (%" PRIu64
+           " lassos decided on pattern and complement), 0 differences\n",
            seed, seed + trials - 1, tally.patterns, tally.passed, tally.built, tally.states, tally.edges, tally.largest,
            tally.lassos, tally.decisions, tally.taken, tally.runs_checked, tally.damaged,
-           tally.at_zero + tally.elsewhere, tally.at_zero);
+           tally.at_zero + tally.elsewhere, tally.at_zero, trays.tried, trays.opposite);
+}
+
+/* Every case of a tray that is easily got wrong has occurred. */
+static int all_trays_met(void)
+{
+    const struct {
+        const char *name;
+        uint64_t count;
+    } kinds[] = {
+        {"taken", trays.bytes[TUBOCHRE_TAKEN]},
+        {"not taken", trays.bytes[TUBOCHRE_NOT_TAKEN]},
+        {"an empty loop", trays.bytes[TUBOCHRE_LOOP_EMPTY]},
+        {"a part too long", trays.bytes[TUBOCHRE_LASSO_LONG]},
+        {"a bad letter", trays.bytes[TUBOCHRE_LETTER]},
+        {"too few work words", trays.bytes[TUBOCHRE_WORK]},
+        {"too few work words for some", trays.some_short},
+        {"a letter above 255 with the low byte of a letter", trays.wide_letters},
+        {"a lasso of 65,535 and 65,535 letters", trays.huge},
+        {"lassos decided on pattern and complement", trays.opposite},
+        {"an empty list that is accepted", trays.empty},
+        {"a list that is cut", trays.cut},
+        {"one word left over", trays.left_over},
+        {"one byte too few", trays.byte_few},
+        {"one byte too many", trays.byte_many},
+        {"lassos on a refused table", trays.of_table},
+    };
+    size_t i;
+    for (i = 0; i < sizeof kinds / sizeof kinds[0]; i++)
+        if (kinds[i].count == 0) {
+            printf("compare: FAILED: of trays this did not occur: %s\n", kinds[i].name);
+            return 0;
+        }
+    return 1;
 }
 
 /* A whole run has met every refusal of the calls and every kind of answer: one that compares nothing is no success. */
 static int all_kinds_met(void)
 {
     int number;
-    for (number = 2; number <= 16; number++)
+    for (number = 2; number <= 18; number++)
         if (tally.refused[number] == 0) {
             printf("compare: FAILED: no call was refused by %d\n", number);
             return 0;
@@ -447,7 +657,7 @@ static int all_kinds_met(void)
         printf("compare: FAILED: a kind of answer did not occur\n");
         return 0;
     }
-    return 1;
+    return all_trays_met();
 }
 
 int main(int argc, char **argv)

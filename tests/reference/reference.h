@@ -1,10 +1,10 @@
-/* An independent implementation of the check, the build, the lasso decision and the listing, to compare with.
+/* An independent implementation of the check, the build, the lasso decision, the tray and the listing, to compare with.
  *
  * It follows the rules by their words and not by a clever way: chains are proved sound by sorting all links, the states
  * behind an accepting one come from a transitive closure, forks from comparing each two records, a successor is any
- * quadruple that meets all conditions, found by trying every candidate, and a lasso is decided by powers of its loop's
- * relation. It shares no code, no algorithm and no header with the library. It is slow, and right only as far as
- * reading it shows. It ends the program where memory runs out. */
+ * quadruple that meets all conditions, found by trying every candidate, a lasso is decided by powers of its loop's
+ * relation, and what a list holds is found from its end. It shares no code, no algorithm and no header with the
+ * library. It is slow, and right only as far as reading it shows. It ends the program where memory runs out. */
 #ifndef REFERENCE_H
 #define REFERENCE_H
 
@@ -30,6 +30,11 @@ struct reference_decision {
     uint32_t number, taken; /* 1 taken, 0 not taken or refused: number tells which */
 };
 
+struct reference_written {
+    uint32_t number;
+    uint64_t count;
+};
+
 /* Number 0, or which of 2 to 10 refuses a pattern. */
 struct reference_checked reference_check(const uint16_t *table, size_t len);
 
@@ -48,6 +53,10 @@ struct reference_counts reference_lay(const struct reference_complement *complem
 /* What a lasso decision answers; it leaves zeros in the work words and needs none of them. */
 struct reference_decision reference_lasso(const uint16_t *table, size_t len, const uint8_t *prefix, size_t prefix_len,
                                           const uint8_t *loop, size_t loop_len, uint32_t *work, size_t work_len);
+
+/* What a tray answers, and leaves in bytes and work words. */
+struct reference_written reference_tray(const uint16_t *table, size_t len, const uint16_t *list, size_t list_len,
+                                        uint8_t *answers, size_t answers_len, uint32_t *work, size_t work_len);
 
 /* How many accepting runs a valid wide table has over a lasso over its letters: 0, 1, or 2 for more than one. */
 unsigned reference_runs(const uint16_t *table, const uint8_t *prefix, size_t prefix_len, const uint8_t *loop,

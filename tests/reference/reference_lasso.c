@@ -302,13 +302,10 @@ static bool letters_good(const uint8_t *letters, size_t len, uint32_t below)
     return true;
 }
 
-struct reference_decision reference_lasso(const uint16_t *table, size_t len, const uint8_t *prefix, size_t prefix_len,
-                                          const uint8_t *loop, size_t loop_len, uint32_t *work, size_t work_len)
+struct reference_decision reference_decide(const uint16_t *table, size_t len, const uint8_t *prefix, size_t prefix_len,
+                                           const uint8_t *loop, size_t loop_len, size_t work_len)
 {
     struct reference_decision d = {reference_table_refusal(table, len, WIDE_MOST, WIDE_MOST), 0};
-    size_t i;
-    for (i = 0; i < work_len; i++)
-        work[i] = 0;
     if (d.number != 0)
         return d;
     if (loop_len == 0)
@@ -322,6 +319,15 @@ struct reference_decision reference_lasso(const uint16_t *table, size_t len, con
     else
         d.taken = takes(table, prefix, prefix_len, loop, loop_len) ? 1 : 0;
     return d;
+}
+
+struct reference_decision reference_lasso(const uint16_t *table, size_t len, const uint8_t *prefix, size_t prefix_len,
+                                          const uint8_t *loop, size_t loop_len, uint32_t *work, size_t work_len)
+{
+    size_t i;
+    for (i = 0; i < work_len; i++)
+        work[i] = 0;
+    return reference_decide(table, len, prefix, prefix_len, loop, loop_len, work_len);
 }
 
 /* ---- Counting accepting runs. */

@@ -13,6 +13,10 @@ enum { PATTERN_STATES = 32, PATTERN_RECORDS = 4096, WIDE_MOST = 65535, LETTERS_M
 /* Which of 2 to 9 refuses a table, or 0. */
 uint32_t reference_table_refusal(const uint16_t *t, size_t len, uint32_t states_most, uint32_t records_most);
 
+/* What a lasso decision answers with so many work words. */
+struct reference_decision reference_decide(const uint16_t *table, size_t len, const uint8_t *prefix, size_t prefix_len,
+                                           const uint8_t *loop, size_t loop_len, size_t work_len);
+
 static inline uint32_t flags_of(const uint16_t *t, uint32_t state)
 {
     return t[3 + 2 * state];

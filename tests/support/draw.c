@@ -365,3 +365,88 @@ void draw_odd_lasso(struct random *r, struct drawn_lasso *l, uint32_t letters)
         break;
     }
 }
+
+/* ---- Lists. */
+
+static void add_lasso(struct drawn_list *l, const struct drawn_lasso *lasso)
+{
+    uint16_t *const words = l->words + l->len;
+    size_t i;
+    words[0] = (uint16_t)lasso->prefix_len;
+    words[1] = (uint16_t)lasso->loop_len;
+    for (i = 0; i < lasso->prefix_len; i++)
+        words[2 + i] = lasso->prefix[i];
+    for (i = 0; i < lasso->loop_len; i++)
+        words[2 + lasso->prefix_len + i] = lasso->loop[i];
+    l->len += tubochre_lasso_words(lasso->prefix_len, lasso->loop_len);
+}
+
+/* Makes a letter of the last lasso, which begins at a word, one that is above 255: mostly with the same low byte. */
+static void widen_letter(struct random *r, struct drawn_list *l, size_t from)
+{
+    const uint32_t letters = (uint32_t)(l->len - from - 2);
+    uint16_t *const letter = &l->words[from + 2 + random_below(r, letters)];
+    if (letters > 0)
+        *letter = random_chance(r, 10) ? 65535 : (uint16_t)(*letter + 256 * random_between(r, 1, 255));
+}
+
+/* A lasso of the largest lengths that a list can hold, or any. Its letters do not matter, since it is too long. */
+static void add_huge_lasso(struct random *r, struct drawn_list *l)
+{
+    const size_t prefix_len = random_chance(r, 50) ? 65535 : random_between(r, 0, 65535);
+    const size_t loop_len = random_chance(r, 50) ? 65535 : random_chance(r, 20) ? 0 : random_between(r, 0, 65535);
+    size_t i;
+    l->words[l->len] = (uint16_t)prefix_len;
+    l->words[l->len + 1] = (uint16_t)loop_len;
+    for (i = 0; i < prefix_len + loop_len; i++)
+        l->words[l->len + 2 + i] = 777;
+    l->len += tubochre_lasso_words(prefix_len, loop_len);
+}
+
+void draw_list(struct random *r, struct drawn_list *l, uint32_t letters)
+{
+    static struct drawn_lasso lasso;
+    uint32_t lassos = random_chance(r, 5) ? 0 : random_between(r, 1, 6);
+    l->len = 0;
+    if (random_below(r, 400) == 0)
+        add_huge_lasso(r, l);
+    for (; lassos > 0; lassos--) {
+        const size_t from = l->len;
+        if (random_chance(r, 85))
+            draw_lasso(r, &lasso, letters);
+        else
+            draw_odd_lasso(r, &lasso, letters);
+        add_lasso(l, &lasso);
+        if (random_chance(r, 8))
+            widen_letter(r, l, from);
+    }
+}
+
+/* The length words of a lasso, most often of the first, become others. */
+static void damage_lengths(struct random *r, struct drawn_list *l)
+{
+    const size_t at = random_chance(r, 60) ? tubochre_lasso_end(l->words, l->len, 0) : 0;
+    uint32_t i;
+    for (i = random_below(r, 2); i < 2 && at + i < l->len; i++)
+        l->words[at + i] = random_chance(r, 50) ? 65535 : odd_word(r, l->words[at + i]);
+}
+
+static void fill_list(struct random *r, struct drawn_list *l)
+{
+    const uint32_t below = random_chance(r, 50) ? 4 : 65536;
+    size_t i;
+    l->len = random_below(r, 40);
+    for (i = 0; i < l->len; i++)
+        l->words[i] = (uint16_t)random_below(r, below);
+}
+
+void draw_list_damage(struct random *r, struct drawn_list *l)
+{
+    switch (random_below(r, 5)) {
+    case 0: l->len = random_below(r, (uint32_t)l->len + 1); break;
+    case 1: l->len -= l->len > 0; break;
+    case 2: l->words[l->len++] = (uint16_t)random_below(r, random_chance(r, 50) ? 3 : 65536); break;
+    case 3: damage_lengths(r, l); break;
+    default: fill_list(r, l); break;
+    }
+}

@@ -1,4 +1,4 @@
-/* Random patterns, tables, damages and lassos, each decided by a seed alone. */
+/* Random patterns, tables, damages, lassos and lists, each decided by a seed alone. */
 #ifndef DRAW_H
 #define DRAW_H
 
@@ -51,6 +51,21 @@ void draw_lasso(struct random *r, struct drawn_lasso *l, uint32_t letters);
 
 /* A lasso of which something may be wrong: an empty loop, a part too long, a letter too large. */
 void draw_odd_lasso(struct random *r, struct drawn_lasso *l, uint32_t letters);
+
+/* Room for each drawn list: some lassos, the longest that a list can hold among them. */
+enum { DRAWN_LIST = 250000 };
+
+struct drawn_list {
+    size_t len;
+    uint16_t words[DRAWN_LIST];
+};
+
+/* A whole list of some lassos over so many letters; of some of them something is wrong, as above, or a letter does not
+ * fit a byte, or the lengths are huge. */
+void draw_list(struct random *r, struct drawn_list *l, uint32_t letters);
+
+/* Damages a list: it is cut, words are left over, lengths are others, or it is garbage. It may still be whole. */
+void draw_list_damage(struct random *r, struct drawn_list *l);
 
 /* Fills a buffer with bytes that no call would leave there. */
 void draw_garbage(struct random *r, void *bytes, size_t len);
