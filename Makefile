@@ -20,7 +20,7 @@ FOLDERS = include programs bench tests/calls tests/support tests/reference
 BUILD = $(CC) -std=c11 $(WARNINGS) $(CFLAGS) $(addprefix -I,$(FOLDERS))
 
 HEADERS = $(wildcard include/*.h programs/*.h bench/*.h tests/*/*.h)
-PARTS = $(addprefix programs/,common.c words.c places.c lassos.c complement.c print.c progress.c)
+PARTS = $(addprefix programs/,common.c text.c words.c places.c lassos.c tray.c complement.c print.c progress.c)
 SUPPORT = $(addprefix tests/support/,arguments.c draw.c expect.c fence.c rings.c room.c stack.c)
 REFERENCE = $(addprefix tests/reference/,reference.c reference_lasso.c reference_tray.c reference_listing.c)
 CALLS = $(addprefix $(OUT)/,test_calls test_forks test_rooms test_limits test_null test_tray)

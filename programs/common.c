@@ -59,8 +59,13 @@ _Noreturn void trouble(const char *what, const char *why)
 
 void *memory(size_t count, size_t size, const char *what_for)
 {
+    return more_memory(NULL, count, size, what_for);
+}
+
+void *more_memory(void *old, size_t count, size_t size, const char *what_for)
+{
     const size_t some = count > 0 ? count : 1;
-    void *const p = some > SIZE_MAX / size ? NULL : malloc(some * size);
+    void *const p = some > SIZE_MAX / size ? NULL : realloc(old, some * size);
     char why[100];
     if (p == NULL) {
         snprintf(why, sizeof why, "there is not enough memory: it takes %zu times %zu bytes", some, size);

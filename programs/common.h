@@ -21,6 +21,9 @@ _Noreturn void trouble(const char *what, const char *why);
 /* Memory for so many things of a size, or trouble with what it was for. The caller frees it. */
 void *memory(size_t count, size_t size, const char *what_for);
 
+/* The same memory for so many things instead, with what it held; NULL is none yet. */
+void *more_memory(void *old, size_t count, size_t size, const char *what_for);
+
 /* Ends the output: the status, or 2 where not all of it could be written, on standard output or on standard error. */
 int finish(int status);
 

@@ -9,73 +9,89 @@
 
 /* ---- Reading. */
 
-static const char form_of_a_part[] = "a part is digits, or numbers divided by commas";
-
-/* The part that is being read: of which lasso, which one, and its text. */
-struct part {
-    const char *lasso_name, *name, *text;
-};
-
-static _Noreturn void bad_part(const struct part *p, const char *at, const char *why)
-{
-    const size_t room = strlen(p->lasso_name) + 60;
-    char *const what = memory(room, 1, "a message");
-    snprintf(what, room, "%s, byte %zu of its %s", p->lasso_name, (size_t)(at - p->text) + 1, p->name);
-    trouble(what, why);
-}
+const char form_of_a_part[] = "a part is digits, or numbers divided by commas";
 
 /* One letter for each digit. */
-static void read_digits(const struct part *p, struct letters *l)
+static struct part_fault read_digits(const char *text, struct letters *l)
 {
     const char *at;
-    for (at = p->text; *at != '\0'; at++) {
+    for (at = text; *at != '\0'; at++) {
         if (*at < '0' || *at > '9')
-            bad_part(p, at, form_of_a_part);
+            return (struct part_fault){(size_t)(at - text), form_of_a_part};
         l->letter[l->len++] = (uint8_t)(*at - '0');
     }
+    return (struct part_fault){0, NULL};
 }
 
 /* One letter for each number; the last may have a comma behind it. */
-static void read_numbers(const struct part *p, struct letters *l)
+static struct part_fault read_numbers(const char *text, struct letters *l)
 {
-    const char *at = p->text;
+    const char *at = text;
     while (*at != '\0') {
         const char *const start = at;
         unsigned value = 0;
         for (; *at >= '0' && *at <= '9' && value <= UINT8_MAX; at++)
             value = 10 * value + (unsigned)(*at - '0');
         if (value > UINT8_MAX)
-            bad_part(p, start, "a letter is a number from 0 to 255");
+            return (struct part_fault){(size_t)(start - text), "a letter is a number from 0 to 255"};
         if (at == start || (*at != '\0' && *at != ','))
-            bad_part(p, at, form_of_a_part);
+            return (struct part_fault){(size_t)(at - text), form_of_a_part};
         l->letter[l->len++] = (uint8_t)value;
         at += *at == ',';
     }
+    return (struct part_fault){0, NULL};
 }
 
-static struct letters read_part(const struct part *p)
+struct letters read_letters(const char *text, struct part_fault *fault)
 {
-    struct letters l = {memory(strlen(p->text), 1, "a lasso"), 0};
-    if (strcmp(p->text, "-") == 0)
+    struct letters l = {memory(strlen(text), 1, "a lasso"), 0};
+    *fault = (struct part_fault){0, NULL};
+    if (strcmp(text, "-") == 0)
         return l;
-    if (strchr(p->text, ',') == NULL)
-        read_digits(p, &l);
-    else
-        read_numbers(p, &l);
+    *fault = strchr(text, ',') == NULL ? read_digits(text, &l) : read_numbers(text, &l);
+    if (fault->why != NULL) {
+        free(l.letter);
+        l = (struct letters){NULL, 0};
+    }
     return l;
 }
 
-static struct lasso read_lasso(size_t number, char **arguments)
+/* Reads the part of a lasso that has this name. */
+static struct letters read_part(const char *lasso_name, const char *name, const char *text)
 {
-    const char *const prefix = arguments[0][0] == '\0' ? "-" : arguments[0];
-    const char *const loop = arguments[1][0] == '\0' ? "-" : arguments[1];
+    struct part_fault fault;
+    const struct letters l = read_letters(text, &fault);
+    const size_t room = strlen(lasso_name) + 60;
+    char *what;
+    if (fault.why == NULL)
+        return l;
+    what = memory(room, 1, "a message");
+    snprintf(what, room, "%s, byte %zu of its %s", lasso_name, fault.byte + 1, name);
+    trouble(what, fault.why);
+}
+
+struct lasso read_lasso(size_t number, const char *prefix, const char *loop)
+{
     const size_t room = strlen(prefix) + strlen(loop) + 40;
     struct lasso l;
     l.name = memory(room, 1, "a lasso");
     snprintf(l.name, room, "lasso %zu (%s %s)", number, prefix, loop);
-    l.prefix = read_part(&(struct part){l.name, "prefix", prefix});
-    l.loop = read_part(&(struct part){l.name, "loop", loop});
+    l.prefix = read_part(l.name, "prefix", prefix);
+    l.loop = read_part(l.name, "loop", loop);
     return l;
+}
+
+void free_lasso(struct lasso *l)
+{
+    free(l->name);
+    free(l->prefix.letter);
+    free(l->loop.letter);
+}
+
+/* On the command line no text stands for no letters too. */
+static const char *part_of(const char *argument)
+{
+    return argument[0] == '\0' ? "-" : argument;
 }
 
 struct lasso *read_lassos(size_t count, char **arguments)
@@ -83,18 +99,15 @@ struct lasso *read_lassos(size_t count, char **arguments)
     struct lasso *const all = memory(count, sizeof *all, "the lassos");
     size_t i;
     for (i = 0; i < count; i++)
-        all[i] = read_lasso(i + 1, arguments + 2 * i);
+        all[i] = read_lasso(i + 1, part_of(arguments[2 * i]), part_of(arguments[2 * i + 1]));
     return all;
 }
 
 void free_lassos(struct lasso *all, size_t count)
 {
     size_t i;
-    for (i = 0; i < count; i++) {
-        free(all[i].name);
-        free(all[i].prefix.letter);
-        free(all[i].loop.letter);
-    }
+    for (i = 0; i < count; i++)
+        free_lasso(&all[i]);
     free(all);
 }
 

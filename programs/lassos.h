@@ -1,4 +1,4 @@
-/* Lassos on the command line: a prefix and a loop, each written as digits or as numbers divided by commas. */
+/* Lassos as people write them: a prefix and a loop, each as digits or as numbers divided by commas. */
 #ifndef LASSOS_H
 #define LASSOS_H
 
@@ -17,8 +17,25 @@ struct lasso {
     struct letters prefix, loop;
 };
 
-/* Reads so many lassos, two arguments each. A part that is none is trouble: the lasso is quoted whole, and the place of
- * the first byte that may not stand there is said. */
+/* Why a text is no part: the first byte that may not stand there, counted from 0, and a sentence without a full stop,
+ * which is NULL where nothing is wrong. */
+struct part_fault {
+    size_t byte;
+    const char *why;
+};
+
+/* The sentence for what is written in no form that a part has. */
+extern const char form_of_a_part[];
+
+/* Reads one part, "-" for an empty one. The caller frees the letters; where there is a fault there are none. */
+struct letters read_letters(const char *text, struct part_fault *fault);
+
+/* Reads a lasso from its parts. One that is none is trouble: the lasso is quoted whole, and the place of the fault is
+ * said. */
+struct lasso read_lasso(size_t number, const char *prefix, const char *loop);
+void free_lasso(struct lasso *l);
+
+/* So many lassos from the command line, two arguments each. */
 struct lasso *read_lassos(size_t count, char **arguments);
 void free_lassos(struct lasso *all, size_t count);
 

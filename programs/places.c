@@ -195,17 +195,20 @@ static struct place bad_letter_in(const uint16_t *words, const struct lasso *l)
     const size_t at = bad_letter(words, part);
     if (at == part->len)
         return nowhere(TUBOCHRE_LETTER);
-    return place(NO_WORD, "letter %u stands at place %zu of the %s, and the letters are 0 to %u", part->letter[at],
-                 at + 1, in_prefix ? "prefix" : "loop", words[1] - 1U);
+    return place(in_prefix ? PREFIX_WORD : LOOP_WORD,
+                 "letter %u stands at place %zu of the %s, and the letters are 0 to %u", part->letter[at], at + 1,
+                 in_prefix ? "prefix" : "loop", words[1] - 1U);
 }
 
 struct place place_in_lasso(uint32_t number, const uint16_t *words, const struct lasso *l)
 {
     const int prefix_long = l->prefix.len > TUBOCHRE_LASSO_PART_MOST;
     switch (number) {
+    case TUBOCHRE_LOOP_EMPTY: return place(LOOP_WORD, "%s", tubochre_refusal_text(number));
     case TUBOCHRE_LASSO_LONG:
-        return place(NO_WORD, "the %s has %zu letters, and a part has at most %d", prefix_long ? "prefix" : "loop",
-                     prefix_long ? l->prefix.len : l->loop.len, TUBOCHRE_LASSO_PART_MOST);
+        return place(prefix_long ? PREFIX_WORD : LOOP_WORD, "the %s has %zu letters, and a part has at most %d",
+                     prefix_long ? "prefix" : "loop", prefix_long ? l->prefix.len : l->loop.len,
+                     TUBOCHRE_LASSO_PART_MOST);
     case TUBOCHRE_LETTER: return bad_letter_in(words, l);
     default: return nowhere(number);
     }

@@ -11,7 +11,8 @@
 
 #define NO_WORD ((size_t)-1)
 
-/* A sentence without a full stop, and the word of the table at fault, or NO_WORD. */
+/* A sentence without a full stop, and the word at fault, of the table or of the two that a lasso is written in, or
+ * NO_WORD. */
 struct place {
     char sentence[200];
     size_t word;
@@ -24,7 +25,8 @@ struct place place_in_pattern(struct tubochre_checked checked, const uint16_t *w
 /* Of a complement that a build refuses by 11 or 12 though it was lent all the room that there can be. */
 struct place place_in_complement(uint32_t number);
 
-/* Of a lasso that is refused by 13 to 15. */
+/* Of a lasso that is refused by 13 to 15: word 0 is the prefix, 1 the loop. */
+enum lasso_word { PREFIX_WORD, LOOP_WORD };
 struct place place_in_lasso(uint32_t number, const uint16_t *words, const struct lasso *l);
 
 #endif

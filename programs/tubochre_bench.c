@@ -6,6 +6,7 @@
 #include "lassos.h"
 #include "places.h"
 #include "print.h"
+#include "tray.h"
 #include "tubochre.h"
 #include "words.h"
 
@@ -23,11 +24,13 @@ enum graph { NO_GRAPH, PATTERN_GRAPH, COMPLEMENT_GRAPH };
 struct request {
     int help, version, states;
     enum graph graph;
+    const char *tray; /* the name of a file of lassos, or NULL */
     int count;
     char **words;
 };
 
-static const char synopsis[] = "usage: tubochre-bench [OPTION]... PATTERN [PREFIX LOOP]...\n";
+static const char synopsis[] = "usage: tubochre-bench [OPTION]... PATTERN [PREFIX LOOP]...\n"
+                               "       tubochre-bench [OPTION]... PATTERN --tray FILE\n";
 
 static const char description[] =
     "\n"
@@ -78,6 +81,13 @@ static void ask_graph(struct request *r, const char *value)
         wrong_use("this is no graph, which is pattern or complement", value);
 }
 
+static void ask_tray(struct request *r, const char *value)
+{
+    if (r->tray != NULL)
+        wrong_use("--tray reads one file, and this is a second", value);
+    r->tray = value;
+}
+
 static void ask_help(struct request *r, const char *value)
 {
     (void)value;
@@ -100,6 +110,10 @@ static const struct option {
     {"--dot", NULL, "GRAPH", ask_graph,
      "  --dot GRAPH      writes the graph of the pattern or of the complement in DOT, and nothing else;\n"
      "                   GRAPH is pattern or complement\n"},
+    {"--tray", NULL, "FILE", ask_tray,
+     "  --tray FILE      takes the lassos from a file, or - for standard input, and counts the answers; a line\n"
+     "                   has a PREFIX, blanks, and a LOOP, and the empty prefix is -; blank lines and lines that\n"
+     "                   begin with # are skipped\n"},
     {"--help", "-h", NULL, ask_help, "  -h, --help       prints this, and ends\n"},
     {"--version", NULL, NULL, ask_version, "  --version        prints the version, and ends\n"},
 };
@@ -149,7 +163,7 @@ static int read_option(struct request *r, int argc, char **argv, int i)
 /* Options may stand anywhere before "--"; the other words are moved to the front. A lone - is a word. */
 static struct request read_command_line(int argc, char **argv)
 {
-    struct request r = {0, 0, 0, NO_GRAPH, 0, argv + 1};
+    struct request r = {0, 0, 0, NO_GRAPH, NULL, 0, argv + 1};
     int i, ended = 0;
     for (i = 1; i < argc; i++)
         if (!ended && strcmp(argv[i], "--") == 0)
@@ -165,8 +179,12 @@ static void check_request(const struct request *r)
 {
     if (r->count == 0)
         wrong_use("no pattern is named", NULL);
-    if (r->graph != NO_GRAPH && (r->count > 1 || r->states))
+    if (r->graph != NO_GRAPH && (r->count > 1 || r->states || r->tray != NULL))
         wrong_use("--dot writes a graph alone, without lassos and states", NULL);
+    if (r->tray != NULL && r->count > 1)
+        wrong_use("--tray takes all lassos from its file, and this is another", r->words[1]);
+    if (r->tray != NULL && strcmp(r->tray, "-") == 0 && strcmp(r->words[0], "-") == 0)
+        wrong_use("pattern and tray cannot both be read from standard input", NULL);
     if (r->count % 2 == 0)
         wrong_use("a prefix has no loop beside it", r->words[r->count - 1]);
 }
@@ -223,6 +241,16 @@ static int draw_complement(const struct words *w)
 
 /* ---- Answers. */
 
+static void say_taken(const struct lasso *l, int by_pattern)
+{
+    printf("%s: the %s takes it\n", l->name, by_pattern ? "pattern" : "complement");
+}
+
+static _Noreturn void contradiction(const struct lasso *l)
+{
+    trouble(l->name, "pattern and complement contradict each other, which the library rules out");
+}
+
 /* Says which of the two takes a lasso; both are asked, though each answer decides the other. */
 static int answer_lasso(const struct words *w, const struct complement *c, const struct lasso *l)
 {
@@ -234,32 +262,99 @@ static int answer_lasso(const struct words *w, const struct complement *c, const
                            place_in_lasso(by_pattern.number, w->word, l).sentence);
     by_complement = decide(c->words, used, l);
     if (by_complement.number != TUBOCHRE_OK || by_complement.taken == by_pattern.taken)
-        trouble(l->name, "pattern and complement contradict each other, which the library rules out");
-    printf("%s: the %s takes it\n", l->name, by_pattern.taken == TUBOCHRE_TAKEN ? "pattern" : "complement");
+        contradiction(l);
+    say_taken(l, by_pattern.taken == TUBOCHRE_TAKEN);
     return FINE;
 }
 
-static int answer_complement(const struct request *r, const struct words *w, const struct lasso *lassos)
+/* Says what the two bytes of a tray's lasso mean; where it is refused, both say why. */
+static void say_bytes(const struct lasso *l, const struct tray_line *line, const struct words *w, uint8_t by_pattern,
+                      uint8_t by_complement)
 {
-    struct complement c = build(w->word, w->len);
-    const size_t count = (size_t)(r->count - 1) / 2;
+    const int refused = by_pattern > TUBOCHRE_TAKEN;
+    struct place p;
+    if (refused ? by_complement != by_pattern : by_complement != 1 - by_pattern)
+        contradiction(l);
+    if (!refused) {
+        say_taken(l, by_pattern == TUBOCHRE_TAKEN);
+        return;
+    }
+    p = place_in_lasso(by_pattern, w->word, l);
+    say_refused(stdout, l->name, by_pattern, p.word == PREFIX_WORD ? &line->prefix_at : &line->loop_at, p.sentence);
+}
+
+static size_t count_bytes(const uint8_t *bytes, size_t len, uint8_t byte)
+{
+    size_t i, count = 0;
+    for (i = 0; i < len; i++)
+        count += bytes[i] == byte;
+    return count;
+}
+
+static int say_counts(const uint8_t *by_pattern, size_t lassos)
+{
+    const size_t taken = count_bytes(by_pattern, lassos, TUBOCHRE_TAKEN);
+    const size_t not_taken = count_bytes(by_pattern, lassos, TUBOCHRE_NOT_TAKEN);
+    const size_t refused = lassos - taken - not_taken;
+    printf("tray: lassos %zu, the pattern takes %zu, the complement takes %zu, refused %zu\n", lassos, taken, not_taken,
+           refused);
+    return refused == 0 ? FINE : REFUSED;
+}
+
+/* A line for each lasso, and one that counts them. */
+static int answer_tray(const struct words *w, const struct complement *c, const struct tray *t)
+{
+    const size_t used = tubochre_table_words(c->counts.states, c->counts.edges);
+    uint8_t *const by_pattern = try_tray(w->word, w->len, t), *const by_complement = try_tray(c->words, used, t);
+    size_t i;
+    int status;
+    for (i = 0; i < t->lassos; i++) {
+        struct lasso l = tray_lasso(t, i);
+        say_bytes(&l, &t->line[i], w, by_pattern[i], by_complement[i]);
+        free_lasso(&l);
+    }
+    status = say_counts(by_pattern, t->lassos);
+    free(by_pattern);
+    free(by_complement);
+    return status;
+}
+
+/* The lassos that are asked about: those of the command line, or those of a tray. */
+struct asked {
+    struct lasso *lassos;
+    size_t count;
+    struct tray *tray; /* NULL: none */
+};
+
+static int answer_lassos(const struct words *w, const struct complement *c, const struct asked *asked)
+{
     int status = FINE;
     size_t i;
+    if (asked->tray != NULL)
+        return answer_tray(w, c, asked->tray);
+    for (i = 0; i < asked->count; i++)
+        if (answer_lasso(w, c, &asked->lassos[i]) != FINE)
+            status = REFUSED;
+    return status;
+}
+
+static int answer_complement(const struct request *r, const struct words *w, const struct asked *asked)
+{
+    struct complement c = build(w->word, w->len);
+    int status;
     if (c.counts.number != TUBOCHRE_OK) {
         status = complement_refused(stdout, c.counts.number);
     } else {
         printf("complement: states %u, edges %u\n", (unsigned)c.counts.states, (unsigned)c.counts.edges);
         if (r->states)
             print_states(&c);
-        for (i = 0; i < count; i++)
-            if (answer_lasso(w, &c, &lassos[i]) != FINE)
-                status = REFUSED;
+        status = answer_lassos(w, &c, asked);
     }
     free_complement(&c);
     return status;
 }
 
-static int answer(const struct request *r, const struct words *w, const struct lasso *lassos)
+static int answer(const struct request *r, const struct words *w, const struct asked *asked)
 {
     const struct tubochre_checked checked = tubochre_check(w->word, w->len);
     if (checked.number != TUBOCHRE_OK)
@@ -267,14 +362,11 @@ static int answer(const struct request *r, const struct words *w, const struct l
     printf("pattern: passes the check (states %u, letters %u, records %u)\n", (unsigned)w->word[0],
            (unsigned)w->word[1], (unsigned)w->word[2]);
     fflush(stdout); /* before the build, which may take long */
-    return answer_complement(r, w, lassos);
+    return answer_complement(r, w, asked);
 }
 
-/* All lassos are read before the pattern, so that a slip on the command line costs no long build. */
-static int run(const struct request *r)
+static int run_asked(const struct request *r, const struct asked *asked)
 {
-    const size_t count = (size_t)(r->count - 1) / 2;
-    struct lasso *const lassos = read_lassos(count, r->words + 1);
     struct words *const w = memory(1, sizeof *w, "the pattern");
     struct fault fault;
     int status;
@@ -286,9 +378,26 @@ static int run(const struct request *r)
     else if (r->graph == COMPLEMENT_GRAPH)
         status = draw_complement(w);
     else
-        status = answer(r, w, lassos);
-    free_lassos(lassos, count);
+        status = answer(r, w, asked);
     free(w);
+    return status;
+}
+
+/* All lassos are read before the pattern, so that a slip in one costs no long build. */
+static int run(const struct request *r)
+{
+    struct asked asked = {NULL, (size_t)(r->count - 1) / 2, NULL};
+    struct tray tray;
+    int status;
+    if (r->tray != NULL) {
+        tray = read_tray(r->tray);
+        asked.tray = &tray;
+    }
+    asked.lassos = read_lassos(asked.count, r->words + 1);
+    status = run_asked(r, &asked);
+    free_lassos(asked.lassos, asked.count);
+    if (asked.tray != NULL)
+        free_tray(asked.tray);
     return status;
 }
 

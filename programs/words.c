@@ -1,38 +1,8 @@
 #include "words.h"
 
-#include "common.h"
-
-#include <errno.h>
 #include <stdio.h>
-#include <string.h>
 
 enum { WORD_MOST = 65535, DIGITS_SHOWN = 20 };
-
-/* Where reading stands: the byte there, or EOF. */
-struct cursor {
-    FILE *file;
-    const char *name;
-    int byte;
-    struct spot at;
-};
-
-static void read_byte(struct cursor *c)
-{
-    c->byte = getc(c->file);
-    if (c->byte == EOF && ferror(c->file))
-        trouble(c->name, strerror(errno));
-}
-
-static void step(struct cursor *c)
-{
-    if (c->byte == '\n') {
-        c->at.line++;
-        c->at.column = 1;
-    } else {
-        c->at.column++;
-    }
-    read_byte(c);
-}
 
 static int is_digit(int byte)
 {
@@ -143,19 +113,14 @@ static int read_word(struct cursor *c, struct words *words, struct fault *fault)
 
 int read_words(const char *name, struct words *words, struct fault *fault)
 {
-    const int standard = strcmp(name, "-") == 0;
-    struct cursor c = {standard ? stdin : fopen(name, "rb"), standard ? "standard input" : name, EOF, {1, 1}};
+    struct cursor c = open_text(name);
     int good = 1;
-    if (c.file == NULL)
-        trouble(name, strerror(errno));
     words->len = 0;
-    read_byte(&c);
     while (good && c.byte != EOF)
         if (divides(c.byte))
             step(&c);
         else
             good = read_word(&c, words, fault);
-    if (!standard)
-        fclose(c.file);
+    close_text(&c);
     return good;
 }

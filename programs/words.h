@@ -3,15 +3,11 @@
 #ifndef WORDS_H
 #define WORDS_H
 
+#include "text.h"
 #include "tubochre.h"
 
 #include <stddef.h>
 #include <stdint.h>
-
-/* A place in a text: line and column from 1 on, a column being a byte. */
-struct spot {
-    size_t line, column;
-};
 
 /* The words of a text, and where each of them begins. */
 struct words {

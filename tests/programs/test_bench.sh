@@ -306,6 +306,138 @@ lasso 1 (- ${nought}1): refused (14): the loop has 4097 letters, and a part has 
 expect 'both parts of 4,096' 0 "$passes
 lasso 1 ($(zeros 4096) $(zeros 4096)): the pattern takes it" '' "$program" "$folder/a" "$(zeros 4096)" "$(zeros 4096)"
 
+# ---- Trays.
+
+# Each line here is tried with the blanks and lines that may stand around it.
+answers='lasso 1 (- 0): the pattern takes it
+lasso 2 (- 1): the complement takes it
+lasso 3 (0,1 1,0,): the complement takes it
+tray: lassos 3, the pattern takes 1, the complement takes 2, refused 0'
+printf -- '- 0\n- 1\n0,1 1,0,\n' >"$folder/lassos"
+expect 'a tray' 0 "$passes
+$answers" '' "$program" "$folder/a" --tray "$folder/lassos"
+expect 'a tray before the pattern' 0 "$passes
+$answers" '' "$program" --tray="$folder/lassos" "$folder/a"
+expect 'a tray from standard input' 0 "$passes
+$answers" '' "$program" "$folder/a" --tray - <"$folder/lassos"
+expect 'a tray beside a pattern from standard input' 0 "$passes
+$answers" '' "$program" - --tray "$folder/lassos" <<<"$a"
+expect 'a tray and states' 0 "$passes
+0 1 0 0 0 3
+1 1 2 0 2 0
+$answers" '' "$program" --states "$folder/a" --tray "$folder/lassos"
+(cd "$folder" && cp lassos ./-l)
+expect 'a tray with a name like an option' 0 "$passes
+$answers" '' env -C "$folder" "$(realpath "$program")" a --tray -l
+
+# tray NAME TEXT: a text of the three lassos, as printf's %b takes it
+tray() {
+    expect "$1" 0 "$passes
+$answers" '' "$program" "$folder/a" --tray - < <(printf %b "$2")
+}
+tray 'no newline at the end' '- 0\n- 1\n0,1 1,0,'
+tray 'blank lines' '\n\n- 0\n  \n- 1\n\t\n\n0,1 1,0,\n\n'
+tray 'comments' '# one\n- 0\n#- 0\n  # - 0\n- 1\n#\n##\n0,1 1,0,\n# \x00\xff none'
+tray 'blanks around and between' '  -   0\n-\t1\t \n \t0,1 \t 1,0,  '
+tray 'CR LF' '- 0\r\n\r\n- 1\r\n# one\r\n0,1 1,0,\r\n'
+
+expect 'the example' 1 "$passes
+lasso 1 (- 0): the pattern takes it
+lasso 2 (- 1): the complement takes it
+lasso 3 (11 01): the complement takes it
+lasso 4 (1101 0): the pattern takes it
+lasso 5 (0 012): refused (15) in line 8, column 3: letter 2 stands at place 3 of the loop, and the letters are 0 to 1
+lasso 6 (1 -): refused (13) in line 9, column 3: the loop is empty
+tray: lassos 6, the pattern takes 2, the complement takes 2, refused 2" '' \
+    "$program" "$here/../../examples/pattern-a.txt" --tray "$here/../../examples/lassos.txt"
+expect 'all are refused' 1 "$passes
+lasso 1 (- -): refused (13) in line 1, column 3: the loop is empty
+lasso 2 (0,255 1): refused (15) in line 3, column 2: letter 255 stands at place 2 of the prefix, and the letters are 0 to 1
+lasso 3 (2 2): refused (15) in line 4, column 1: letter 2 stands at place 1 of the prefix, and the letters are 0 to 1
+tray: lassos 3, the pattern takes 0, the complement takes 0, refused 3" '' \
+    "$program" "$folder/a" --tray - < <(printf -- '- -\n\n 0,255 1\n2 2')
+nothing='tray: lassos 0, the pattern takes 0, the complement takes 0, refused 0'
+expect 'an empty tray' 0 "$passes
+$nothing" '' "$program" "$folder/a" --tray /dev/null
+expect 'a tray of comments' 0 "$passes
+$nothing" '' "$program" "$folder/a" --tray - <<<'# none'
+expect 'parts too long' 1 "$passes
+lasso 1 ($(zeros 4097) 0): refused (14) in line 1, column 1: the prefix has 4097 letters, and a part has at most 4096
+lasso 2 (- $(zeros 65535)): refused (14) in line 2, column 3: the loop has 65535 letters, and a part has at most 4096
+lasso 3 ($(zeros 4096) $(zeros 4096)): the pattern takes it
+tray: lassos 3, the pattern takes 1, the complement takes 0, refused 2" '' \
+    "$program" "$folder/a" --tray - <<<"$(zeros 4097) 0
+- $(zeros 65535)
+$(zeros 4096) $(zeros 4096)"
+expect 'a refused pattern has no answers' 1 'pattern: refused (3) in line 1, column 1: the number of states is 0, and a pattern has 1 to 32' '' \
+    "$program" - --tray "$folder/lassos" <<<'0 1 0'
+expect 'nor has a refused complement' 1 "pattern: passes the check (states 19, letters 1, records 19)
+$many" '' "$program" - --tray "$folder/lassos" <<<"$(rings 1 17 1)"
+
+# A tray says of each lasso what the command line says of it.
+mapfile -t each < <(awk 'function part(most, s, n) {
+    s = ""
+    for (n = int(rand() * most); n > 0; n--) s = s int(rand() * 2.05)
+    return s == "" ? "-" : s
+} BEGIN { srand(7); for (i = 0; i < 400; i++) print part(9), part(7) }')
+printf '%s\n' "${each[@]}" >"$folder/each"
+# shellcheck disable=SC2046 # two words a lasso
+"$program" "$folder/a" $(cat "$folder/each") >"$folder/single"
+"$program" "$folder/a" --tray "$folder/each" | sed 's/ in line [0-9]*, column [0-9]*//' >"$folder/whole"
+tried=$((tried + 1))
+diff "$folder/single" <(sed '$d' "$folder/whole") >"$folder/diff" || wrong 'a tray beside single lassos' 'they differ' "$(head "$folder/diff")"
+for kind in 'the pattern takes it' 'the complement takes it' 'refused (13)' 'refused (15)'; do
+    grep -qF "$kind" "$folder/whole" || wrong 'a tray beside single lassos' 'none has this answer' "$kind"
+done
+# Far more lassos than a call of any program could have on its command line, in a line of its own each.
+for _ in $(seq 200); do cat "$folder/each"; done >"$folder/long"
+"$program" "$folder/a" --tray "$folder/long" >"$folder/whole"
+count=$(wc -l <"$folder/whole")
+[ "$count" -eq 80003 ] || wrong 'a long tray' 'lines' "$count"
+last=$(tail -n 1 "$folder/whole")
+sums=$(awk '/: the pattern takes it$/ { p++ } /: the complement takes it$/ { c++ } /: refused \(/ { r++ }
+    END { printf "tray: lassos %d, the pattern takes %d, the complement takes %d, refused %d", p + c + r, p, c, r }' "$folder/whole")
+[ "$last" = "$sums" ] || wrong 'a long tray' "its summary is not '$sums'" "$last"
+tried=$((tried + 1))
+if limited --version >/dev/null 2>&1; then
+    expect 'too little memory for a tray' 2 'pattern: passes the check (states 18, letters 1, records 18)
+complement: states 7168, edges 7168' \
+        "tubochre-bench: a tray's work words: there is not enough memory: it takes 117440512 times 4 bytes" \
+        limited - --tray <(printf -- '- 0\n- %s\n' "$(zeros 4096)") <<<"$(rings 7 10 1)"
+fi
+
+# bad LINE COLUMN SENTENCE TEXT: a line that is no lasso, in a text as printf's %b takes it; the pattern is not even read
+bad() {
+    expect "a tray: $3" 2 '' "tubochre-bench: standard input, line $1, column $2: $3" \
+        "$program" "$folder/none" --tray - < <(printf %b "$4")
+}
+part='a part is digits, or numbers divided by commas'
+bad 1 1 "$part" 'x 1'
+bad 2 4 "$part" '- 0\n0 1x\n'
+bad 3 3 "$part" '- 0\n\n- ,1\n'
+bad 1 5 "$part" '- 1,,1'
+bad 1 3 "$part" '- -1'
+bad 1 4 "$part" '- 1-'
+bad 1 1 "$part" '--\n'
+bad 1 1 "$part" "'' 0"
+bad 1 2 "$part" '0;1'
+bad 1 1 "$part" '\xef\xbb\xbf- 0\n'
+bad 1 4 "$part" '- 0\x00\n'
+bad 2 7 "$part" '# one\n1 0101#\n'
+bad 1 5 'a letter is a number from 0 to 255' '- 3,256,1'
+bad 2 1 'a letter is a number from 0 to 255' '- 0\n99999999999999999999, 0'
+bad 1 1 'a prefix has no loop beside it' '0'
+bad 2 3 'a prefix has no loop beside it' '0 1\n  01  \n1 1'
+bad 1 5 'the line goes on behind its loop, and it has one prefix and one loop' '0 1 1\n'
+bad 2 6 'the line goes on behind its loop, and it has one prefix and one loop' '\n0 1  # one\n'
+bad 1 3 'the part has 65536 letters, and in a tray a part has at most 65535' "- $(zeros 65536)"
+bad 2 1 'the part has 70000 letters, and in a tray a part has at most 65535' "- 0\n$(zeros 70000) 1"
+expect 'endless zero bytes in a tray' 2 '' "tubochre-bench: /dev/zero, line 1, column 1: $part" \
+    "$program" "$folder/a" --tray /dev/zero
+printf '0 1\n0 1x\n' >"$folder/wrong"
+expect 'a tray with a fault, by its name' 2 '' "tubochre-bench: $folder/wrong, line 2, column 4: $part" \
+    "$program" "$folder/a" --tray "$folder/wrong"
+
 # ---- The command line.
 
 # misuse SENTENCE ARGUMENTS...
@@ -314,6 +446,7 @@ misuse() {
     shift
     expect "$sentence" 2 '' "tubochre-bench: $sentence
 usage: tubochre-bench [OPTION]... PATTERN [PREFIX LOOP]...
+       tubochre-bench [OPTION]... PATTERN --tray FILE
 tubochre-bench --help says more" "$program" "$@"
 }
 misuse 'no pattern is named'
@@ -340,6 +473,13 @@ misuse 'this is no graph, which is pattern or complement: --' --dot -- "$folder/
 misuse '--dot writes one graph, and this is a second: complement' --dot pattern --dot complement "$folder/a"
 misuse '--dot writes a graph alone, without lassos and states' --dot pattern "$folder/a" 0 1
 misuse '--dot writes a graph alone, without lassos and states' --dot pattern --states "$folder/a"
+misuse '--dot writes a graph alone, without lassos and states' --dot pattern --tray "$folder/lassos" "$folder/a"
+misuse 'a value is missing behind this option: --tray' "$folder/a" --tray
+misuse '--tray reads one file, and this is a second: y' --tray x --tray y "$folder/a"
+misuse '--tray takes all lassos from its file, and this is another: 0' --tray "$folder/lassos" "$folder/a" 0 1
+misuse '--tray takes all lassos from its file, and this is another: 0' "$folder/a" 0 --tray "$folder/lassos"
+misuse 'pattern and tray cannot both be read from standard input' --tray - -
+misuse 'no pattern is named' --tray "$folder/lassos"
 
 # trouble SENTENCE ARGUMENTS...
 trouble() {
@@ -351,6 +491,9 @@ trouble "$folder/none: No such file or directory" "$folder/none"
 trouble "$folder: Is a directory" "$folder"
 trouble "$folder/a/: Not a directory" "$folder/a/"
 trouble "'': No such file or directory" ''
+trouble "$folder/none: No such file or directory" --tray "$folder/none" "$folder/a"
+trouble "$folder: Is a directory" --tray "$folder" "$folder/a"
+trouble "'': No such file or directory" --tray= "$folder/a"
 trouble "$folder/\\x1b[31m\\x0a: No such file or directory" "$folder/"$'\x1b[31m\n'
 trouble "$folder/ü€\\xc2\\x9b31m\\xff\\xe2\\x82x: No such file or directory" "$folder/"$'\xc3\xbc\xe2\x82\xac\xc2\x9b31m\xff\xe2\x82x'
 touch "$folder/closed"
@@ -358,6 +501,8 @@ chmod 000 "$folder/closed"
 [ -r "$folder/closed" ] || trouble "$folder/closed: Permission denied" "$folder/closed"
 expect 'standard input is a directory' 2 '' 'tubochre-bench: standard input: Is a directory' "$program" - </
 expect 'standard input is closed' 2 '' 'tubochre-bench: standard input: Bad file descriptor' "$program" - <&-
+expect 'a tray from a closed standard input' 2 '' 'tubochre-bench: standard input: Bad file descriptor' \
+    "$program" "$folder/a" --tray - <&-
 parts='a part is digits, or numbers divided by commas'
 trouble "lasso 1 (0 1x1), byte 2 of its loop: $parts" "$folder/a" 0 1x1
 trouble "lasso 2 (a 1), byte 1 of its prefix: $parts" "$folder/a" 0 1 a 1
@@ -374,6 +519,7 @@ trouble "lasso 1 (0 99999999999999999999,), byte 1 of its loop: a letter is a nu
 expect '--version' 0 "tubochre-bench $(sed -n 's/^.define TUBOCHRE_VERSION_[A-Z]* //p' "$here/../../include/tubochre.h" | paste -sd. -)" \
     '' "$program" --version
 help="usage: tubochre-bench [OPTION]... PATTERN [PREFIX LOOP]...
+       tubochre-bench [OPTION]... PATTERN --tray FILE
 
 Checks a pattern, builds its complement, and says of each lasso which of the two takes it.
 
@@ -388,6 +534,9 @@ Options:
   --states         also prints each state of the complement: number, N, C, S, B, flags
   --dot GRAPH      writes the graph of the pattern or of the complement in DOT, and nothing else;
                    GRAPH is pattern or complement
+  --tray FILE      takes the lassos from a file, or - for standard input, and counts the answers; a line
+                   has a PREFIX, blanks, and a LOOP, and the empty prefix is -; blank lines and lines that
+                   begin with # are skipped
   -h, --help       prints this, and ends
   --version        prints the version, and ends
   --               ends the options: all words behind it are PATTERN, PREFIX and LOOP
@@ -400,12 +549,14 @@ expect '--help before all else' 0 "$help" '' "$program" "$folder/none" --help 0
 
 # ---- Outputs that cannot be written.
 
-for arguments in --help --version "$folder/a" "--states $folder/a" "--dot pattern $folder/a" "--dot complement $folder/a" - ; do
+for arguments in --help --version "$folder/a" "--states $folder/a" "--dot pattern $folder/a" "--dot complement $folder/a" - \
+    "--tray $folder/lassos $folder/a"; do
     # shellcheck disable=SC2086 # words
     expect "a full disk: $arguments" 2 '' 'tubochre-bench: standard output: No space left on device' \
         sh -c "exec \"\$0\" \"\$@\" >/dev/full" "$program" $arguments <<<'x'
 done
-for arguments in --help --version "$folder/a" "--states $folder/a" "--dot pattern $folder/a" "--dot complement $folder/a" ; do
+for arguments in --help --version "$folder/a" "--states $folder/a" "--dot pattern $folder/a" "--dot complement $folder/a" \
+    "--tray $folder/lassos $folder/a"; do
     # shellcheck disable=SC2086 # words
     expect "a closed output: $arguments" 2 '' 'tubochre-bench: standard output: Bad file descriptor' \
         sh -c "exec \"\$0\" \"\$@\" >&-" "$program" $arguments

@@ -1,0 +1,180 @@
+#include "tray.h"
+
+#include "common.h"
+#include "progress.h"
+#include "tubochre.h"
+
+#include <stdio.h>
+#include <stdlib.h>
+#include <string.h>
+
+enum { WORD_MOST = 65535 };
+
+static const char what_for[] = "the tray";
+
+/* ---- What grows with the file. */
+
+/* Memory in which there is room for one thing more; the room is doubled where it is full. */
+static void *with_room(void *old, size_t count, size_t *room, size_t size)
+{
+    if (count < *room)
+        return old;
+    *room = 2 * *room + 64;
+    return more_memory(old, *room, size, what_for);
+}
+
+static void add_word(struct tray *t, size_t word)
+{
+    t->list = with_room(t->list, t->list_len, &t->list_room, sizeof *t->list);
+    t->list[t->list_len++] = (uint16_t)word;
+}
+
+static void add_byte(struct tray *t, int byte)
+{
+    t->text = with_room(t->text, t->text_len, &t->text_room, sizeof *t->text);
+    t->text[t->text_len++] = (char)byte;
+}
+
+static void add_line(struct tray *t, const struct tray_line *line)
+{
+    t->line = with_room(t->line, t->lassos, &t->line_room, sizeof *t->line);
+    t->line[t->lassos++] = *line;
+}
+
+static void add_letters(struct tray *t, const struct letters *l)
+{
+    size_t i;
+    for (i = 0; i < l->len; i++)
+        add_word(t, l->letter[i]);
+}
+
+/* ---- Reading. */
+
+static _Noreturn void bad_line(const struct cursor *c, struct spot at, const char *why)
+{
+    const size_t room = strlen(c->name) + 80;
+    char *const what = memory(room, 1, "a message");
+    snprintf(what, room, "%s, line %zu, column %zu", c->name, at.line, at.column);
+    trouble(what, why);
+}
+
+static int is_blank(int byte)
+{
+    return byte == ' ' || byte == '\t' || byte == '\r';
+}
+
+static int ends_line(int byte)
+{
+    return byte == '\n' || byte == EOF;
+}
+
+static int may_stand_in_part(int byte)
+{
+    return (byte >= '0' && byte <= '9') || byte == ',' || byte == '-';
+}
+
+static void skip_blanks(struct cursor *c)
+{
+    while (is_blank(c->byte))
+        step(c);
+}
+
+static void skip_line(struct cursor *c)
+{
+    while (!ends_line(c->byte))
+        step(c);
+}
+
+static void check_part(const struct cursor *c, struct spot at, const struct letters *l, struct part_fault fault)
+{
+    char why[100];
+    if (fault.why != NULL)
+        bad_line(c, (struct spot){at.line, at.column + fault.byte}, fault.why);
+    if (!is_blank(c->byte) && !ends_line(c->byte))
+        bad_line(c, c->at, form_of_a_part);
+    if (l->len > WORD_MOST) {
+        snprintf(why, sizeof why, "the part has %zu letters, and in a tray a part has at most %d", l->len, WORD_MOST);
+        bad_line(c, at, why);
+    }
+}
+
+/* Keeps the text of a part, up to the first byte that may stand in none, and reads it. */
+static struct letters read_part(struct tray *t, struct cursor *c)
+{
+    const struct spot at = c->at;
+    const size_t from = t->text_len;
+    struct part_fault fault;
+    struct letters l;
+    for (; may_stand_in_part(c->byte); step(c))
+        add_byte(t, c->byte);
+    add_byte(t, '\0');
+    l = read_letters(t->text + from, &fault);
+    check_part(c, at, &l, fault);
+    return l;
+}
+
+static void read_line(struct tray *t, struct cursor *c)
+{
+    struct tray_line line = {t->text_len, 0, c->at, c->at};
+    struct letters prefix = read_part(t, c), loop;
+    skip_blanks(c);
+    if (ends_line(c->byte))
+        bad_line(c, line.prefix_at, "a prefix has no loop beside it");
+    line.loop = t->text_len;
+    line.loop_at = c->at;
+    loop = read_part(t, c);
+    skip_blanks(c);
+    if (!ends_line(c->byte))
+        bad_line(c, c->at, "the line goes on behind its loop, and it has one prefix and one loop");
+    add_line(t, &line);
+    add_word(t, prefix.len);
+    add_word(t, loop.len);
+    add_letters(t, &prefix);
+    add_letters(t, &loop);
+    free(prefix.letter);
+    free(loop.letter);
+}
+
+struct tray read_tray(const char *name)
+{
+    struct cursor c = open_text(name);
+    struct tray t = {NULL, 0, 0, NULL, 0, 0, NULL, 0, 0};
+    while (c.byte != EOF)
+        if (is_blank(c.byte) || c.byte == '\n')
+            step(&c);
+        else if (c.byte == '#')
+            skip_line(&c);
+        else
+            read_line(&t, &c);
+    close_text(&c);
+    return t;
+}
+
+void free_tray(struct tray *t)
+{
+    free(t->list);
+    free(t->line);
+    free(t->text);
+}
+
+struct lasso tray_lasso(const struct tray *t, size_t i)
+{
+    return read_lasso(i + 1, t->text + t->line[i].prefix, t->text + t->line[i].loop);
+}
+
+/* ---- Deciding. */
+
+uint8_t *try_tray(const uint16_t *words, size_t len, const struct tray *t)
+{
+    const size_t work_len = tubochre_tray_work_words(words[0], t->list, t->list_len);
+    uint32_t *const work = memory(work_len, sizeof *work, "a tray's work words");
+    uint8_t *const answers = memory(t->lassos, sizeof *answers, what_for);
+    struct tubochre_written written;
+    progress_begin("trying the tray");
+    written = tubochre_tray(words, len, t->list, t->list_len, answers, t->lassos, work, work_len);
+    progress_end();
+    free(work);
+    if (written.number != TUBOCHRE_OK)
+        trouble(what_for, tubochre_refusal_text(written.number));
+    return answers;
+}
