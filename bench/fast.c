@@ -380,8 +380,8 @@ struct search {
     const uint16_t *table;
     const uint8_t *prefix, *loop;
     uint32_t n, k, positions, back; /* the position behind the last one */
-    const uint32_t *first;          /* targets by state and letter: from first[q * k + c] on */
-    const uint16_t *target;
+    uint32_t *first;                /* targets by state and letter: from first[q * k + c] on */
+    uint16_t *target;
     uint32_t *index, *low; /* index 0: not met; UINT32_MAX: its component is done */
     uint32_t *open;        /* nodes whose component is not done */
     uint32_t *path, *cursor;
@@ -467,9 +467,34 @@ static void list_targets(const uint16_t *t, uint32_t *first, uint16_t *target)
             target[first[q * k + records[3 * (r - 1)] + 1]++] = records[3 * (r - 1) + 1];
 }
 
-static bool takes(struct search *s, size_t nodes, uint32_t *work)
+/* Begins the searches in a table that passes: its lists are made once for all of them. */
+static void begin_searches(struct search *s, const uint16_t *table)
 {
+    memset(s, 0, sizeof *s);
+    s->table = table;
+    s->n = table[0];
+    s->k = table[1];
+    s->first = room_for((size_t)s->n * s->k + 2, sizeof *s->first);
+    s->target = room_for(table[2], sizeof *s->target);
+    list_targets(table, s->first, s->target);
+}
+
+static void end_searches(struct search *s)
+{
+    free(s->first);
+    free(s->target);
+}
+
+static bool takes(struct search *s, const uint8_t *prefix, size_t prefix_len, const uint8_t *loop, size_t loop_len,
+                  uint32_t *work)
+{
+    const size_t nodes = s->n * (prefix_len + loop_len);
     uint32_t q;
+    s->prefix = prefix;
+    s->loop = loop;
+    s->back = (uint32_t)prefix_len;
+    s->positions = (uint32_t)(prefix_len + loop_len);
+    s->opened = s->depth = s->met = 0;
     s->index = work;
     s->low = work + nodes;
     s->open = work + 2 * nodes;
@@ -482,22 +507,19 @@ static bool takes(struct search *s, size_t nodes, uint32_t *work)
     return false;
 }
 
-static uint32_t lasso_refusal(const uint16_t *t, size_t len, const uint8_t *prefix, size_t prefix_len,
-                              const uint8_t *loop, size_t loop_len)
+static uint32_t lasso_refusal(uint32_t k, const uint8_t *prefix, size_t prefix_len, const uint8_t *loop,
+                              size_t loop_len)
 {
-    const uint32_t number = table_refusal(t, len, WIDE, WIDE);
     size_t i;
-    if (number != 0)
-        return number;
     if (loop_len == 0)
         return 13;
     if (prefix_len > PART || loop_len > PART)
         return 14;
     for (i = 0; i < prefix_len; i++)
-        if (prefix[i] >= t[1])
+        if (prefix[i] >= k)
             return 15;
     for (i = 0; i < loop_len; i++)
-        if (loop[i] >= t[1])
+        if (loop[i] >= k)
             return 15;
     return 0;
 }
@@ -510,27 +532,65 @@ size_t fast_work_words(uint32_t states, size_t prefix_len, size_t loop_len)
 struct fast_decision fast_lasso(const uint16_t *table, size_t len, const uint8_t *prefix, size_t prefix_len,
                                 const uint8_t *loop, size_t loop_len, uint32_t *work)
 {
-    struct fast_decision d = {lasso_refusal(table, len, prefix, prefix_len, loop, loop_len), 0};
+    struct fast_decision d = {table_refusal(table, len, WIDE, WIDE), 0};
     struct search s;
-    uint32_t *first;
-    uint16_t *target;
+    if (d.number == 0)
+        d.number = lasso_refusal(table[1], prefix, prefix_len, loop, loop_len);
     if (d.number != 0)
         return d;
-    memset(&s, 0, sizeof s);
-    first = room_for((size_t)table[0] * table[1] + 2, sizeof *first);
-    target = room_for(table[2], sizeof *target);
-    list_targets(table, first, target);
-    s.table = table;
-    s.prefix = prefix;
-    s.loop = loop;
-    s.n = table[0];
-    s.k = table[1];
-    s.back = (uint32_t)prefix_len;
-    s.positions = (uint32_t)(prefix_len + loop_len);
-    s.first = first;
-    s.target = target;
-    d.taken = takes(&s, (size_t)s.n * s.positions, work) ? 1 : 0;
-    free(first);
-    free(target);
+    begin_searches(&s, table);
+    d.taken = takes(&s, prefix, prefix_len, loop, loop_len, work) ? 1 : 0;
+    end_searches(&s);
     return d;
+}
+
+/* ---- The tray. */
+
+/* How many lassos a list holds; SIZE_MAX where it ends inside of one. */
+static size_t lassos_in(const uint16_t *list, size_t len)
+{
+    const uint16_t *const end = list + len;
+    size_t lassos = 0;
+    while (end - list >= 2 && end - list - 2 >= (ptrdiff_t)list[0] + list[1]) {
+        list += 2 + list[0] + list[1];
+        lassos++;
+    }
+    return list == end ? lassos : SIZE_MAX;
+}
+
+/* The byte of the lasso that begins here. Its letters are narrowed: those that do not fit become one that none is. */
+static uint8_t byte_of(struct search *s, const uint16_t *lasso, uint32_t *work)
+{
+    uint8_t letters[2 * PART];
+    const size_t prefix_len = lasso[0], loop_len = lasso[1];
+    size_t i;
+    uint32_t number;
+    if (loop_len > 0 && prefix_len <= PART && loop_len <= PART)
+        for (i = 0; i < prefix_len + loop_len; i++)
+            letters[i] = (uint8_t)(lasso[2 + i] > UINT8_MAX ? UINT8_MAX : lasso[2 + i]);
+    number = lasso_refusal(s->k, letters, prefix_len, letters + prefix_len, loop_len);
+    if (number != 0)
+        return (uint8_t)number;
+    return takes(s, letters, prefix_len, letters + prefix_len, loop_len, work) ? 1 : 0;
+}
+
+struct fast_written fast_tray(const uint16_t *table, size_t len, const uint16_t *list, size_t list_len,
+                              uint8_t *answers, size_t answers_len, uint32_t *work)
+{
+    const size_t lassos = lassos_in(list, list_len);
+    struct fast_written written = {lassos == SIZE_MAX ? 17 : lassos != answers_len ? 18 : 0, 0};
+    struct search s;
+    size_t i;
+    if (written.number == 0)
+        written.number = table_refusal(table, len, WIDE, WIDE);
+    if (written.number != 0) {
+        memset(answers, written.number < 17 ? (int)written.number : 0, answers_len);
+        return written;
+    }
+    begin_searches(&s, table);
+    for (i = 0; i < lassos; i++, list += 2 + list[0] + list[1])
+        answers[i] = byte_of(&s, list, work);
+    end_searches(&s);
+    written.count = lassos;
+    return written;
 }

@@ -1,4 +1,4 @@
-/* The same three jobs without any proof, written for speed: what the library's times are measured against. */
+/* The same four jobs without any proof, written for speed: what the library's times are measured against. */
 #ifndef FAST_H
 #define FAST_H
 
@@ -23,6 +23,11 @@ struct fast_decision {
     uint32_t number, taken;
 };
 
+struct fast_written {
+    uint32_t number;
+    uint64_t count;
+};
+
 /* How a build looks a quadruple up: in a hash table, or by going through all states found so far. */
 enum fast_lookup { FAST_HASH, FAST_SCAN };
 
@@ -39,5 +44,10 @@ size_t fast_work_words(uint32_t states, size_t prefix_len, size_t loop_len);
  * cleared. It leaves the work words as they are in the end. */
 struct fast_decision fast_lasso(const uint16_t *table, size_t len, const uint8_t *prefix, size_t prefix_len,
                                 const uint8_t *loop, size_t loop_len, uint32_t *work);
+
+/* Checks the table and lists its targets once, and then searches for each lasso as fast_lasso does, in the work words
+ * that the largest of them takes there. It measures none against them: the benchmark lends enough. */
+struct fast_written fast_tray(const uint16_t *table, size_t len, const uint16_t *list, size_t list_len,
+                              uint8_t *answers, size_t answers_len, uint32_t *work);
 
 #endif

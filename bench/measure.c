@@ -1,12 +1,13 @@
 /* The library's calls beside an unverified reference written for speed, in one process, on the same inputs.
  *
- *     measure [--quick] [check] [build] [growth] [stack]
+ *     measure [--quick] [check] [build] [growth] [tray] [stack]
  *     measure --count LETTERS
  *
  * For each row both are run once to warm up, and what they answer and leave is compared. Then they take turns, and the
  * medians of the processor's time are printed. What is timed is whole calls that leave the same in the lent memory:
- * both clear the unused words of a build, and after a decision as many work words as the library is lent. The reference
- * allocates and frees its own tables, and is lent one block of work words more.
+ * both clear the unused words of a build, and after a decision or a tray as many work words as the library is lent. The
+ * reference allocates and frees its own tables, and is lent one block of work words more. A tray is measured against as
+ * many single calls of the library too.
  *
  * `--count` makes one decision only, with a loop of so many letters on the table of the growth rows, for a tool that
  * counts its instructions (instructions.sh). */
@@ -27,7 +28,7 @@
 #include <time.h>
 #include <unistd.h>
 
-enum { ROUNDS_MOST = 201, ROUNDS_FEWEST = 3 };
+enum { ROUNDS_MOST = 201, ROUNDS_FEWEST = 3, CALLS_MOST = 3 };
 
 static int quick;
 
@@ -83,7 +84,7 @@ static double median(double *times, int count)
     return times[count / 2];
 }
 
-/* ---- A row: two calls that take turns. */
+/* ---- A row: calls that take turns. */
 
 struct input {
     const uint16_t *table;
@@ -95,6 +96,12 @@ struct input {
     const uint8_t *prefix, *loop; /* a decision's lasso */
     size_t prefix_len, loop_len;
     uint32_t *work; /* a decision's room, for the reference too */
+    size_t work_len;
+    const uint16_t *list; /* a tray's lassos, as a list, and as letters one behind the other */
+    size_t list_len;
+    const uint8_t *letters;
+    uint8_t *answers; /* a tray's room: a byte for each lasso */
+    size_t lassos;
     enum fast_lookup lookup;
     volatile uint32_t answer; /* so that no call is left out */
 };
@@ -134,21 +141,30 @@ static int rounds_for(double seconds)
     return (int)rounds | 1;
 }
 
+/* So many calls take turns, at most CALLS_MOST; how many rounds there were, and the median of each. */
+static int rounds_of(call *const *calls, int count, struct input *in, double *medians)
+{
+    static double times[CALLS_MOST][ROUNDS_MOST + 1];
+    double once = 0;
+    int i, round, rounds, in_a_row;
+    for (i = 0; i < count; i++)
+        once += timed(calls[i], in, 1);
+    in_a_row = calls_for(once);
+    rounds = rounds_for(once * in_a_row);
+    for (round = 0; round < rounds; round++)
+        for (i = 0; i < count; i++)
+            times[i][round] = timed(calls[i], in, in_a_row);
+    for (i = 0; i < count; i++)
+        medians[i] = median(times[i], rounds);
+    return rounds;
+}
+
 static struct times take_turns(call *library, call *reference, struct input *in)
 {
-    static double by_library[ROUNDS_MOST + 1], by_reference[ROUNDS_MOST + 1];
-    const double once = timed(library, in, 1) + timed(reference, in, 1);
-    const int calls = calls_for(once);
-    struct times t;
-    int i;
-    t.rounds = rounds_for(once * calls);
-    for (i = 0; i < t.rounds; i++) {
-        by_library[i] = timed(library, in, calls);
-        by_reference[i] = timed(reference, in, calls);
-    }
-    t.library = median(by_library, t.rounds);
-    t.reference = median(by_reference, t.rounds);
-    return t;
+    call *const calls[] = {library, reference};
+    double medians[2];
+    const int rounds = rounds_of(calls, 2, in, medians);
+    return (struct times){medians[0], medians[1], rounds};
 }
 
 static void print_heading(const char *title, const char *last)
@@ -199,6 +215,33 @@ static void lasso_by_reference(struct input *in)
     in->answer =
         fast_lasso(in->table, in->len, in->prefix, in->prefix_len, in->loop, in->loop_len, in->work).taken;
     memset(in->work, 0, tubochre_work_words(in->table[0], in->prefix_len, in->loop_len) * sizeof *in->work);
+}
+
+/* Each lasso of a tray has so many letters in its prefix, and as many in its loop. */
+enum { TRAY_PART = 4, TRAY_LETTERS = 2 * TRAY_PART };
+
+static void tray_by_library(struct input *in)
+{
+    in->answer =
+        tubochre_tray(in->table, in->len, in->list, in->list_len, in->answers, in->lassos, in->work, in->work_len)
+            .number;
+}
+
+static void tray_by_single_calls(struct input *in)
+{
+    size_t i;
+    for (i = 0; i < in->lassos; i++) {
+        const uint8_t *const prefix = in->letters + TRAY_LETTERS * i;
+        const struct tubochre_decision d = tubochre_lasso(in->table, in->len, prefix, TRAY_PART, prefix + TRAY_PART,
+                                                          TRAY_PART, in->work, in->work_len);
+        in->answers[i] = (uint8_t)(d.number == TUBOCHRE_OK ? d.taken : d.number);
+    }
+}
+
+static void tray_by_reference(struct input *in)
+{
+    in->answer = fast_tray(in->table, in->len, in->list, in->list_len, in->answers, in->lassos, in->work).number;
+    memset(in->work, 0, in->work_len * sizeof *in->work);
 }
 
 /* ---- Checks. */
@@ -501,6 +544,118 @@ static void growth_by_table(void)
     print_growth("tables of 625 to 20,000 states", cost, 6);
 }
 
+/* ---- Trays. */
+
+enum { TRAY_LASSOS = 1000 };
+
+/* Random lassos over so many letters, as a list and as letters one behind the other. */
+static void fill_tray(uint16_t *list, uint8_t *letters, size_t lassos, uint32_t below)
+{
+    struct random r = random_from(lassos);
+    size_t i, j;
+    for (i = 0; i < lassos; i++) {
+        *list++ = TRAY_PART;
+        *list++ = TRAY_PART;
+        for (j = 0; j < TRAY_LETTERS; j++)
+            *list++ = *letters++ = (uint8_t)random_below(&r, below);
+    }
+}
+
+/* Each of the calls leaves in the answers, which hold something else before, what the library's tray leaves there. */
+static void compare_trays(struct input *in, uint8_t *expected)
+{
+    memset(in->answers, 0xa5, in->lassos);
+    tray_by_library(in);
+    must(in->answer == TUBOCHRE_OK, "the library refuses a tray of a row");
+    memcpy(expected, in->answers, in->lassos);
+    memset(in->answers, 0xa5, in->lassos);
+    tray_by_single_calls(in);
+    must(memcmp(in->answers, expected, in->lassos) == 0, "a tray and single calls");
+    memset(in->answers, 0xa5, in->lassos);
+    tray_by_reference(in);
+    must(in->answer == TUBOCHRE_OK && memcmp(in->answers, expected, in->lassos) == 0, "a tray");
+}
+
+static size_t count_taken(const uint8_t *answers, size_t lassos)
+{
+    size_t i, taken = 0;
+    for (i = 0; i < lassos; i++) {
+        must(answers[i] <= TUBOCHRE_TAKEN, "a lasso of a tray is refused");
+        taken += answers[i];
+    }
+    return taken;
+}
+
+/* Two rows: against the reference, and against single calls. */
+static void print_tray(const char *name, const struct input *in, size_t taken)
+{
+    static call *const calls[] = {tray_by_library, tray_by_reference, tray_by_single_calls};
+    struct input copy = *in;
+    double medians[CALLS_MOST];
+    const int rounds = rounds_of(calls, CALLS_MOST, &copy, medians);
+    char single[80];
+    print_times(name, (struct times){medians[0], medians[1], rounds});
+    printf("%.2f us a lasso, %zu of %zu taken\n", medians[0] * 1e6 / (double)in->lassos, taken, in->lassos);
+    snprintf(single, sizeof single, "%s, single calls", name);
+    print_times(single, (struct times){medians[0], medians[2], rounds});
+    printf("%zu bytes lent\n", in->lassos + in->work_len * sizeof *in->work);
+}
+
+static void tray_row(const char *name, const uint16_t *table, size_t len, size_t lassos)
+{
+    static uint16_t list[TRAY_LASSOS * (2 + TRAY_LETTERS)];
+    static uint8_t letters[TRAY_LASSOS * TRAY_LETTERS], answers[TRAY_LASSOS], expected[TRAY_LASSOS];
+    struct input in;
+    fill_tray(list, letters, lassos, table[1]);
+    memset(&in, 0, sizeof in);
+    in.table = table;
+    in.len = len;
+    in.list = list;
+    in.list_len = lassos * (2 + TRAY_LETTERS);
+    in.letters = letters;
+    in.answers = answers;
+    in.lassos = lassos;
+    in.work_len = tubochre_tray_work_words(table[0], list, in.list_len);
+    in.work = large_memory(fast_work_words(table[0], TRAY_PART, TRAY_PART) * sizeof *in.work);
+    compare_trays(&in, expected);
+    print_tray(name, &in, count_taken(expected, lassos));
+    free(in.work);
+}
+
+/* Two letters: each third edge is on letter 1. The last state accepts and leads only to itself, by letter 1, so that
+ * some loops of ones are taken, and nothing else is. All states are initial, or the first one alone. */
+static void tray_table(uint16_t *words, uint32_t states, int one_initial)
+{
+    uint16_t *record = words + tubochre_table_words(states, 0);
+    uint32_t r, q;
+    barren_table(words, states, states);
+    words[1] = 2;
+    for (r = 0; r < 3 * states; r++)
+        record[3 * r] = r % 3 == 2;
+    for (r = 3 * (states - 1); r < 3 * states; r++) {
+        record[3 * r] = 1;
+        record[3 * r + 1] = (uint16_t)(states - 1);
+    }
+    words[3 + 2 * (states - 1)] |= 2;
+    for (q = 1; one_initial && q < states; q++)
+        words[3 + 2 * q] &= 2;
+}
+
+static void tray_rows(void)
+{
+    static const uint16_t pattern_a[] = {2, 2, 4, 1, 1, 2, 4, 0, 0, 2, 1, 0, 3, 0, 1, 0, 0, 1, 0};
+    const uint32_t states = 10000;
+    const size_t lassos = quick ? TRAY_LASSOS / 20 : TRAY_LASSOS, len = tubochre_table_words(states, 3 * states);
+    uint16_t *const table = room_for(len, sizeof *table);
+    print_heading("tray (reference, or single calls)", "lassos of 4 and 4 letters");
+    tray_row("pattern A", pattern_a, sizeof pattern_a / sizeof pattern_a[0], TRAY_LASSOS);
+    tray_table(table, states, 1);
+    tray_row("10,000 states, 1 initial", table, len, lassos);
+    tray_table(table, states, 0);
+    tray_row("10,000 states, all initial", table, len, lassos);
+    free(table);
+}
+
 /* ---- Stack. */
 
 static void *check_on_stack(void *data)
@@ -521,12 +676,22 @@ static void *lasso_on_stack(void *data)
     return NULL;
 }
 
+static void *tray_on_stack(void *data)
+{
+    tray_by_library(data);
+    return NULL;
+}
+
+/* A tray of the longest lasso that is decided; its letters are all 0. */
 static void stack_rows(void)
 {
+    enum { PART = TUBOCHRE_LASSO_PART_MOST };
     static struct drawn_table t;
     static uint16_t words[20000];
-    static uint32_t sets[10000], work[1000];
+    static const uint16_t list[2 + 2 * PART] = {PART, PART};
+    static uint32_t sets[10000], work[4 * TUBOCHRE_PATTERN_STATES_MOST * 2 * PART];
     static const uint8_t loop[] = {0, 1, 0};
+    uint8_t byte;
     struct input in;
     memset(&in, 0, sizeof in);
     full_pattern(&t, 4096);
@@ -539,9 +704,15 @@ static void stack_rows(void)
     in.prefix = in.loop = loop;
     in.loop_len = sizeof loop;
     in.work = work;
+    in.work_len = sizeof work / sizeof work[0];
+    in.list = list;
+    in.list_len = sizeof list / sizeof list[0];
+    in.answers = &byte;
+    in.lassos = 1;
     printf("\nstack used by the library: check %zu bytes", stack_used(check_on_stack, &in));
     printf(", build %zu bytes", stack_used(build_on_stack, &in));
-    printf(", lasso %zu bytes\n", stack_used(lasso_on_stack, &in));
+    printf(", lasso %zu bytes", stack_used(lasso_on_stack, &in));
+    printf(", tray %zu bytes\n", stack_used(tray_on_stack, &in));
 }
 
 /* ---- The whole. */
@@ -623,11 +794,15 @@ static int count_one(size_t loop_len)
 static const struct part {
     const char *name;
     void (*run)(void);
-} parts[] = {{"check", check_rows}, {"build", build_and_lasso_rows}, {"growth", growth_rows}, {"stack", stack_rows}};
+} parts[] = {{"check", check_rows},
+             {"build", build_and_lasso_rows},
+             {"growth", growth_rows},
+             {"tray", tray_rows},
+             {"stack", stack_rows}};
 
 enum { PARTS = sizeof parts / sizeof parts[0] };
 
-static const char usage[] = "usage: measure [--quick] [check] [build] [growth] [stack]\n"
+static const char usage[] = "usage: measure [--quick] [check] [build] [growth] [tray] [stack]\n"
                             "       measure --count LETTERS    (1 to 4096)\n";
 
 static int part_of(const char *name)
@@ -653,7 +828,7 @@ int main(int argc, char **argv)
     if (letters != UINT64_MAX)
         wrong_use("--count", usage);
     printf("Medians of whole calls, by turns in one process, after a warm-up. Reference: compiler %s.\n", __VERSION__);
-    puts("Timed with both: clearing unused words after a build, and the lent work words after a decision.");
+    puts("Timed with both: clearing unused words after a build, and the lent work words after a decision or a tray.");
     for (i = 0; i < PARTS; i++)
         if (wanted[i] || words == 0)
             parts[i].run();
