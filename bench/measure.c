@@ -587,12 +587,11 @@ static size_t count_taken(const uint8_t *answers, size_t lassos)
 }
 
 /* Two rows: against the reference, and against single calls. */
-static void print_tray(const char *name, const struct input *in, size_t taken)
+static void print_tray(const char *name, struct input *in, size_t taken)
 {
     static call *const calls[] = {tray_by_library, tray_by_reference, tray_by_single_calls};
-    struct input copy = *in;
     double medians[CALLS_MOST];
-    const int rounds = rounds_of(calls, CALLS_MOST, &copy, medians);
+    const int rounds = rounds_of(calls, CALLS_MOST, in, medians);
     char single[80];
     print_times(name, (struct times){medians[0], medians[1], rounds});
     printf("%.2f us a lasso, %zu of %zu taken\n", medians[0] * 1e6 / (double)in->lassos, taken, in->lassos);

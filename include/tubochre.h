@@ -1,4 +1,4 @@
-/* Tubochre: checks patterns of endless behaviour, builds their complements, and decides lassos.
+/* Tubochre: checks patterns of endless behaviour, builds their complements, and decides lassos, singly or in trays.
  *
  * A pattern is a semi-deterministic Büchi automaton, held as a chained table of 16-bit words:
  *
@@ -18,8 +18,8 @@
  *
  *     prefix length, loop length, the letters of the prefix, the letters of the loop
  *
- * So the lassos "nothing, then 0 for ever" and "1 1, then 0 1 for ever" are the list {0, 1, 0, 2, 2, 1, 1, 0, 1}. An
- * empty list holds none.
+ * So the two lassos "0 for ever" and "1 1, then 0 1 for ever" are the list {0, 1, 0, 2, 2, 1, 1, 0, 1}. An empty list
+ * holds none.
  *
  * What the caller sees to:
  *
@@ -47,8 +47,8 @@
  *     the largest table and the longest lasso that is TUBOCHRE_WORK_WORDS_MOST words, 8.6 GB; a pattern needs at most
  *     1,048,576 words, 4.2 MB.
  *   - A tray: tubochre_list_lassos(list, list_len) bytes, no more and no fewer, and
- *     tubochre_tray_work_words(n, list, list_len) work words: what its dearest lasso needs, since the lassos use the
- *     same words in turn.
+ *     tubochre_tray_work_words(n, list, list_len) work words: what the longest of its lassos needs, since all of them
+ *     use the same words in turn.
  *
  * What a call costs:
  *
@@ -59,7 +59,7 @@
  *   - A decision: time that grows with records times (prefix_len + loop_len), at most; it may find its answer early.
  *     Then all work words are cleared, those beyond the need too, and also where it refuses.
  *   - A tray: one check of the table and one clearing of the work words for all of it, and for each lasso what its
- *     search costs. A decision checks and clears for each lasso, which is most of its time where searches are short.
+ *     search costs. Decisions check and clear for each lasso anew, which may take longer than the searches.
  *
  * The calls are proved against contracts that say the same. This header, the programs that call, and the compiler's
  * back end are outside those proofs. The header is C99 and C++11; the archives are for x86-64 Linux.
@@ -183,11 +183,11 @@ struct tubochre_decision tubochre_lasso(const uint16_t *table, size_t table_len,
                                         size_t prefix_len, const uint8_t *loop, size_t loop_len, uint32_t *work,
                                         size_t work_len);
 
-/* Tries all lassos of a list on one wide table, and answers how many there are. Each gets the answer byte that has its
- * place in the list: 1 taken, 0 not taken, or which of 13 to 16 refuses it, all as a decision with the same work words
- * would say. So 16 is measured for each lasso against all work words, 13 comes before 14, and letters are looked at of
- * those lassos alone that pass both. A letter word above 255 is a letter of k or more. A lasso that is refused refuses
- * no other lasso and not the call.
+/* Tries all lassos of a list on one wide table, and answers how many there are. The first answer byte is that of the
+ * first lasso, and so on: 1 taken, 0 not taken, or which of 13 to 16 refuses it, all as a decision with the same work
+ * words would say. So 16 is measured for each lasso against all work words, 13 comes before 14, and letters are looked
+ * at of those lassos alone that pass both. A letter word above 255 is a letter of k or more. A lasso that is refused
+ * refuses no other lasso and not the call.
  *
  * The call is refused by 17, then by 18, then by 2 to 9. After 17 and 18 all bytes are zero; after 2 to 9 each of them
  * is that number, and a tray without lassos is refused all the same. All work words are zero after every call, refused

@@ -134,6 +134,18 @@ static void try_mixed(void)
     free(l);
 }
 
+/* The list that the header shows, with exactly what its helpers say is to be lent. */
+static void try_example(void)
+{
+    static const uint16_t list[] = {0, 1, 0, 2, 2, 1, 1, 0, 1};
+    const size_t bytes = tubochre_list_lassos(list, LENGTH(list));
+    const size_t work = tubochre_tray_work_words(pattern[0], list, LENGTH(list));
+    struct tried t = lent_tray((struct tray){pattern, PATTERN_LEN, list, LENGTH(list), bytes, work});
+    expect(t.written.number == TUBOCHRE_OK && t.bytes == 2 && t.byte[0] == 1 && t.byte[1] == 0,
+           "0 for ever is taken, and 1 1, then 0 1 for ever is not");
+    tried_free(&t);
+}
+
 /* A lasso with one odd letter at a place: 0 for the first letter of the prefix, 1 for its last, 2 and 3 likewise for
  * the loop. The lassos beside it, in front and behind, are taken. */
 static void try_letter(uint16_t letters, uint16_t letter, int place)
@@ -432,6 +444,7 @@ int main(void)
     struct list *const none = new_list();
     size_t i;
     try_mixed();
+    try_example();
     section("lassos of every kind in one tray, on pattern and complement");
     try_letters();
     section("letters below k, from k on, and above 255, at each end of both parts");
