@@ -6,7 +6,7 @@ use Prim.Native.Nat.{ℕ, suc, _≤_}
 use native.Mathlib.Omega.{arith}
 use lib.Dec.{eqb}
 use Rattle.basics.specs.Buffers.{or-else}
-use Rattle.basics.proofs.Booleans.{either, eqb-eq, eqb-ne}
+use Rattle.basics.proofs.Booleans.{either, eqb-eq, eqb-ne, eq-eqb, ne-eqb}
 
 -- a refusal that is not met, and those behind it
 pub passed : (b : Bool) (k others : ℕ) → cond b (suc k) others ≡ 0 → (b ≡ false) × (others ≡ 0)
@@ -31,6 +31,15 @@ or-else-least x y least a b =
       | inl e ↦ rw e b
       | inr e ↦ rw e a
     ]
+
+-- the first of two refusals is answered where it is met, and else the second
+pub or-else-first : (x y : ℕ) → (x ≡ 0 → ⊥) → or-else x y ≡ x
+unfolding or-else
+or-else-first x y met = rw (ne-eqb x 0 met)
+
+pub or-else-second : (x y : ℕ) → x ≡ 0 → or-else x y ≡ y
+unfolding or-else
+or-else-second x y none = rw (eq-eqb none)
 
 -- the first of two refusals is none, and neither is the second
 pub or-else-none : (x y : ℕ) → or-else x y ≡ 0 → (x ≡ 0) × (y ≡ 0)

@@ -23,7 +23,7 @@ use Rattle.lassos.proofs.Parts.{parts-least, table-first}
 use Rattle.trays.specs.Answers.{list-refusal, tray-refusal, as-byte, byte-of, tray-bytes, Tray-says}
 use Rattle.trays.specs.Tray.{Parts, Tray, no-lasso, list-of, tray}
 use Rattle.trays.proofs.Reading.{tray-of-list, ends-exactly}
-use Rattle.trays.proofs.Refusals.{list-17, list-18, list-passes, list-fits}
+use Rattle.trays.proofs.Refusals.{list-17, list-18, list-passes, list-fits, by-list, by-table, bytes-list, bytes-table, bytes-each}
 use Rattle.trays.proofs.Walking.{empty-list}
 
 -- THE LISTS that lassos make up
@@ -63,32 +63,24 @@ list-passed s b xs made count =
 
 -- THE NUMBERS, each in its case
 module _ (range : Limits) (t s : List ℕ) (b : ℕ) where
-  by-list : (list-refusal s b ≡ 0 → ⊥) → tray-refusal range t s b ≡ list-refusal s b
-  unfolding tray-refusal or-else
-  by-list met = rw (ne-eqb (list-refusal s b) 0 met)
-
-  by-table : list-refusal s b ≡ 0 → tray-refusal range t s b ≡ table-refusal range t
-  unfolding tray-refusal or-else
-  by-table none = rw (eq-eqb none)
-
   -- where the list passes, the number is the table's
   few-numbers : list-refusal s b ≡ 0 → tray-refusal range t s b ≤ 9
-  few-numbers none = let most = table-most range t in rw (by-table none) most
+  few-numbers none = let most = table-most range t in rw (by-table range t s b none) most
 
   pub cut-right : (tray-refusal range t s b ≡ 17) ↔ ((xs : List Parts) → s ≡ list-of xs → ⊥)
   cut-right =
       elim (list-case s b) [
-        | cut e none ↦ ((λ h. none), λ h. by-list (omega arith) ∙ e)
+        | cut e none ↦ ((λ h. none), λ h. by-list range t s b (omega arith) ∙ e)
         | miscounted e xs made other ↦
-            ((λ h. absurd (let n = by-list (omega arith) in omega arith)), λ h. absurd (h xs made))
+            ((λ h. absurd (let n = by-list range t s b (omega arith) in omega arith)), λ h. absurd (h xs made))
         | fits e xs made same ↦ ((λ h. absurd (let n = few-numbers e in omega arith)), λ h. absurd (h xs made))
       ]
 
   pub miscounted-right : (tray-refusal range t s b ≡ 18) ↔ ((xs : List Parts) × (s ≡ list-of xs) × (length xs ≡ b → ⊥))
   miscounted-right =
       elim (list-case s b) [
-        | cut e none ↦ ((λ h. absurd (let n = by-list (omega arith) in omega arith)), λ h. absurd (none (h .0) (h .1)))
-        | miscounted e xs made other ↦ ((λ h. (xs, made, other)), λ h. by-list (omega arith) ∙ e)
+        | cut e none ↦ ((λ h. absurd (let n = by-list range t s b (omega arith) in omega arith)), λ h. absurd (none (h .0) (h .1)))
+        | miscounted e xs made other ↦ ((λ h. (xs, made, other)), λ h. by-list range t s b (omega arith) ∙ e)
         | fits e xs made same ↦ (
           (λ h. absurd (let n = few-numbers e in omega arith)),
           λ h. absurd (h .2 (same-count (h .0) xs (h .1) made ∙ same)),
@@ -101,19 +93,19 @@ module _ (range : Limits) (t s : List ℕ) (b : ℕ) where
       (tray-refusal range t s b ≡ k) ↔ ((xs : List Parts) × (s ≡ list-of xs) × (length xs ≡ b) × (table-refusal range t ≡ k))
   table-right k few =
       elim (list-case s b) [
-        | cut e none ↦ ((λ h. absurd (let n = by-list (omega arith) in omega arith)), λ h. absurd (none (h .0) (h .1)))
+        | cut e none ↦ ((λ h. absurd (let n = by-list range t s b (omega arith) in omega arith)), λ h. absurd (none (h .0) (h .1)))
         | miscounted e xs made other ↦ (
-          (λ h. absurd (let n = by-list (omega arith) in omega arith)),
+          (λ h. absurd (let n = by-list range t s b (omega arith) in omega arith)),
           λ h. absurd (other (same-count xs (h .0) made (h .1) ∙ h .2)),
         )
-        | fits e xs made same ↦ ((λ h. (xs, made, same, sym (by-table e) ∙ h)), λ h. by-table e ∙ h .3)
+        | fits e xs made same ↦ ((λ h. (xs, made, same, sym (by-table range t s b e) ∙ h)), λ h. by-table range t s b e ∙ h .3)
       ]
 
   pub no-other-number : (tray-refusal range t s b ≤ 9) ⊎ ((tray-refusal range t s b ≡ 17) ⊎ (tray-refusal range t s b ≡ 18))
   no-other-number =
       elim (list-case s b) [
-        | cut e none ↦ inr (inl (by-list (omega arith) ∙ e))
-        | miscounted e xs made other ↦ inr (inr (by-list (omega arith) ∙ e))
+        | cut e none ↦ inr (inl (by-list range t s b (omega arith) ∙ e))
+        | miscounted e xs made other ↦ inr (inr (by-list range t s b (omega arith) ∙ e))
         | fits e xs made same ↦ inl (few-numbers e)
       ]
 
@@ -155,34 +147,33 @@ module _
 
   -- after 17 and 18 all bytes are zero
   pub says-list : 17 ≤ r .number → a-now ≡ replicate (length a) 0
-  unfolding tray-bytes zeros
+  unfolding zeros
   says-list far =
       let number = says-number in
       elim (same-or (list-refusal s (length a)) 0) [
         | inl passed ↦ absurd (let few = few-numbers range t s (length a) passed in omega arith)
-        | inr other ↦ says .bytes ∙ rw (ne-eqb (list-refusal s (length a)) 0 other)
+        | inr other ↦ says .bytes ∙ bytes-list range t s a (length w) other
       ]
 
   -- after a refusal of the table each is its number
   pub says-table : 1 ≤ r .number → r .number ≤ 9 → a-now ≡ replicate (length a) (r .number)
-  unfolding tray-bytes
   says-table some few =
       let number = says-number in
       let (xs, made, count, table) = table-right range t s (length a) (r .number) few .0 (sym number) in
       let passed = list-passed s (length a) xs made count in
-      says .bytes ∙ rw (eq-eqb passed, ne-eqb (table-refusal range t) 0 (omega arith), table)
+      says .bytes
+      ∙ (bytes-table range t s a (length w) passed (omega arith) ∙ ap (λ (n : ℕ). replicate (length a) n) table)
 
   -- of an accepted call, the byte at a place is that of the lasso there
   pub says-byte :
       r .number ≡ 0 → (xs : List Parts) → s ≡ list-of xs → (i : ℕ) → i < length xs →
       getD a-now i 0 ≡ byte-of range t (length w) (getD xs i no-lasso)
-  unfolding tray-bytes
   says-byte none xs made i l =
       let passed : met ≡ 0 = sym says-number ∙ none in
       let (ys, made′, count, table) = table-right range t s (length a) 0 (omega arith) .0 passed in
       let listed = list-passed s (length a) ys made′ count in
       let lassos : tray s .lassos ≡ xs = ap (λ (y : Tray). y .lassos) (made-of xs made) in
-      let bytes : a-now ≡ map (byte-of range t (length w)) xs = says .bytes ∙ rw (eq-eqb listed, eq-eqb table, lassos) in
+      let bytes : a-now ≡ map (byte-of range t (length w)) xs = says .bytes ∙ (bytes-each range t s a (length w) listed table ∙ ap (map (byte-of range t (length w))) lassos) in
       ap (λ (x : List ℕ). getD x i 0) bytes ∙ getD-map (byte-of range t (length w)) xs no-lasso 0 i l
 
 -- EACH BYTE IS THE SINGLE CALL'S: also where the table is refused, since a single call then answers its number
@@ -199,14 +190,14 @@ all-same f n h (x ∷ xs) = ap (λ (m : ℕ). m ∷ replicate (length xs) n) (h 
 
 pub bytes-single :
     (range : Limits) (t s a : List ℕ) (w : ℕ) → list-refusal s (length a) ≡ 0 → tray-bytes range t s a w ≡ map (byte-of range t w) (tray s .lassos)
-unfolding tray-bytes
 bytes-single range t s a w fine =
     let count = list-fits s (length a) fine .counted in
     elim (same-or (table-refusal range t) 0) [
-      | inl none ↦ rw (eq-eqb fine, eq-eqb none)
+      | inl none ↦ bytes-each range t s a w fine none
       | inr met ↦
-          rw (eq-eqb fine, ne-eqb (table-refusal range t) 0 met, ← count)
-          (all-same (byte-of range t w) (table-refusal range t) (table-byte range t w met) (tray s .lassos))
+          bytes-table range t s a w fine met
+          ∙ (ap (λ (n : ℕ). replicate n (table-refusal range t)) (sym count)
+          ∙ all-same (byte-of range t w) (table-refusal range t) (table-byte range t w met) (tray s .lassos))
     ]
 
 -- A BYTE TELLS which decision it stands for, if no refusal's number is 0 or 1

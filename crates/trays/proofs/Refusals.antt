@@ -1,5 +1,5 @@
 -- Laws of refusals 17 and 18, and of what a call answers and leaves in each case. Assumes nothing.
-use mathlib.Core.Path.{_≡_, refl, sym, _∙_}
+use mathlib.Core.Path.{_≡_, refl, sym, ap, _∙_}
 use mathlib.Core.Bool.{true, false}
 use mathlib.Core.List.{List, map}
 use mathlib.Core.Logic.{inl, inr}
@@ -7,9 +7,10 @@ use Prim.Native.Nat.{ℕ, zero, suc}
 use native.Mathlib.Omega.{arith}
 use lib.Dec.{eqb}
 use lib.ListN.{length, replicate}
-use Rattle.basics.specs.Buffers.{or-else, as-written, zeros}
+use Rattle.basics.specs.Buffers.{as-written, zeros}
 use Rattle.basics.specs.declared.Written.{Written}
 use Rattle.basics.proofs.Booleans.{either, eq-eqb, ne-eqb, eqb-eq}
+use Rattle.basics.proofs.Refusing.{or-else-first, or-else-second}
 use Rattle.tables.specs.Table.{Limits, table-refusal}
 use Rattle.trays.specs.Answers.{list-refusal, tray-refusal, byte-of, tray-bytes}
 use Rattle.trays.specs.Steps.{Answers-says}
@@ -54,32 +55,64 @@ list-fits s b h =
     ]
 
 -- THE CALL: the list first, then the table, then each lasso
-module _ (range : Limits) (t s a : List ℕ) (work : ℕ) {x : ℕ} (is-list : x ≡ list-refusal s (length a)) where
-  pub answers-list :
-      (x ≡ 0 → ⊥) → {a-now : List ℕ} → a-now ≡ replicate (length a) 0 →
-      Answers-says range t s (record { number = x; count = 0 }) a a-now work
-  unfolding tray-refusal tray-bytes or-else zeros
-  answers-list met {a-now} cleared =
-      let far : eqb (list-refusal s (length a)) 0 ≡ false = ne-eqb (list-refusal s (length a)) 0 (λ z. met (is-list ∙ z)) in
-      record { answer = rw far (refused-answer x (list-refusal s (length a)) is-list met (length (tray s .lassos))); bytes = rw far cleared }
+module _ (range : Limits) (t s : List ℕ) (b : ℕ) where
+  pub by-list : (list-refusal s b ≡ 0 → ⊥) → tray-refusal range t s b ≡ list-refusal s b
+  unfolding tray-refusal
+  by-list met = or-else-first (list-refusal s b) (table-refusal range t) met
 
-  module _ (fine : x ≡ 0) {y : ℕ} (is-table : y ≡ table-refusal range t) where
-    near : eqb (list-refusal s (length a)) 0 ≡ true
-    near = eq-eqb (sym is-list ∙ fine)
+  pub by-table : list-refusal s b ≡ 0 → tray-refusal range t s b ≡ table-refusal range t
+  unfolding tray-refusal
+  by-table none = or-else-second (list-refusal s b) (table-refusal range t) none
 
-    pub answers-table :
-        (y ≡ 0 → ⊥) → {a-now : List ℕ} → a-now ≡ replicate (length a) y →
-        Answers-says range t s (record { number = y; count = 0 }) a a-now work
-    unfolding tray-refusal tray-bytes or-else
-    answers-table met {a-now} all =
-        let far : eqb (table-refusal range t) 0 ≡ false = ne-eqb (table-refusal range t) 0 (λ z. met (is-table ∙ z)) in
-        record { answer = rw near (refused-answer y (table-refusal range t) is-table met (length (tray s .lassos))); bytes = rw (near, far, ← is-table) all }
+module _ (range : Limits) (t s a : List ℕ) (work : ℕ) where
+  pub bytes-list : (list-refusal s (length a) ≡ 0 → ⊥) → tray-bytes range t s a work ≡ zeros a
+  unfolding tray-bytes
+  bytes-list met = rw (ne-eqb (list-refusal s (length a)) 0 met)
 
-    pub answers-each :
-        y ≡ 0 → {a-now : List ℕ} → a-now ≡ map (byte-of range t work) (tray s .lassos) → {n : ℕ} → n ≡ length a →
-        Answers-says range t s (record { number = 0; count = n }) a a-now work
-    unfolding tray-refusal tray-bytes or-else as-written
-    answers-each none {a-now} each counted =
-        let passed : table-refusal range t ≡ 0 = sym is-table ∙ none in
-        let count = list-fits s (length a) (sym is-list ∙ fine) .counted in
-        record { answer = rw (near, passed, count, counted); bytes = rw (near, passed) each }
+  pub bytes-table :
+      list-refusal s (length a) ≡ 0 → (table-refusal range t ≡ 0 → ⊥) → tray-bytes range t s a work ≡ replicate (length a) (table-refusal range t)
+  unfolding tray-bytes
+  bytes-table none met = rw (eq-eqb none, ne-eqb (table-refusal range t) 0 met)
+
+  pub bytes-each :
+      list-refusal s (length a) ≡ 0 → table-refusal range t ≡ 0 → tray-bytes range t s a work ≡ map (byte-of range t work) (tray s .lassos)
+  unfolding tray-bytes
+  bytes-each none passed = rw (eq-eqb none, eq-eqb passed)
+
+  module _ {x : ℕ} (is-list : x ≡ list-refusal s (length a)) where
+    pub answers-list :
+        (x ≡ 0 → ⊥) → {a-now : List ℕ} → a-now ≡ replicate (length a) 0 →
+        Answers-says range t s (record { number = x; count = 0 }) a a-now work
+    unfolding zeros
+    answers-list met cleared =
+        let far : list-refusal s (length a) ≡ 0 → ⊥ = λ z. met (is-list ∙ z) in
+        record {
+          answer = refused-answer x _ (is-list ∙ sym (by-list range t s (length a) far)) met (length (tray s .lassos));
+          bytes = cleared ∙ sym (bytes-list far);
+        }
+
+    module _ (fine : x ≡ 0) {y : ℕ} (is-table : y ≡ table-refusal range t) where
+      near : list-refusal s (length a) ≡ 0
+      near = sym is-list ∙ fine
+
+      pub answers-table :
+          (y ≡ 0 → ⊥) → {a-now : List ℕ} → a-now ≡ replicate (length a) y →
+          Answers-says range t s (record { number = y; count = 0 }) a a-now work
+      answers-table met all =
+          let far : table-refusal range t ≡ 0 → ⊥ = λ z. met (is-table ∙ z) in
+          record {
+            answer = refused-answer y _ (is-table ∙ sym (by-table range t s (length a) near)) met (length (tray s .lassos));
+            bytes = all ∙ (ap (λ (n : ℕ). replicate (length a) n) is-table ∙ sym (bytes-table near far));
+          }
+
+      pub answers-each :
+          y ≡ 0 → {a-now : List ℕ} → a-now ≡ map (byte-of range t work) (tray s .lassos) → {n : ℕ} → n ≡ length a →
+          Answers-says range t s (record { number = 0; count = n }) a a-now work
+      unfolding as-written
+      answers-each none each counted =
+          let passed : table-refusal range t ≡ 0 = sym is-table ∙ none in
+          let count = list-fits s (length a) near .counted in
+          record {
+            answer = rw (by-table range t s (length a) near ∙ passed, count, counted);
+            bytes = each ∙ sym (bytes-each near passed);
+          }

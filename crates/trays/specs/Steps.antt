@@ -2,7 +2,7 @@
 use mathlib.Core.Path.{_≡_}
 use mathlib.Core.Bool.{Bool, true}
 use mathlib.Core.List.{List, map}
-use Prim.Native.Nat.{ℕ, _+_, _*_, _^_, _≤_}
+use Prim.Native.Nat.{ℕ, _+_, _*_, _^_, _≤_, _<_}
 use lib.ListN.{length, getD, take}
 use Rattle.basics.specs.Buffers.{as-written}
 use Rattle.basics.specs.declared.Written.{Written}
@@ -27,7 +27,7 @@ lasso-end s i = i + 2 + getD s i 0 + getD s (i + 1) 0
 -- copying letters below k into bytes asks that they have room, and that such a letter is a byte
 pub record Copy-asks (words : List ℕ) (k : ℕ) (bytes : List ℕ) : Type 0 where
   pub room : length words ≤ length bytes
-  pub narrow : k ≤ byte-values
+  pub narrow : k < byte-values
 
 -- all words are letters below k, and then the bytes begin with them
 pub record Copied (words : List ℕ) (k : ℕ) (r : Bool) (bytes : List ℕ) : Type 0 where

@@ -31,7 +31,7 @@ returns : tie.Need-returns Inv-loop μ-loop
 returns c =
     let inside-loop : tie.In-loop Inv-loop μ-loop = search in
     let turn : tie.At-loop Inv-loop μ-loop = search in
-    copying-stops (turn .loop .inv) (inside-loop .loop-test .taken) (c .if1 .taken) _
+    copying-stops (turn .loop .inv) (inside-loop .loop-test .taken) (omega (arith, c .if1 .taken)) _
 
 cast-letters : tie.Need-cast-letters Inv-loop μ-loop
 cast-letters c =
@@ -55,7 +55,7 @@ loop-again c =
     let inside-loop : tie.In-loop Inv-loop μ-loop = search in
     let turn : tie.At-loop Inv-loop μ-loop = search in
     let start : tie.Start Inv-loop μ-loop = search in
-    copying-turn (turn .loop .inv) (inside-loop .loop-test .taken) (start .pre .room) (c .if1 .left)
+    copying-turn (turn .loop .inv) (inside-loop .loop-test .taken) (start .pre .room) (omega (arith, c .if1 .left))
 
 same-length-2 : tie.Need-same-length-2 Inv-loop μ-loop
 same-length-2 c = let turn : tie.At-loop Inv-loop μ-loop = search in turn .loop .inv .same

@@ -58,9 +58,8 @@ lengths-refusal-requires c κs = search needs
 cast-result : tie.Need-cast-result
 cast-result c =
     let sized : tie.After-lengths-refusal = search in
-    let start : tie.Start = search in
-    let most = lengths-most (start .args .prefix) (length (now (start .args .words)) - start .args .prefix) in
-    record { fits = omega (arith, sized .lengths-refusal .ensures) }
+    let most : sized .lengths-refusal .result ≤ 16 = rw (sized .lengths-refusal .ensures) (lengths-most _ _) in
+    record { fits = omega arith }
 
 returns : tie.Need-returns
 returns c =
