@@ -78,6 +78,7 @@ try_install() {
     readme_shows 'the listing' "$("$prefix/bin/tubochre-listing" <examples/pattern-a.txt)"
     readme_shows 'the answers' "$("$prefix/bin/tubochre-bench" examples/pattern-a.txt - 0 11 01)"
     readme_shows 'the refusal' "$(printf '2 1 1\n0 1\n0 0\n0 7 0\n' | "$prefix/bin/tubochre-bench" -)"
+    readme_shows 'the tray' "$("$prefix/bin/tubochre-bench" examples/pattern-a.txt --tray examples/lassos.txt | tail -4)"
     readme_shows 'the fork' "$(printf '2 1 2\n1 0\n2 1\n0 0 2\n0 1 0\n' | "$prefix/bin/tubochre-bench" -)"
     echo 'ok: an installed copy, the example compiled with it, its programs, and what the README shows of them'
 }
