@@ -1,4 +1,5 @@
 // The end of a trial's line: the answer.
+use basics::Written;
 use complement::Counts;
 use lassos::Decision;
 use patterns::Checked;
@@ -51,4 +52,27 @@ pub(crate) fn print_counts(counts: Counts) {
         print_number(b" edges ", counts.edges);
         io::write_all(1, b"\n");
     }
+}
+
+// Bytes, each behind a blank.
+fn print_bytes(bytes: &[u8]) {
+    let mut i = 0;
+    while i < bytes.len() {
+        print_number(b" ", bytes[i] as u32);
+        i += 1;
+    }
+}
+
+// How many lassos a tray's call decided, or the refusal's number, and what the answer bytes hold after it.
+pub(crate) fn print_written(answer: Written, bytes: &[u8]) {
+    if answer.number != 0 {
+        print_number(b": refused ", answer.number);
+    } else {
+        io::write_all(1, b": ");
+        io::print_decimal(1, answer.count as u64);
+        io::write_all(1, b" lassos");
+    }
+    io::write_all(1, b", bytes");
+    print_bytes(bytes);
+    io::write_all(1, b"\n");
 }

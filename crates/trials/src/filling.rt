@@ -26,7 +26,7 @@ fn put(table: &mut [u16], used: usize, word: usize) -> usize {
 }
 
 // Adds a row: the words between two places, which blanks divide.
-fn put_row(
+pub(crate) fn put_row(
     text: &[u8],
     from: usize,
     to: usize,

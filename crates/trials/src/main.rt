@@ -5,6 +5,7 @@ mod filling;
 mod lasso;
 mod scan;
 mod script;
+mod tray;
 
 fn main() {
     let mut text = io::large_buffer();

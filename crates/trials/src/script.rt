@@ -6,14 +6,18 @@
 //     build NAME: WORDS SETS       builds its complement in so many table words and so many words of records
 //     lasso NAME: WORK LASSO       decides a lasso over it in so many work words
 //     complement NAME: WORK LASSO  decides a lasso over its complement
+//     many NAME: WORK BYTES COUNT WORDS
+//                                  decides each lasso of a list, the first COUNT of these words and of zeros behind them, in so many work
+//                                  words and so many answer bytes
 //
-// Each of the last four prints its name and the answer.
+// Each of the last five prints its name and the answer.
 use crate::answers::print_checked;
 use crate::answers::print_counts;
 use crate::filling::filled;
 use crate::lasso::decide;
 use crate::scan::behind;
 use crate::scan::decimal;
+use crate::tray::decide_many;
 use complement::build_complement;
 use patterns::check_pattern;
 use tables::table_words;
@@ -51,7 +55,7 @@ fn decide_over_complement(table: &[u16], text: &[u8], at: usize) {
 
 fn is_command(letter: u8) -> bool {
     match letter {
-        b'p' | b'b' | b'l' | b'c' => true,
+        b'p' | b'b' | b'l' | b'c' | b'm' => true,
         _ => false,
     }
 }
@@ -61,6 +65,7 @@ fn answer(command: u8, table: &[u16], text: &[u8], at: usize) {
         b'p' => print_checked(check_pattern(table)),
         b'b' => build(table, text, at),
         b'l' => decide(table, text, at),
+        b'm' => decide_many(table, text, at),
         _ => decide_over_complement(table, text, at),
     }
 }
