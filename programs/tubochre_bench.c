@@ -243,7 +243,8 @@ static int draw_complement(const struct words *w)
 
 static void say_taken(const struct lasso *l, int by_pattern)
 {
-    printf("%s: the %s takes it\n", l->name, by_pattern ? "pattern" : "complement");
+    printf("%s: the %s takes it, the %s does not\n", l->name, by_pattern ? "pattern" : "complement",
+           by_pattern ? "complement" : "pattern");
 }
 
 static _Noreturn void contradiction(const struct lasso *l)

@@ -26,14 +26,14 @@ expect 'blanks everywhere' 0 "$passes" '' "$program" - <<<"
 
 "
 expect 'lassos' 0 "$passes
-lasso 1 (- 0): the pattern takes it
-lasso 2 (- 1): the complement takes it
-lasso 3 (1 0): the pattern takes it
-lasso 4 (0,1 1,0,): the complement takes it" '' "$program" "$folder/a" '' 0 - 1 1 0 0,1 1,0,
+lasso 1 (- 0): the pattern takes it, the complement does not
+lasso 2 (- 1): the complement takes it, the pattern does not
+lasso 3 (1 0): the pattern takes it, the complement does not
+lasso 4 (0,1 1,0,): the complement takes it, the pattern does not" '' "$program" "$folder/a" '' 0 - 1 1 0 0,1 1,0,
 states="$passes
 0 1 0 0 0 3
 1 1 2 0 2 0
-lasso 1 (- 0): the pattern takes it"
+lasso 1 (- 0): the pattern takes it, the complement does not"
 expect 'states' 0 "$states" '' "$program" --states "$folder/a" - 0
 expect 'an option behind the words' 0 "$states" '' "$program" "$folder/a" - 0 --states
 expect 'words behind --' 0 "$states" '' "$program" --states -- "$folder/a" - 0
@@ -234,7 +234,7 @@ expect 'a refused table is not drawn' 1 '' \
 rings 7 10 1 >"$folder/rings"
 expect 'a complement of 7,168 states' 0 'pattern: passes the check (states 18, letters 1, records 18)
 complement: states 7168, edges 7168
-lasso 1 (- 0): the complement takes it' '' "$program" "$folder/rings" - 0
+lasso 1 (- 0): the complement takes it, the pattern does not' '' "$program" "$folder/rings" - 0
 count=$("$program" --states "$folder/rings" | wc -l)
 [ "$count" -eq 7170 ] || wrong 'all states are printed' 'lines' "$count"
 rings 8 7 2 >"$folder/rings"
@@ -279,12 +279,12 @@ complement: refused (12): it has more than 65535 edges, the most that a table ha
 expect 'lassos refused' 1 "$passes
 lasso 1 (1 -): refused (13): the loop is empty
 lasso 2 (- 12,): refused (15): letter 12 stands at place 1 of the loop, and the letters are 0 to 1
-lasso 3 (- 1): the complement takes it
+lasso 3 (- 1): the complement takes it, the pattern does not
 lasso 4 (0102 3): refused (15): letter 2 stands at place 4 of the prefix, and the letters are 0 to 1" '' \
     "$program" "$folder/a" 1 '' - 12, - 1 0102 3
 expect 'a refused lasso before a good one' 1 "$passes
 lasso 1 (1 -): refused (13): the loop is empty
-lasso 2 (- 1): the complement takes it" '' "$program" "$folder/a" 1 '' - 1
+lasso 2 (- 1): the complement takes it, the pattern does not" '' "$program" "$folder/a" 1 '' - 1
 expect 'the largest number that can be a letter' 1 "$passes
 lasso 1 (- 255,): refused (15): letter 255 stands at place 1 of the loop, and the letters are 0 to 1" '' \
     "$program" "$folder/a" - 255,
@@ -299,19 +299,19 @@ lasso 1 ($(zeros 5000) 1): refused (14): the prefix has 5000 letters, and a part
     "$program" "$folder/a" "$(zeros 5000)" 1
 nought=$(printf '0,%.0s' $(seq 4096))
 expect 'a loop of 4,096 numbers' 0 "$passes
-lasso 1 (- $nought): the pattern takes it" '' "$program" "$folder/a" - "$nought"
+lasso 1 (- $nought): the pattern takes it, the complement does not" '' "$program" "$folder/a" - "$nought"
 expect 'a loop of 4,097 numbers' 1 "$passes
 lasso 1 (- ${nought}1): refused (14): the loop has 4097 letters, and a part has at most 4096" '' \
     "$program" "$folder/a" - "${nought}1"
 expect 'both parts of 4,096' 0 "$passes
-lasso 1 ($(zeros 4096) $(zeros 4096)): the pattern takes it" '' "$program" "$folder/a" "$(zeros 4096)" "$(zeros 4096)"
+lasso 1 ($(zeros 4096) $(zeros 4096)): the pattern takes it, the complement does not" '' "$program" "$folder/a" "$(zeros 4096)" "$(zeros 4096)"
 
 # ---- Trays.
 
 # Each line here is tried with the blanks and lines that may stand around it.
-answers='lasso 1 (- 0): the pattern takes it
-lasso 2 (- 1): the complement takes it
-lasso 3 (0,1 1,0,): the complement takes it
+answers='lasso 1 (- 0): the pattern takes it, the complement does not
+lasso 2 (- 1): the complement takes it, the pattern does not
+lasso 3 (0,1 1,0,): the complement takes it, the pattern does not
 tray: lassos 3, the pattern takes 1, the complement takes 2, refused 0'
 printf -- '- 0\n- 1\n0,1 1,0,\n' >"$folder/lassos"
 expect 'a tray' 0 "$passes
@@ -342,10 +342,10 @@ tray 'blanks around and between' '  -   0\n-\t1\t \n \t0,1 \t 1,0,  '
 tray 'CR LF' '- 0\r\n\r\n- 1\r\n# one\r\n0,1 1,0,\r\n'
 
 expect 'the example' 1 "$passes
-lasso 1 (- 0): the pattern takes it
-lasso 2 (- 1): the complement takes it
-lasso 3 (11 01): the complement takes it
-lasso 4 (1101 0): the pattern takes it
+lasso 1 (- 0): the pattern takes it, the complement does not
+lasso 2 (- 1): the complement takes it, the pattern does not
+lasso 3 (11 01): the complement takes it, the pattern does not
+lasso 4 (1101 0): the pattern takes it, the complement does not
 lasso 5 (0 012): refused (15) in line 8, column 3: letter 2 stands at place 3 of the loop, and the letters are 0 to 1
 lasso 6 (1 -): refused (13) in line 9, column 3: the loop is empty
 tray: lassos 6, the pattern takes 2, the complement takes 2, refused 2" '' \
@@ -364,7 +364,7 @@ $nothing" '' "$program" "$folder/a" --tray - <<<'# none'
 expect 'parts too long' 1 "$passes
 lasso 1 ($(zeros 4097) 0): refused (14) in line 1, column 1: the prefix has 4097 letters, and a part has at most 4096
 lasso 2 (- $(zeros 65535)): refused (14) in line 2, column 3: the loop has 65535 letters, and a part has at most 4096
-lasso 3 ($(zeros 4096) $(zeros 4096)): the pattern takes it
+lasso 3 ($(zeros 4096) $(zeros 4096)): the pattern takes it, the complement does not
 tray: lassos 3, the pattern takes 1, the complement takes 0, refused 2" '' \
     "$program" "$folder/a" --tray - <<<"$(zeros 4097) 0
 - $(zeros 65535)
@@ -395,7 +395,7 @@ for _ in $(seq 200); do cat "$folder/each"; done >"$folder/long"
 count=$(wc -l <"$folder/whole")
 [ "$count" -eq 80003 ] || wrong 'a long tray' 'lines' "$count"
 last=$(tail -n 1 "$folder/whole")
-sums=$(awk '/: the pattern takes it$/ { p++ } /: the complement takes it$/ { c++ } /: refused \(/ { r++ }
+sums=$(awk '/: the pattern takes it, the complement does not$/ { p++ } /: the complement takes it, the pattern does not$/ { c++ } /: refused \(/ { r++ }
     END { printf "tray: lassos %d, the pattern takes %d, the complement takes %d, refused %d", p + c + r, p, c, r }' "$folder/whole")
 [ "$last" = "$sums" ] || wrong 'a long tray' "its summary is not '$sums'" "$last"
 tried=$((tried + 1))

@@ -127,6 +127,7 @@ fn lasso_byte(
     if !copy_letters(words, letters_of(table), letters) {
         return 15;
     }
+    // Lent as a whole first: two parts of what may be written cannot be lent to one call.
     let whole = &letters[..];
     let end = words.len();
     in_byte(decide_checked(table, &whole[..prefix], &whole[prefix..end], work))
