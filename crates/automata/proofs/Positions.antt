@@ -2,15 +2,16 @@
 -- lasso is one of its alphabet. Assumes nothing.
 use mathlib.Core.Path.{_≡_, refl, sym, _∙_, ap}
 use mathlib.Core.Bool.{true}
-use mathlib.Core.List.{List}
+use mathlib.Core.List.{List, _++_}
 use mathlib.Core.Logic.{inl, inr}
 use Prim.Native.Nat.{ℕ, zero, suc, _+_, _-_, _%_, _≤_, _<_}
 use native.Mathlib.Omega.{arith}
 use native.Mathlib.Nat.{add-suc, add-zero, mod-lt, mod-eq-of-lt, mod-self, suc-mod, zero-mod}
 use lib.Dec.{ltb}
-use lib.ListN.{length, getD}
+use lib.ListN.{length, getD, length-append, List·getD-append}
+use lib.Seq.{getD-append-add}
 use Rattle.basics.proofs.Booleans.{either, lt-ltb, ge-ltb, ltb-lt, ltb-ge, below-or}
-use Rattle.basics.proofs.Bounded.{each-all}
+use Rattle.basics.proofs.Bounded.{each-make, each-all}
 use Rattle.automata.specs.Lasso.{Lasso, all-below, letter-at, position-at, position-letter, next-position, positions}
 
 pub position-zero : (u v : List ℕ) → position-at u v 0 ≡ 0
@@ -100,6 +101,20 @@ letter-same u v o i j e = letter-position u v o i ∙ ap (position-letter u v) e
 part-below : (k : ℕ) (u : List ℕ) → all-below k u ≡ true → (i : ℕ) → i < length u → getD u i 0 < k
 unfolding all-below
 part-below k u h i l = ltb-lt (getD u i 0) k (each-all (length u) (λ i. ltb (getD u i 0) k) h i l)
+
+-- two parts of which each has letters below k, one behind the other
+pub both-below : (k : ℕ) (u v : List ℕ) → all-below k u ≡ true → all-below k v ≡ true → all-below k (u ++ v) ≡ true
+unfolding all-below
+both-below k u v a b =
+    each-make (length (u ++ v)) (λ i. ltb (getD (u ++ v) i 0) k)
+    (λ i l.
+    elim (below-or i (length u)) [
+      | inl first ↦ rw (List·getD-append u v 0 i first) (lt-ltb (part-below k u a i first))
+      | inr second ↦
+          let both = length-append u v in
+          let e : length u + (i - length u) ≡ i = omega arith in
+          rw (sym e) (rw (getD-append-add u v (i - length u) 0) (lt-ltb (part-below k v b (i - length u) (omega arith))))
+    ])
 
 pub letter-below : (k : ℕ) {u v : List ℕ} → Lasso k u v → (i : ℕ) → letter-at u v i < k
 unfolding letter-at

@@ -10,7 +10,7 @@ use lib.ListN.{length, getD, set, take, drop, replicate, length-replicate, lengt
 use lib.Seq.{length-take-le, getD-drop, getD-append-add}
 use Rattle.basics.specs.Buffers.{zeros}
 
--- the first i words are so much, and the others as they were
+-- the first i words are the value, and the others as they were
 pub record Filling (a : ℕ) (w w-now : List ℕ) (i : ℕ) : Type 0 where
   pub upto : i ≤ length w
   pub same : length w-now ≡ length w

@@ -1,12 +1,12 @@
 -- Laws of lists by index: mapped lists, the pigeonhole for lists, and runs of stores. Assumes nothing.
-use mathlib.Core.Path.{_≡_, refl, sym, _∙_}
+use mathlib.Core.Path.{_≡_, refl, sym, ap, _∙_}
 use mathlib.Core.List.{List, [], _∷_, _++_, map}
 use mathlib.Core.Logic.{_≢_, inl, inr}
 use Prim.Native.Nat.{ℕ, zero, suc, _+_, _≤_, _<_}
 use native.Mathlib.Omega.{arith}
 use native.Mathlib.Nat.{add-zero, le-of-suc-le-suc}
 use lib.Dec.{leb}
-use lib.ListN.{length, getD, set}
+use lib.ListN.{length, getD, set, replicate}
 use lib.Seq.{sets, set-comm}
 use Rattle.basics.proofs.Booleans.{either, leb-le, leb-gt}
 use Rattle.basics.proofs.Bounded.{pigeonhole}
@@ -25,6 +25,17 @@ pub map-same :
 map-same f g [] h blank i l = absurd (omega arith)
 map-same f g (x ∷ xs) h blank zero l = cc
 map-same f g (x ∷ xs) h blank (suc i) l = map-same f g xs (cc) blank i (omega arith)
+
+-- a list without length has no elements
+pub empty-list : {X : Type 0} (xs : List X) → length xs ≡ 0 → xs ≡ []
+empty-list [] e = refl
+empty-list (x ∷ xs) e = absurd (omega arith)
+
+-- one value for each element, and a function that has no other
+pub all-same : {X Y : Type 0} (f : X → Y) (y : Y) → ((x : X) → y ≡ f x) → (xs : List X) → replicate (length xs) y ≡ map f xs
+all-same f y h [] = refl
+all-same {Y = Y} f y h (x ∷ xs) =
+    ap (λ (z : Y). z ∷ replicate (length xs) y) (h x) ∙ ap (λ (zs : List Y). f x ∷ zs) (all-same f y h xs)
 
 -- a list without repeats whose elements have codes below m, no two of them the same, has at most m elements
 pub distinct-short :

@@ -1,11 +1,12 @@
--- Refusals one after the other: where the answer is none, no refusal is met; the answer is at most the greatest of them. Assumes nothing.
+-- Refusals one after the other: where the answer is none, no refusal is met; the answer is one of them. What a call answers that writes
+-- items. Assumes nothing.
 use mathlib.Core.Path.{_≡_, refl}
 use mathlib.Core.Bool.{Bool, true, false, cond}
 use mathlib.Core.Logic.{_⊎_, inl, inr}
-use Prim.Native.Nat.{ℕ, suc, _≤_}
+use Prim.Native.Nat.{ℕ, zero, suc, _≤_}
 use native.Mathlib.Omega.{arith}
 use lib.Dec.{eqb}
-use Rattle.basics.specs.Buffers.{or-else}
+use Rattle.basics.specs.Buffers.{or-else, as-written}
 use Rattle.basics.proofs.Booleans.{either, eqb-eq, eqb-ne, eq-eqb, ne-eqb}
 
 -- a refusal that is not met, and those behind it
@@ -17,6 +18,11 @@ passed false k others h = (refl, h)
 pub answer-most : (b : Bool) {x y : ℕ} (limit : ℕ) → x ≤ limit → y ≤ limit → cond b x y ≤ limit
 answer-most true limit a b = a
 answer-most false limit a b = b
+
+-- so is the first of two refusals, if both are
+pub or-else-most : (x y limit : ℕ) → x ≤ limit → y ≤ limit → or-else x y ≤ limit
+unfolding or-else
+or-else-most x y limit a b = answer-most (eqb x 0) limit b a
 
 -- an answer is none or at least what a refusal that is met is, if those behind it are so
 pub answer-least : (b : Bool) {x y : ℕ} (least : ℕ) → least ≤ x → (y ≡ 0) ⊎ (least ≤ y) → (cond b x y ≡ 0) ⊎ (least ≤ cond b x y)
@@ -49,3 +55,25 @@ or-else-none x y h =
       | inl e ↦ (eqb-eq x 0 e, rw e at h)
       | inr e ↦ absurd (eqb-ne x 0 e (rw e at h))
     ]
+
+-- WHAT A CALL ANSWERS that writes items: its number; an accepted one how many, and a refused one none
+pub written-number : (number count : ℕ) → as-written number count .number ≡ number
+unfolding as-written
+written-number zero count = refl
+written-number (suc r) count = refl
+
+pub written-count : (number count : ℕ) → number ≡ 0 → as-written number count .count ≡ count
+unfolding as-written
+written-count zero count e = refl
+written-count (suc r) count e = absurd (omega arith)
+
+pub written-none : (number count : ℕ) → (number ≡ 0 → ⊥) → as-written number count .count ≡ 0
+unfolding as-written
+written-none zero count met = absurd (met refl)
+written-none (suc r) count met = refl
+
+-- the answer for a number that is the refusal's
+pub written-refused : (x y : ℕ) → x ≡ y → (x ≡ 0 → ⊥) → (count : ℕ) → record { number = x; count = 0 } ≡ as-written y count
+unfolding as-written
+written-refused x zero e met count = absurd (met e)
+written-refused x (suc y) e met count = rw e

@@ -5,6 +5,10 @@ use Prim.Native.Nat.{ℕ, _-_, _^_}
 abbrev pub word-bits : ℕ
 word-bits = 16
 
+-- a byte has 8
+abbrev pub byte-bits : ℕ
+byte-bits = 8
+
 -- the largest number in a word of so many bits
 abbrev pub largest-word : (bits : ℕ) → ℕ
 largest-word b = 2 ^ b - 1

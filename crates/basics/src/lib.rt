@@ -10,7 +10,7 @@ pub struct Written {
     pub count: usize,
 }
 
-// CLEARING, once for each width: a part of a buffer is cleared as a slice of it.
+// CLEARING AND FILLING, once for each width: a part of a buffer is cleared as a slice of it.
 
 // Sets every 16-bit word to zero.
 pub fn clear16(words: &mut [u16])

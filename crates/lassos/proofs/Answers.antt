@@ -8,7 +8,7 @@ use Prim.Native.Nat.{ℕ, zero, suc, _+_, _*_, _≤_}
 use native.Mathlib.Omega.{arith}
 use lib.Dec.{ltb, eqb}
 use lib.ListN.{length}
-use Rattle.basics.specs.Buffers.{or-else}
+use Rattle.basics.specs.Buffers.{or-else, zeros}
 use Rattle.basics.proofs.Booleans.{either, clash, ne-eqb, and-make, not-true, not-both}
 use Rattle.automata.specs.Automaton.{Takes}
 use Rattle.automata.specs.Decision.{takes?}
@@ -21,7 +21,7 @@ use Rattle.lassos.specs.Refusals.{longest-part, lengths-refusal, parts-r
 use Rattle.lassos.specs.declared.Decision.{Decision}
 use Rattle.lassos.specs.declared.Decision.the-variants.{Taken, NotTaken, Refused}
 use Rattle.lassos.proofs.Decides.{as-refused}
-use Rattle.lassos.proofs.Parts.{accepted}
+use Rattle.lassos.proofs.Parts.{accepted, parts-own}
 
 -- each answer belongs to one number and one truth
 number-taken : (r : ℕ) (b : Bool) → Taken ≡ as-decision r b → (r ≡ 0) × (b ≡ true)
@@ -67,6 +67,10 @@ decided range t u v work none =
     let a = accepted range t u v work none in
     takes-right (meaning t) u v (meaning-closed (valid range t (a .valid))) (a .lasso .endless)
 
+-- what a call says that answers the definition's decision
+pub decision-says : (range : Limits) (t u v w : List ℕ) → Lasso-says range t u v (decision range t u v (length w)) w (zeros w)
+decision-says range t u v w = record { answer = refl; work = refl }
+
 module _ {range : Limits} {t u v : List ℕ} {d : Decision} {w w-now : List ℕ} (says : Lasso-says range t u v d w w-now) where
   -- taken: nothing is refused, and the table has an accepting run over the lasso
   pub says-taken : (d ≡ Taken) ↔ ((lasso-refusal range t u v (length w) ≡ 0) × Takes (meaning t) (letter-at u v))
@@ -104,8 +108,7 @@ module _ {range : Limits} {t u v : List ℕ} {d : Decision} {w w-now : List ℕ}
   pub lasso-refused :
       table-refusal range t ≡ 0 → Lasso (k-of t) u v → (number : ℕ) → d ≡ Refused number →
       (number ≡ 14) ⊎ (number ≡ 16)
-  unfolding lasso-refusal or-else
   lasso-refused table lasso number h =
       let (same, some) = says-refused number .0 h in
-      let e : lasso-refusal range t u v (length w) ≡ parts-refusal (n-of t) (k-of t) u v (length w) = rw table in
+      let e = parts-own range t u v (length w) table in
       rw (sym same ∙ e) (lasso-number (n-of t) (k-of t) u v (length w) lasso (λ z. let none = e ∙ z in omega arith))

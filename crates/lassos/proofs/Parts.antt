@@ -10,7 +10,7 @@ use lib.Dec.{ltb, eqb}
 use lib.ListN.{length, getD}
 use Rattle.basics.specs.Buffers.{or-else}
 use Rattle.basics.proofs.Booleans.{and-l, and-r, false-not, eq-eqb, eqb-ne, ne-eqb, lt-ltb, ge-ltb, ltb-ge, or-false, both-within}
-use Rattle.basics.proofs.Refusing.{passed, answer-most, answer-least, or-else-none, or-else-least}
+use Rattle.basics.proofs.Refusing.{passed, answer-most, answer-least, or-else-none, or-else-most, or-else-least, or-else-first, or-else-second}
 use Rattle.basics.proofs.Scans.{scan-fails}
 use Rattle.automata.specs.Lasso.{all-below, Lasso}
 use Rattle.tables.specs.Table.{Limits, n-of, k-of, table-refusal}
@@ -64,10 +64,8 @@ lengths-past p l h =
 -- THE TESTS one after the other, the lengths first
 module _ (n k : ℕ) (u v : List ℕ) (w : ℕ) {x : ℕ} (is-lengths : x ≡ lengths-refusal (length u) (length v)) where
   pub parts-lengths : (x ≡ 0 → ⊥) → x ≡ parts-refusal n k u v w
-  unfolding parts-refusal or-else
-  parts-lengths met =
-      let far : eqb (lengths-refusal (length u) (length v)) 0 ≡ false =
-      ne-eqb (lengths-refusal (length u) (length v)) 0 (λ z. met (is-lengths ∙ z)) in cc
+  unfolding parts-refusal
+  parts-lengths met = is-lengths ∙ sym (or-else-first (lengths-refusal (length u) (length v)) _ (λ z. met (is-lengths ∙ z)))
 
   module _ (fine : x ≡ 0) where
     past-14 : eqb (lengths-refusal (length u) (length v)) 0 ≡ true
@@ -103,32 +101,35 @@ needed-fits most n a b few l p q =
 -- TABLE FIRST, in a range
 module _ (range : Limits) (t u v : List ℕ) (w : ℕ) where
   pub table-first : {x : ℕ} → x ≡ table-refusal range t → (x ≡ 0 → ⊥) → x ≡ lasso-refusal range t u v w
-  unfolding lasso-refusal or-else
-  table-first e ne =
-      let a : eqb (table-refusal range t) 0 ≡ false = ne-eqb (table-refusal range t) 0 (λ z. ne (e ∙ z)) in cc
+  unfolding lasso-refusal
+  table-first e met =
+      e ∙ sym (or-else-first (table-refusal range t) (parts-refusal (n-of t) (k-of t) u v w) (λ z. met (e ∙ z)))
+
+  -- of a table that passes, the refusal is the lasso's own
+  pub parts-own : table-refusal range t ≡ 0 → lasso-refusal range t u v w ≡ parts-refusal (n-of t) (k-of t) u v w
+  unfolding lasso-refusal
+  parts-own none = or-else-second (table-refusal range t) (parts-refusal (n-of t) (k-of t) u v w) none
 
   pub parts-then :
       {n k x : ℕ} → table-refusal range t ≡ 0 → n ≡ n-of t → k ≡ k-of t → x ≡ parts-refusal n k u v w → x ≡ lasso-refusal range t u v w
-  unfolding lasso-refusal or-else
-  parts-then z a b e = let c : eqb (table-refusal range t) 0 ≡ true = eq-eqb z in cc
+  parts-then none n-is k-is e = e ∙ (rw (n-is, k-is) (sym (parts-own none)))
 
--- NO NUMBER is above 16
-pub lengths-most : (p l : ℕ) → lengths-refusal p l ≤ 16
+-- NO NUMBER is above 16, and none of the lengths above 14
+pub lengths-most : (p l : ℕ) → lengths-refusal p l ≤ 14
 unfolding lengths-refusal
 lengths-most p l =
-    answer-most (eqb l 0) 16 (omega arith)
-    (answer-most (ltb longest-part p || ltb longest-part l) 16 (omega arith) (omega arith))
+    answer-most (eqb l 0) 14 (omega arith)
+    (answer-most (ltb longest-part p || ltb longest-part l) 14 (omega arith) (omega arith))
 
 pub lasso-most : (range : Limits) (t u v : List ℕ) (w : ℕ) → lasso-refusal range t u v w ≤ 16
-unfolding lasso-refusal parts-refusal or-else
+unfolding lasso-refusal parts-refusal
 lasso-most range t u v w =
     let table = table-most range t in
-    answer-most (eqb (table-refusal range t) 0) 16
-    (answer-most (eqb (lengths-refusal (length u) (length v)) 0) 16
+    let lengths = lengths-most (length u) (length v) in
+    or-else-most (table-refusal range t) _ 16 (omega arith)
+    (or-else-most (lengths-refusal (length u) (length v)) _ 16 (omega arith)
     (answer-most (not (all-below (k-of t) u && all-below (k-of t) v)) 16 (omega arith)
-    (answer-most (ltb w (4 * n-of t * (length u + length v))) 16 (omega arith) (omega arith)))
-    (lengths-most (length u) (length v)))
-    (omega arith)
+    (answer-most (ltb w (4 * n-of t * (length u + length v))) 16 (omega arith) (omega arith))))
 
 -- NONE BELOW 13 is the lasso's own
 lengths-least : (p l : ℕ) → (lengths-refusal p l ≡ 0) ⊎ (13 ≤ lengths-refusal p l)

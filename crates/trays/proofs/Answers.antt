@@ -1,30 +1,29 @@
 -- What the answer of a tray's call says: each refusal comes in its case and in no other, how many bytes are written, and what each byte
 -- says of its lasso. Assumes nothing.
 use mathlib.Core.Path.{_≡_, refl, sym, ap, _∙_}
-use mathlib.Core.List.{List, [], _∷_, map}
+use mathlib.Core.List.{List, [], map}
 use mathlib.Core.Logic.{_⊎_, inl, inr, _↔_}
-use Prim.Native.Nat.{ℕ, zero, suc, _≤_, _<_}
+use Prim.Native.Nat.{ℕ, _≤_, _<_}
 use native.Mathlib.Omega.{arith}
-use lib.Dec.{eqb}
-use lib.ListN.{length, getD, replicate}
-use Rattle.basics.specs.Buffers.{or-else, as-written, zeros}
+use lib.ListN.{length, getD, replicate, length-map}
+use Rattle.basics.specs.Buffers.{zeros}
 use Rattle.basics.specs.declared.Written.{Written}
-use Rattle.basics.proofs.Booleans.{same-or, eq-eqb, ne-eqb}
-use Rattle.basics.proofs.Lists.{getD-map}
+use Rattle.basics.proofs.Booleans.{same-or}
+use Rattle.basics.proofs.Clears.{zeros-length}
+use Rattle.basics.proofs.Lists.{empty-list, all-same, getD-map}
+use Rattle.basics.proofs.Refusing.{written-number, written-count, written-none}
 use Rattle.tables.specs.Table.{Limits, n-of, k-of, table-refusal}
 use Rattle.tables.proofs.Refusals.{table-most}
-use Rattle.lassos.specs.Decision.{decision, Lasso-says}
-use Rattle.lassos.specs.Refusals.{parts-refusal, lasso-refusal}
+use Rattle.lassos.specs.Decision.{decision}
 use Rattle.lassos.specs.declared.Decision.{Decision}
 use Rattle.lassos.specs.declared.Decision.the-variants.{Taken, NotTaken, Refused}
-use Rattle.lassos.proofs.Answers.{says-refused}
+use Rattle.lassos.proofs.Answers.{decision-says, says-refused}
 use Rattle.lassos.proofs.Decides.{decided-refused}
-use Rattle.lassos.proofs.Parts.{parts-least, table-first}
+use Rattle.lassos.proofs.Parts.{parts-least, parts-own, table-first}
 use Rattle.trays.specs.Answers.{list-refusal, tray-refusal, as-byte, byte-of, tray-bytes, Tray-says}
 use Rattle.trays.specs.Tray.{Parts, Tray, no-lasso, list-of, tray}
 use Rattle.trays.proofs.Reading.{tray-of-list, ends-exactly}
-use Rattle.trays.proofs.Refusals.{list-17, list-18, list-passes, list-fits, by-list, by-table, bytes-list, bytes-table, bytes-each}
-use Rattle.trays.proofs.Walking.{empty-list}
+use Rattle.trays.proofs.Refusals.{list-17, list-18, list-passes, list-fits, by-list, by-table, by-neither, bytes-list, bytes-table, bytes-each}
 
 -- THE LISTS that lassos make up
 made-of : {s : List ℕ} (xs : List Parts) → s ≡ list-of xs → tray s ≡ record { lassos = xs; left = [] }
@@ -63,7 +62,7 @@ list-passed s b xs made count =
 
 -- THE NUMBERS, each in its case
 module _ (range : Limits) (t s : List ℕ) (b : ℕ) where
-  -- where the list passes, the number is the table's
+  -- where the list passes, the number is the table's, which is at most 9
   few-numbers : list-refusal s b ≡ 0 → tray-refusal range t s b ≤ 9
   few-numbers none = let most = table-most range t in rw (by-table range t s b none) most
 
@@ -109,41 +108,45 @@ module _ (range : Limits) (t s : List ℕ) (b : ℕ) where
         | fits e xs made same ↦ inl (few-numbers e)
       ]
 
+-- EACH BYTE IS THE SINGLE CALL'S: also where the table is refused, since a single call then answers its number
+table-byte :
+    (range : Limits) (t : List ℕ) (w : ℕ) → (table-refusal range t ≡ 0 → ⊥) → (x : Parts) → table-refusal range t ≡ byte-of range t w x
+unfolding byte-of as-byte
+table-byte range t w met x =
+    ap as-byte
+    (decided-refused range t (x .prefix) (x .loop) w (table-first range t (x .prefix) (x .loop) w refl met) met)
+
+pub bytes-single :
+    (range : Limits) (t s a : List ℕ) (w : ℕ) → list-refusal s (length a) ≡ 0 → tray-bytes range t s a w ≡ map (byte-of range t w) (tray s .lassos)
+bytes-single range t s a w fine =
+    let count = list-fits s (length a) fine .counted in
+    elim (same-or (table-refusal range t) 0) [
+      | inl none ↦ bytes-each range t s a w fine none
+      | inr met ↦
+          bytes-table range t s a w fine met
+          ∙ (ap (λ (n : ℕ). replicate n (table-refusal range t)) (sym count)
+          ∙ all-same (byte-of range t w) (table-refusal range t) (table-byte range t w met) (tray s .lassos))
+    ]
+
 -- WHAT A CALL ANSWERS AND LEAVES
-as-number : (number count : ℕ) → as-written number count .number ≡ number
-unfolding as-written
-as-number zero count = refl
-as-number (suc r) count = refl
-
-as-count : (number count : ℕ) → number ≡ 0 → as-written number count .count ≡ count
-unfolding as-written
-as-count zero count e = refl
-as-count (suc r) count e = absurd (omega arith)
-
-as-none : (number count : ℕ) → (number ≡ 0 → ⊥) → as-written number count .count ≡ 0
-unfolding as-written
-as-none zero count ne = absurd (ne refl)
-as-none (suc r) count ne = refl
-
 module _
     {range : Limits} {t s : List ℕ} {r : Written} {a a-now w w-now : List ℕ} (says : Tray-says range t s r a a-now w w-now) where
   abbrev met : ℕ
   met = tray-refusal range t s (length a)
 
   pub says-number : r .number ≡ met
-  says-number = ap (λ (x : Written). x .number) (says .answer) ∙ as-number met (length (tray s .lassos))
+  says-number = ap (λ (x : Written). x .number) (says .answer) ∙ written-number met (length (tray s .lassos))
 
   -- an accepted call answers how many bytes it wrote, which is all that were lent; a refused one answers none
   pub says-count : r .number ≡ 0 → r .count ≡ length a
   says-count none =
       let passed : met ≡ 0 = sym says-number ∙ none in
-      let (xs, made, count, table) = table-right range t s (length a) 0 (omega arith) .0 passed in
-      let lassos : length (tray s .lassos) ≡ length xs = ap (λ (y : Tray). length (y .lassos)) (made-of xs made) in
-      ap (λ (x : Written). x .count) (says .answer) ∙ (as-count met (length (tray s .lassos)) passed ∙ (lassos ∙ count))
+      let count = list-fits s (length a) (by-neither range t s (length a) passed .0) .counted in
+      ap (λ (x : Written). x .count) (says .answer) ∙ (written-count met (length (tray s .lassos)) passed ∙ count)
 
   pub says-none : (r .number ≡ 0 → ⊥) → r .count ≡ 0
   says-none ne =
-      ap (λ (x : Written). x .count) (says .answer) ∙ as-none met (length (tray s .lassos)) (λ z. ne (says-number ∙ z))
+      ap (λ (x : Written). x .count) (says .answer) ∙ written-none met (length (tray s .lassos)) (λ z. ne (says-number ∙ z))
 
   -- after 17 and 18 all bytes are zero
   pub says-list : 17 ≤ r .number → a-now ≡ replicate (length a) 0
@@ -164,80 +167,71 @@ module _
       says .bytes
       ∙ (bytes-table range t s a (length w) passed (omega arith) ∙ ap (λ (n : ℕ). replicate (length a) n) table)
 
+  -- all bytes that were lent are left
+  pub says-length : length a-now ≡ length a
+  says-length =
+      elim (same-or (list-refusal s (length a)) 0) [
+        | inr met′ ↦
+            ap length (says .bytes ∙ bytes-list range t s a (length w) met′) ∙ zeros-length a
+        | inl fine ↦
+            ap length (says .bytes ∙ bytes-single range t s a (length w) fine)
+            ∙ (length-map (tray s .lassos) (byte-of range t (length w)) ∙ list-fits s (length a) fine .counted)
+      ]
+
   -- of an accepted call, the byte at a place is that of the lasso there
   pub says-byte :
       r .number ≡ 0 → (xs : List Parts) → s ≡ list-of xs → (i : ℕ) → i < length xs →
       getD a-now i 0 ≡ byte-of range t (length w) (getD xs i no-lasso)
   says-byte none xs made i l =
-      let passed : met ≡ 0 = sym says-number ∙ none in
-      let (ys, made′, count, table) = table-right range t s (length a) 0 (omega arith) .0 passed in
-      let listed = list-passed s (length a) ys made′ count in
+      let (fine, valid) = by-neither range t s (length a) (sym says-number ∙ none) in
       let lassos : tray s .lassos ≡ xs = ap (λ (y : Tray). y .lassos) (made-of xs made) in
-      let bytes : a-now ≡ map (byte-of range t (length w)) xs = says .bytes ∙ (bytes-each range t s a (length w) listed table ∙ ap (map (byte-of range t (length w))) lassos) in
+      let bytes : a-now ≡ map (byte-of range t (length w)) xs =
+      says .bytes ∙ (bytes-each range t s a (length w) fine valid ∙ ap (map (byte-of range t (length w))) lassos) in
       ap (λ (x : List ℕ). getD x i 0) bytes ∙ getD-map (byte-of range t (length w)) xs no-lasso 0 i l
 
--- EACH BYTE IS THE SINGLE CALL'S: also where the table is refused, since a single call then answers its number
-table-byte :
-    (range : Limits) (t : List ℕ) (w : ℕ) → (table-refusal range t ≡ 0 → ⊥) → (x : Parts) → table-refusal range t ≡ byte-of range t w x
-unfolding byte-of as-byte
-table-byte range t w met x =
-    ap as-byte
-    (decided-refused range t (x .prefix) (x .loop) w (table-first range t (x .prefix) (x .loop) w refl met) met)
-
-all-same : (f : Parts → ℕ) (n : ℕ) → ((x : Parts) → n ≡ f x) → (xs : List Parts) → replicate (length xs) n ≡ map f xs
-all-same f n h [] = refl
-all-same f n h (x ∷ xs) = ap (λ (m : ℕ). m ∷ replicate (length xs) n) (h x) ∙ ap (λ (ms : List ℕ). f x ∷ ms) (all-same f n h xs)
-
-pub bytes-single :
-    (range : Limits) (t s a : List ℕ) (w : ℕ) → list-refusal s (length a) ≡ 0 → tray-bytes range t s a w ≡ map (byte-of range t w) (tray s .lassos)
-bytes-single range t s a w fine =
-    let count = list-fits s (length a) fine .counted in
-    elim (same-or (table-refusal range t) 0) [
-      | inl none ↦ bytes-each range t s a w fine none
-      | inr met ↦
-          bytes-table range t s a w fine met
-          ∙ (ap (λ (n : ℕ). replicate n (table-refusal range t)) (sym count)
-          ∙ all-same (byte-of range t w) (table-refusal range t) (table-byte range t w met) (tray s .lassos))
-    ]
+  -- and the table is not refused
+  pub says-valid : r .number ≡ 0 → table-refusal range t ≡ 0
+  says-valid none = by-neither range t s (length a) (sym says-number ∙ none) .1
 
 -- A BYTE TELLS which decision it stands for, if no refusal's number is 0 or 1
 pub record Tells (d : Decision) : Type 0 where
   pub taken : (as-byte d ≡ 1) ↔ (d ≡ Taken)
   pub not-taken : (as-byte d ≡ 0) ↔ (d ≡ NotTaken)
   pub refused : (number : ℕ) → 2 ≤ number → (as-byte d ≡ number) ↔ (d ≡ Refused number)
+  pub no-other : (as-byte d ≤ 1) ⊎ (13 ≤ as-byte d)
 
-byte-tells : (d : Decision) → ((number : ℕ) → d ≡ Refused number → 2 ≤ number) → Tells d
+byte-tells : (d : Decision) → ((number : ℕ) → d ≡ Refused number → 13 ≤ number) → Tells d
 unfolding as-byte
-byte-tells Taken most =
+byte-tells Taken least =
     record {
       taken = ((λ h. refl), λ h. refl);
       not-taken = ((λ h. absurd (omega arith)), λ h. absurd (let z : _≡_ {A = ℕ} 0 1 = cc in omega arith));
       refused = λ n two. ((λ h. absurd (omega arith)), λ h. absurd (let z : _≡_ {A = ℕ} 0 1 = cc in omega arith));
+      no-other = inl (omega arith);
     }
-byte-tells NotTaken most =
+byte-tells NotTaken least =
     record {
       taken = ((λ h. absurd (omega arith)), λ h. absurd (let z : _≡_ {A = ℕ} 0 1 = cc in omega arith));
       not-taken = ((λ h. refl), λ h. refl);
       refused = λ n two. ((λ h. absurd (omega arith)), λ h. absurd (let z : _≡_ {A = ℕ} 0 1 = cc in omega arith));
+      no-other = inl (omega arith);
     }
-byte-tells (Refused r) most =
-    let two = most r refl in
+byte-tells (Refused r) least =
+    let far = least r refl in
     record {
       taken = ((λ h. absurd (omega arith)), λ h. absurd (let z : _≡_ {A = ℕ} 0 1 = cc in omega arith));
       not-taken = ((λ h. absurd (omega arith)), λ h. absurd (let z : _≡_ {A = ℕ} 0 1 = cc in omega arith));
       refused = λ n two. ((λ h. ap Refused h), λ h. cc);
+      no-other = inr far;
     }
 
 -- on a table that has passed its check each byte tells its decision
-pub tells-decision :
-    (range : Limits) (t u v w : List ℕ) → table-refusal range t ≡ 0 → Tells (decision range t u v (length w))
-unfolding lasso-refusal or-else
+pub tells-decision : (range : Limits) (t u v w : List ℕ) → table-refusal range t ≡ 0 → Tells (decision range t u v (length w))
 tells-decision range t u v w valid =
     byte-tells (decision range t u v (length w))
     (λ number refused.
-    let says : Lasso-says range t u v (decision range t u v (length w)) w (zeros w) = record { answer = refl; work = refl } in
-    let (same, some) = says-refused says number .0 refused in
-    let own : lasso-refusal range t u v (length w) ≡ parts-refusal (n-of t) (k-of t) u v (length w) = rw (eq-eqb valid) in
+    let (same, some) = says-refused (decision-says range t u v w) number .0 refused in
+    let own = parts-own range t u v (length w) valid in
     elim (parts-least (n-of t) (k-of t) u v (length w)) [
       | inl none ↦ absurd (omega arith)
       | inr least ↦ omega arith

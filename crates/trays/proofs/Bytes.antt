@@ -3,60 +3,48 @@ use mathlib.Core.Path.{_≡_, refl, sym, ap, _∙_}
 use mathlib.Core.Bool.{Bool, true, false}
 use mathlib.Core.List.{List, [], _∷_, _++_}
 use mathlib.Core.Logic.{inl, inr}
-use Prim.Native.Nat.{ℕ, zero, suc, _+_, _-_, _≤_, _<_}
+use Prim.Native.Nat.{ℕ, zero, suc, _+_, _-_, _^_, _≤_, _<_}
 use native.Mathlib.Numerals.{add-one}
 use native.Mathlib.Omega.{arith}
 use lib.Dec.{ltb}
-use lib.ListN.{length, getD, set, take, drop, length-append, length-drop, length-set, take-append-drop, List·getD-append}
-use lib.Seq.{length-take-le, take-length, take-take, take-add, drop-at, take-suc, take-suc-set, getD-append-add}
-use Rattle.basics.proofs.Booleans.{either, clash, not-both, below-or, lt-ltb}
-use Rattle.basics.proofs.Bounded.{each-make, each-all}
+use lib.ListN.{length, getD, set, take, drop, length-drop, length-set, take-append-drop}
+use lib.Seq.{length-take-le, take-length, take-take, take-add, drop-at, take-suc, take-suc-set}
+use Rattle.basics.specs.Words.{byte-bits}
+use Rattle.basics.proofs.Booleans.{either, clash, not-both, lt-ltb}
 use Rattle.basics.proofs.Scans.{Scan, scan-start, scan-more, scan-done}
 use Rattle.automata.specs.Decision.{takes?}
 use Rattle.automata.specs.Lasso.{all-below}
+use Rattle.automata.proofs.Positions.{both-below}
 use Rattle.tables.specs.Table.{Limits, n-of, k-of, meaning, table-refusal}
 use Rattle.lassos.specs.Decision.{as-decision, decision}
 use Rattle.lassos.specs.Refusals.{lengths-refusal, lasso-refusal}
 use Rattle.lassos.specs.declared.Decision.{Decision}
-use Rattle.lassos.specs.declared.Decision.the-variants.{Refused}
 use Rattle.lassos.proofs.Decides.{decided-refused}
 use Rattle.lassos.proofs.Parts.{parts-lengths, parts-15-prefix, parts-15-loop, parts-then, lasso-most, not-below}
 use Rattle.trays.specs.Answers.{as-byte, byte-of}
-use Rattle.trays.specs.Steps.{byte-values, Copied}
-use Rattle.trays.specs.Tray.{parted}
+use Rattle.trays.specs.Steps.{Copied}
+use Rattle.trays.specs.Tray.{lasso-of}
 
--- EVERY DECISION IS A BYTE
-number-small : (r : ℕ) (b : Bool) → r ≤ 16 → as-byte (as-decision r b) < byte-values
+-- EVERY DECISION IS A BYTE, of at most 16
+number-most : (r : ℕ) (b : Bool) → r ≤ 16 → as-byte (as-decision r b) ≤ 16
 unfolding as-byte as-decision
-number-small zero true m = omega arith
-number-small zero false m = omega arith
-number-small (suc r) b m = omega arith
+number-most zero true m = omega arith
+number-most zero false m = omega arith
+number-most (suc r) b m = m
 
-pub byte-small : (range : Limits) (t u v : List ℕ) (w : ℕ) → as-byte (decision range t u v w) < byte-values
+pub decision-most : (range : Limits) (t u v : List ℕ) (w : ℕ) → as-byte (decision range t u v w) ≤ 16
 unfolding decision
-byte-small range t u v w = number-small (lasso-refusal range t u v w) (takes? (meaning t) u v) (lasso-most range t u v w)
+decision-most range t u v w = number-most (lasso-refusal range t u v w) (takes? (meaning t) u v) (lasso-most range t u v w)
 
--- LETTERS of two parts
-both-below : (k : ℕ) (u v : List ℕ) → all-below k u ≡ true → all-below k v ≡ true → all-below k (u ++ v) ≡ true
-unfolding all-below
-both-below k u v a b =
-    each-make (length (u ++ v)) (λ i. ltb (getD (u ++ v) i 0) k)
-    (λ i l.
-    elim (below-or i (length u)) [
-      | inl first ↦ rw (List·getD-append u v 0 i first) (each-all (length u) (λ j. ltb (getD u j 0) k) a i first)
-      | inr second ↦
-          let both = length-append u v in
-          let e : length u + (i - length u) ≡ i = omega arith in
-          rw (sym e)
-          (rw (getD-append-add u v (i - length u) 0) (each-all (length v) (λ j. ltb (getD v j 0) k) b (i - length u) (omega arith)))
-    ])
+pub byte-small : (range : Limits) (t u v : List ℕ) (w : ℕ) → as-byte (decision range t u v w) < 2 ^ byte-bits
+byte-small range t u v w = let most = decision-most range t u v w in omega arith
 
 -- A PART OF A COPY is the part of what was copied
 module _ (letters words : List ℕ) (p : ℕ) (inside : p ≤ length words) (copy : take (length words) letters ≡ words) where
-  pub prefix-copied : take p letters ≡ take p words
+  prefix-copied : take p letters ≡ take p words
   prefix-copied = sym (take-take p (length words) letters inside) ∙ ap (λ (x : List ℕ). take p x) copy
 
-  pub loop-copied : length words ≤ length letters → take (length words - p) (drop p letters) ≡ drop p words
+  loop-copied : length words ≤ length letters → take (length words - p) (drop p letters) ≡ drop p words
   loop-copied room =
       let e : p + (length words - p) ≡ length words = omega arith in
       let whole : take p letters ++ take (length words - p) (drop p letters) ≡ words =
@@ -107,22 +95,22 @@ module _ (range : Limits) (t words : List ℕ) (p w : ℕ) (valid : table-refusa
   loop-length = length-drop p words
 
   -- a number that is the refusal's
-  refused-byte : {x : ℕ} → x ≡ lasso-refusal range t (take p words) (drop p words) w → (x ≡ 0 → ⊥) → x ≡ byte-of range t w (parted p words)
-  unfolding byte-of parted as-byte
+  refused-byte : {x : ℕ} → x ≡ lasso-refusal range t (take p words) (drop p words) w → (x ≡ 0 → ⊥) → x ≡ byte-of range t w (lasso-of p words)
+  unfolding byte-of lasso-of as-byte
   refused-byte is-refusal met = ap as-byte (decided-refused range t (take p words) (drop p words) w is-refusal met)
 
   module _ {x : ℕ} (is-lengths : x ≡ lengths-refusal p (length words - p)) where
     by-parts : x ≡ lengths-refusal (length (take p words)) (length (drop p words))
     by-parts = rw (prefix-length, loop-length) is-lengths
 
-    pub byte-lengths : (x ≡ 0 → ⊥) → x ≡ byte-of range t w (parted p words)
+    pub byte-lengths : (x ≡ 0 → ⊥) → x ≡ byte-of range t w (lasso-of p words)
     byte-lengths met =
         refused-byte
         (parts-then range t (take p words) (drop p words) w valid refl refl
         (parts-lengths (n-of t) (k-of t) (take p words) (drop p words) w by-parts met))
         met
 
-    pub byte-letters : x ≡ 0 → all-below (k-of t) words ≡ false → 15 ≡ byte-of range t w (parted p words)
+    pub byte-letters : x ≡ 0 → all-below (k-of t) words ≡ false → 15 ≡ byte-of range t w (lasso-of p words)
     byte-letters fine far =
         refused-byte
         (parts-then range t (take p words) (drop p words) w valid refl refl
@@ -139,7 +127,7 @@ module _ (range : Limits) (t words : List ℕ) (p w : ℕ) (valid : table-refusa
   -- what a decision on the copied parts says
   pub byte-decided :
       (letters : List ℕ) {d : Decision} → take (length words) letters ≡ words → length words ≤ length letters →
-      d ≡ decision range t (take p letters) (take (length words - p) (drop p letters)) w → as-byte d ≡ byte-of range t w (parted p words)
-  unfolding byte-of parted
+      d ≡ decision range t (take p letters) (take (length words - p) (drop p letters)) w → as-byte d ≡ byte-of range t w (lasso-of p words)
+  unfolding byte-of lasso-of
   byte-decided letters copy room e =
       ap as-byte (rw (prefix-copied letters words p inside copy, loop-copied letters words p inside copy room) at e)

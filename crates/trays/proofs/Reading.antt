@@ -1,6 +1,5 @@
 -- Laws of reading a list: one lasso at a time, that writing and reading undo each other, and that a list holds one tray. Assumes nothing.
 use mathlib.Core.Path.{_≡_, refl, sym, ap, _∙_}
-use mathlib.Core.Bool.{true, false, cond}
 use mathlib.Core.List.{List, [], _∷_, _++_, append-assoc, append-nil}
 use mathlib.Core.Logic.{inl, inr, _↔_}
 use Prim.Native.Nat.{ℕ, zero, suc, _+_, _≤_, _<_}
@@ -9,7 +8,7 @@ use lib.Dec.{leb}
 use lib.ListN.{length, take, drop, length-append, length-drop, take-append-drop}
 use lib.Seq.{length-take-le, take-at, drop-at, take-append-seam, drop-append-seam}
 use Rattle.basics.proofs.Booleans.{either, le-leb, gt-leb, leb-le}
-use Rattle.trays.specs.Tray.{Parts, Tray, parted, lasso-words, list-of, no-more, led-by, tray-in, tray}
+use Rattle.trays.specs.Tray.{Parts, Tray, lasso-of, lasso-words, list-of, no-more, led-by, tray-in, tray}
 
 -- ONE LASSO AT A TIME. Reading at most so many lassos is reading all, if a list has no more words
 tray-enough : (f g : ℕ) (t : List ℕ) → length t ≤ f → length t ≤ g → tray-in f t ≡ tray-in g t
@@ -36,7 +35,7 @@ tray-single p = refl
 
 module _ (p l : ℕ) (t : List ℕ) where
   -- a whole lasso, then the rest
-  pub tray-whole : p + l ≤ length t → tray (p ∷ (l ∷ t)) ≡ led-by (parted p (take (p + l) t)) (tray (drop (p + l) t))
+  pub tray-whole : p + l ≤ length t → tray (p ∷ (l ∷ t)) ≡ led-by (lasso-of p (take (p + l) t)) (tray (drop (p + l) t))
   unfolding tray tray-in
   tray-whole fits =
       let d = length-drop (p + l) t in
@@ -48,8 +47,8 @@ module _ (p l : ℕ) (t : List ℕ) where
   tray-cut short = rw (gt-leb short)
 
 -- WRITTEN AND READ. The words of a lasso are read as that lasso
-pub tray-lasso : (x : Parts) (t : List ℕ) → tray (lasso-words x ++ t) ≡ led-by x (tray t)
-unfolding lasso-words parted
+tray-lasso : (x : Parts) (t : List ℕ) → tray (lasso-words x ++ t) ≡ led-by x (tray t)
+unfolding lasso-words lasso-of
 tray-lasso x t =
     let u = x .prefix in
     let v = x .loop in
@@ -73,7 +72,7 @@ tray-of-list xs = ap tray (sym (append-nil (list-of xs))) ∙ (tray-joined xs []
 
 -- what was read makes up the list again, with what is left
 list-of-tray-in : (f : ℕ) (t : List ℕ) → list-of (tray-in f t .lassos) ++ tray-in f t .left ≡ t
-unfolding tray-in no-more led-by list-of lasso-words parted
+unfolding tray-in no-more led-by list-of lasso-words lasso-of
 list-of-tray-in zero t = refl
 list-of-tray-in (suc f) [] = refl
 list-of-tray-in (suc f) (p ∷ []) = refl

@@ -1,26 +1,18 @@
 -- Laws of refusals 17 and 18, and of what a call answers and leaves in each case. Assumes nothing.
-use mathlib.Core.Path.{_≡_, refl, sym, ap, _∙_}
-use mathlib.Core.Bool.{true, false}
+use mathlib.Core.Path.{_≡_, sym, ap, _∙_}
 use mathlib.Core.List.{List, map}
 use mathlib.Core.Logic.{inl, inr}
-use Prim.Native.Nat.{ℕ, zero, suc}
+use Prim.Native.Nat.{ℕ}
 use native.Mathlib.Omega.{arith}
 use lib.Dec.{eqb}
 use lib.ListN.{length, replicate}
 use Rattle.basics.specs.Buffers.{as-written, zeros}
-use Rattle.basics.specs.declared.Written.{Written}
 use Rattle.basics.proofs.Booleans.{either, eq-eqb, ne-eqb, eqb-eq}
-use Rattle.basics.proofs.Refusing.{or-else-first, or-else-second}
+use Rattle.basics.proofs.Refusing.{or-else-none, or-else-first, or-else-second, written-refused}
 use Rattle.tables.specs.Table.{Limits, table-refusal}
 use Rattle.trays.specs.Answers.{list-refusal, tray-refusal, byte-of, tray-bytes}
 use Rattle.trays.specs.Steps.{Answers-says}
 use Rattle.trays.specs.Tray.{tray}
-
--- a refusal's answer
-refused-answer : (x y : ℕ) → x ≡ y → (x ≡ 0 → ⊥) → (count : ℕ) → record { number = x; count = 0 } ≡ as-written y count
-unfolding as-written
-refused-answer x zero e met count = absurd (met e)
-refused-answer x (suc y) e met count = rw e
 
 -- THE LIST: whether words are left, then the count
 module _ (s : List ℕ) (b : ℕ) where
@@ -64,6 +56,10 @@ module _ (range : Limits) (t s : List ℕ) (b : ℕ) where
   unfolding tray-refusal
   by-table none = or-else-second (list-refusal s b) (table-refusal range t) none
 
+  pub by-neither : tray-refusal range t s b ≡ 0 → (list-refusal s b ≡ 0) × (table-refusal range t ≡ 0)
+  unfolding tray-refusal
+  by-neither none = or-else-none (list-refusal s b) (table-refusal range t) none
+
 module _ (range : Limits) (t s a : List ℕ) (work : ℕ) where
   pub bytes-list : (list-refusal s (length a) ≡ 0 → ⊥) → tray-bytes range t s a work ≡ zeros a
   unfolding tray-bytes
@@ -87,7 +83,7 @@ module _ (range : Limits) (t s a : List ℕ) (work : ℕ) where
     answers-list met cleared =
         let far : list-refusal s (length a) ≡ 0 → ⊥ = λ z. met (is-list ∙ z) in
         record {
-          answer = refused-answer x _ (is-list ∙ sym (by-list range t s (length a) far)) met (length (tray s .lassos));
+          answer = written-refused x _ (is-list ∙ sym (by-list range t s (length a) far)) met (length (tray s .lassos));
           bytes = cleared ∙ sym (bytes-list far);
         }
 
@@ -101,7 +97,7 @@ module _ (range : Limits) (t s a : List ℕ) (work : ℕ) where
       answers-table met all =
           let far : table-refusal range t ≡ 0 → ⊥ = λ z. met (is-table ∙ z) in
           record {
-            answer = refused-answer y _ (is-table ∙ sym (by-table range t s (length a) near)) met (length (tray s .lassos));
+            answer = written-refused y _ (is-table ∙ sym (by-table range t s (length a) near)) met (length (tray s .lassos));
             bytes = all ∙ (ap (λ (n : ℕ). replicate (length a) n) is-table ∙ sym (bytes-table near far));
           }
 

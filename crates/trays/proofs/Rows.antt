@@ -1,7 +1,7 @@
 -- Every trial list holds the lassos of its row, and every trial tray is answered as its row says: one computation over all rows of each,
 -- and what it says of each row. Assumes nothing.
-use mathlib.Core.Path.{_≡_, refl, ap}
-use mathlib.Core.List.{List, map}
+use mathlib.Core.Path.{_≡_, refl}
+use mathlib.Core.List.{map}
 use Prim.Native.Nat.{ℕ, _<_}
 use lib.ListN.{length, getD, replicate}
 use Rattle.basics.specs.Bounded.{each, any, count}
@@ -12,16 +12,16 @@ use Rattle.basics.proofs.Lists.{map-same}
 use Rattle.automata.specs.Decision.{takes?, nodes, product, starts, leads, grown-nodes, grow, row, marked, on-cycle}
 use Rattle.automata.specs.Lasso.{all-below, positions, position-letter, next-position}
 use Rattle.tables.specs.Rows.{pattern-A}
-use Rattle.tables.specs.Table.{wide-range, n-of, k-of, m-of, flags, flags-of, head-of, record-at, letter-of, target-of, next-of, is-initial, is-accepting, chain-has, edge, meaning, sizes-refusal, flags-good, records-good, named, heads-good, nexts-good, chains-good, table-refusal}
+use Rattle.tables.specs.Table.{wide-range, n-of, k-of, m-of, flags, flags-of, head-of, record-at, letter-of, target-of, next-of, is-initial, is-accepting, chain-has, edge, meaning, flags-good, records-good, named, heads-good, nexts-good, chains-good, table-refusal}
 use Rattle.lassos.specs.Decision.{as-decision, decision}
 use Rattle.lassos.specs.Refusals.{lengths-refusal, parts-refusal, lasso-refusal}
 use Rattle.trays.specs.Answers.{list-refusal, tray-refusal, as-byte, byte-of, tray-bytes}
 use Rattle.trays.specs.Rows.{lasso, List-row, holds, list-rows, Tray-row, answers, tray-rows}
-use Rattle.trays.specs.Tray.{Tray, parted, no-more, led-by, tray-in, tray}
+use Rattle.trays.specs.Tray.{lasso-of, no-more, led-by, tray-in, tray}
 
 -- THE LISTS
 lists-right : map (λ (r : List-row). tray (r .words)) list-rows ≡ map (λ (r : List-row). record { lassos = r .lassos; left = r .left }) list-rows
-unfolding list-rows holds lasso tray tray-in no-more led-by parted
+unfolding list-rows holds lasso tray tray-in no-more led-by lasso-of
 lists-right = refl
 
 pub list-row-right :
@@ -33,7 +33,7 @@ list-row-right none i l =
 -- THE TRAYS: the number
 numbers-right :
     map (λ (r : Tray-row). tray-refusal wide-range (r .table) (r .words) (r .bytes)) tray-rows ≡ map (λ (r : Tray-row). r .number) tray-rows
-unfolding tray-rows answers pattern-A tray tray-in no-more led-by parted list-refusal tray-refusal or-else wide-range n-of k-of m-of flags-of head-of record-at letter-of target-of next-of flags-good records-good named heads-good nexts-good chains-good table-refusal each count
+unfolding tray-rows answers pattern-A tray tray-in no-more led-by lasso-of list-refusal tray-refusal or-else wide-range n-of k-of m-of flags-of head-of record-at letter-of target-of next-of flags-good records-good named heads-good nexts-good chains-good table-refusal each count
 numbers-right = refl
 
 pub tray-row-number :
@@ -48,7 +48,7 @@ tray-row-number none i l =
 bytes-right :
     map (λ (r : Tray-row). tray-bytes wide-range (r .table) (r .words) (replicate (r .bytes) 7) (r .work)) tray-rows
     ≡ map (λ (r : Tray-row). r .answers) tray-rows
-unfolding tray-rows answers pattern-A tray tray-in no-more led-by parted list-refusal tray-bytes zeros byte-of as-byte decision as-decision lasso-refusal parts-refusal lengths-refusal all-below takes? nodes product starts leads grown-nodes grow row marked on-cycle positions position-letter next-position or-else wide-range n-of k-of m-of flags flags-of head-of record-at letter-of target-of next-of is-initial is-accepting chain-has edge meaning flags-good records-good named heads-good nexts-good chains-good table-refusal each any count least tabulate
+unfolding tray-rows answers pattern-A tray tray-in no-more led-by lasso-of list-refusal tray-bytes zeros byte-of as-byte decision as-decision lasso-refusal parts-refusal lengths-refusal all-below takes? nodes product starts leads grown-nodes grow row marked on-cycle positions position-letter next-position or-else wide-range n-of k-of m-of flags flags-of head-of record-at letter-of target-of next-of is-initial is-accepting chain-has edge meaning flags-good records-good named heads-good nexts-good chains-good table-refusal each any count least tabulate
 bytes-right = refl
 
 pub tray-row-bytes :

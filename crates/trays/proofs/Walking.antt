@@ -6,11 +6,12 @@ use mathlib.Core.Logic.{inl, inr}
 use Prim.Native.Nat.{ℕ, suc, _+_, _-_, _≤_, _<_}
 use native.Mathlib.Omega.{arith}
 use native.Mathlib.Numerals.{add-one}
-use lib.ListN.{length, getD, set, take, drop, length-set, length-drop, drop-of-length-le}
-use lib.Seq.{drop-cons, drop-drop, drop-length, take-all, take-suc-set, append-snoc, length-take-le}
-use Rattle.basics.proofs.Booleans.{below-or, same-or}
+use lib.ListN.{length, getD, set, take, drop, length-set, length-drop}
+use lib.Seq.{drop-cons, drop-drop, take-all, take-suc-set, append-snoc, length-take-le}
+use Rattle.basics.proofs.Booleans.{below-or}
+use Rattle.basics.proofs.Lists.{empty-list}
 use Rattle.trays.specs.Steps.{longest-lasso, lasso-end}
-use Rattle.trays.specs.Tray.{Parts, Tray, parted, no-more, led-by, tray}
+use Rattle.trays.specs.Tray.{Parts, lasso-of, no-more, led-by, tray}
 use Rattle.trays.proofs.Reading.{tray-none, tray-single, tray-whole, tray-cut}
 
 -- A LASSO AT A PLACE of a list, where both its lengths are
@@ -24,9 +25,9 @@ module _ (s : List ℕ) (i : ℕ) (both : i + 1 < length s) where
       let two : i + 2 ≡ suc (suc i) = omega arith in rw (one, two) (first ∙ ap (λ (t : List ℕ). getD s i 0 ∷ t) second)
 
   -- a whole lasso, then what follows it
-  pub whole-at :
+  whole-at :
       lasso-end s i ≤ length s →
-      tray (drop i s) ≡ led-by (parted (getD s i 0) (take (lasso-end s i - (i + 2)) (drop (i + 2) s))) (tray (drop (lasso-end s i) s))
+      tray (drop i s) ≡ led-by (lasso-of (getD s i 0) (take (lasso-end s i - (i + 2)) (drop (i + 2) s))) (tray (drop (lasso-end s i) s))
   unfolding lasso-end
   whole-at inside =
       let p = getD s i 0 in
@@ -39,7 +40,7 @@ module _ (s : List ℕ) (i : ℕ) (both : i + 1 < length s) where
       ap tray lengths-first ∙ (tray-whole p l (drop (i + 2) s) (omega arith) ∙ rw (n, behind))
 
   -- one that is cut short is left
-  pub cut-at : length s < lasso-end s i → tray (drop i s) ≡ no-more (drop i s)
+  cut-at : length s < lasso-end s i → tray (drop i s) ≡ no-more (drop i s)
   unfolding lasso-end
   cut-at over =
       let left = length-drop (i + 2) s in
@@ -51,13 +52,8 @@ pub end-further : (s : List ℕ) (i : ℕ) → i + 2 ≤ lasso-end s i
 unfolding lasso-end
 end-further s i = omega arith
 
--- a list without length
-pub empty-list : {A : Type 0} (xs : List A) → length xs ≡ 0 → xs ≡ []
-empty-list [] e = refl
-empty-list (x ∷ xs) e = absurd (omega arith)
-
 -- fewer than two words hold no lasso
-pub few-words : (s : List ℕ) → length s ≤ 1 → tray s ≡ no-more s
+few-words : (s : List ℕ) → length s ≤ 1 → tray s ≡ no-more s
 few-words [] l = tray-none
 few-words (x ∷ []) l = tray-single x
 few-words (x ∷ (y ∷ s)) l = absurd (omega arith)
@@ -160,7 +156,7 @@ module _ {f : Parts → ℕ} {s a : List ℕ} {work : ℕ} where
 
       pub deciding-turn :
           {w2 letters2 : List ℕ} → length w2 ≡ length w1 → length letters2 ≡ length letters → {b : ℕ} →
-          b ≡ f (parted (getD s at 0) (take (end - (at + 2)) (drop (at + 2) s))) →
+          b ≡ f (lasso-of (getD s at 0) (take (end - (at + 2)) (drop (at + 2) s))) →
           Deciding f s a work (set a1 i b) w2 letters2 end (i + 1)
       unfolding led-by
       deciding-turn kept copied {b} is-byte =

@@ -50,15 +50,15 @@ pub record Tray-row : Type 0 where
 unfoldable pub answers : (number : ℕ) → (answers : List ℕ) → (table words : List ℕ) → (bytes work : ℕ) → Tray-row
 answers x a t s b w = record { table = t; words = s; bytes = b; work = w; number = x; answers = a }
 
--- pattern A takes the words with finitely many ones; a lasso of so many letters asks for 8 work words each
+-- pattern A takes the words with finitely many ones; a lasso asks for 8 work words for each of its letters
 unfoldable pub tray-rows : List Tray-row
 tray-rows =
-    -- taken, not taken, taken behind a prefix; an empty loop; letters 2, 256 and 65,535 of 2; 24 work words of 16
+    -- taken, not taken, taken behind a prefix; an empty loop; letters 2, 256 and 65,535 of 2; 24 work words needed and 16 lent
     answers 0 (1 ∷ 0 ∷ 1 ∷ 13 ∷ 15 ∷ 15 ∷ 15 ∷ 16 ∷ []) pattern-A
     (0 ∷ 1 ∷ 0 ∷ 0 ∷ 1 ∷ 1 ∷ 1 ∷ 1 ∷ 1 ∷ 0 ∷ 1 ∷ 0 ∷ 1 ∷ 0 ∷ 1 ∷ 2 ∷ 0 ∷ 1 ∷ 256 ∷ 1 ∷ 1 ∷ 65535 ∷ 0 ∷ 0 ∷ 3 ∷ 0 ∷ 0 ∷ 0 ∷ []) 8 16
     -- no lasso
     ∷ answers 0 [] pattern-A [] 0 0
-    -- a word left over; one that looks like a lasso's end but for its lengths
+    -- a word left over; a lasso whose last letter is missing
     ∷ answers 17 (0 ∷ []) pattern-A (0 ∷ 1 ∷ 0 ∷ 0 ∷ []) 1 16
     ∷ answers 17 (0 ∷ 0 ∷ []) pattern-A (0 ∷ 1 ∷ 0 ∷ 1 ∷ 1 ∷ 1 ∷ []) 2 16
     -- a byte too few, a byte too many

@@ -1,24 +1,21 @@
 -- What the functions behind a tray's call ask and say. Assumes nothing: these are definitions.
 use mathlib.Core.Path.{_≡_}
 use mathlib.Core.Bool.{Bool, true}
-use mathlib.Core.List.{List, map}
+use mathlib.Core.List.{List}
 use Prim.Native.Nat.{ℕ, _+_, _*_, _^_, _≤_, _<_}
 use lib.ListN.{length, getD, take}
 use Rattle.basics.specs.Buffers.{as-written}
+use Rattle.basics.specs.Words.{byte-bits}
 use Rattle.basics.specs.declared.Written.{Written}
 use Rattle.automata.specs.Lasso.{all-below}
 use Rattle.tables.specs.Table.{Limits, table-refusal}
 use Rattle.lassos.specs.Refusals.{longest-part}
 use Rattle.trays.specs.Tray.{tray}
-use Rattle.trays.specs.Answers.{list-refusal, tray-refusal, byte-of, tray-bytes}
+use Rattle.trays.specs.Answers.{list-refusal, tray-refusal, tray-bytes}
 
 -- the letters of the longest lasso that is not refused
 abbrev pub longest-lasso : ℕ
 longest-lasso = 2 * longest-part
-
--- the values of a byte
-abbrev pub byte-values : ℕ
-byte-values = 2 ^ 8
 
 -- where the lasso at a place of a list ends, by the two lengths that stand there
 unfoldable pub lasso-end : (s : List ℕ) → (at : ℕ) → ℕ
@@ -27,7 +24,7 @@ lasso-end s i = i + 2 + getD s i 0 + getD s (i + 1) 0
 -- copying letters below k into bytes asks that they have room, and that such a letter is a byte
 pub record Copy-asks (words : List ℕ) (k : ℕ) (bytes : List ℕ) : Type 0 where
   pub room : length words ≤ length bytes
-  pub narrow : k < byte-values
+  pub narrow : k < 2 ^ byte-bits
 
 -- all words are letters below k, and then the bytes begin with them
 pub record Copied (words : List ℕ) (k : ℕ) (r : Bool) (bytes : List ℕ) : Type 0 where

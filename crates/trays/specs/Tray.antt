@@ -11,8 +11,8 @@ pub record Parts : Type 0 where
   pub loop : List ℕ
 
 -- the lasso with these letters, of which so many are its prefix
-unfoldable pub parted : (prefix : ℕ) → (letters : List ℕ) → Parts
-parted p x = record { prefix = take p x; loop = drop p x }
+unfoldable pub lasso-of : (prefix : ℕ) → (letters : List ℕ) → Parts
+lasso-of p x = record { prefix = take p x; loop = drop p x }
 
 -- a lasso without letters, which stands beyond the last of a list
 abbrev pub no-lasso : Parts
@@ -32,7 +32,7 @@ pub record Tray : Type 0 where
   pub lassos : List Parts
   pub left : List ℕ
 
--- no lasso, and so many words left
+-- no lasso, and these words left
 unfoldable pub no-more : (left : List ℕ) → Tray
 no-more t = record { lassos = []; left = t }
 
@@ -47,7 +47,7 @@ tray-in zero t = no-more t
 tray-in (suc f) [] = no-more []
 tray-in (suc f) (p ∷ []) = no-more (p ∷ [])
 tray-in (suc f) (p ∷ (l ∷ t)) =
-    cond (leb (p + l) (length t)) (led-by (parted p (take (p + l) t)) (tray-in f (drop (p + l) t))) (no-more (p ∷ (l ∷ t)))
+    cond (leb (p + l) (length t)) (led-by (lasso-of p (take (p + l) t)) (tray-in f (drop (p + l) t))) (no-more (p ∷ (l ∷ t)))
 
 -- THE TRAY that a list holds: a list has no more lassos than words
 unfoldable pub tray : List ℕ → Tray

@@ -12,12 +12,13 @@ use tables::letters_of;
 use tables::table_refusal;
 ghost use mathlib.Core.Path.{_≡_};
 ghost use mathlib.Core.List.{map};
-ghost use Prim.Native.Nat.{_+_, _<_};
+ghost use Prim.Native.Nat.{_+_, _^_, _<_};
 ghost use lib.ListN.{length};
+ghost use Rattle.basics.specs.Words.{byte-bits};
 ghost use Rattle.tables.specs.Table.{wide-range};
 ghost use Rattle.trays.specs.Answers.{list-refusal, as-byte, byte-of, Tray-says};
-ghost use Rattle.trays.specs.Steps.{byte-values, lasso-end, Copy-asks, Copied, Byte-asks, Each-asks, Answers-says};
-ghost use Rattle.trays.specs.Tray.{parted, tray};
+ghost use Rattle.trays.specs.Steps.{lasso-end, Copy-asks, Copied, Byte-asks, Each-asks, Answers-says};
+ghost use Rattle.trays.specs.Tray.{lasso-of, tray};
 
 // The letters of the longest lasso that is not refused: a prefix and a loop.
 const LASSO_LETTERS: usize = 2 * PART_LETTERS;
@@ -32,7 +33,7 @@ pub fn decide_tray(table: &[u16], list: &[u16], answers: &mut [u8], work: &mut [
     written
 }
 
-// Refuses the list, then the table, or decides each lasso; leaves the work words as the searches do.
+// Refuses by 17 and 18, then by 2 to 9, or decides each lasso; leaves the work words as the searches do.
 fn fill_answers(table: &[u16], list: &[u16], answers: &mut [u8], work: &mut [u32]) -> Written
     ensures { λ r. ⌜ Answers-says wide-range (now (table .entry)) (now (list .entry)) r (now (answers .entry)) (now (answers .exit)) (length (now (work .entry))) ⌝ }
 {
@@ -118,7 +119,7 @@ fn lasso_byte(
     work: &mut [u32],
 ) -> u8
     requires { ⌜ Byte-asks wide-range (now table) (now words) prefix (now letters) ⌝ }
-    ensures { λ r. ⌜ r ≡ byte-of wide-range (now (table .entry)) (length (now (work .entry))) (parted prefix (now (words .entry))) ⌝ }
+    ensures { λ r. ⌜ r ≡ byte-of wide-range (now (table .entry)) (length (now (work .entry))) (lasso-of prefix (now (words .entry))) ⌝ }
 {
     let refusal = lengths_refusal(prefix, words.len() - prefix);
     if refusal != 0 {
@@ -152,7 +153,7 @@ fn copy_letters(words: &[u16], k: usize, letters: &mut [u8]) -> bool
 
 // A decision as a byte.
 fn in_byte(decision: Decision) -> u8
-    requires { ⌜ as-byte decision < byte-values ⌝ }
+    requires { ⌜ as-byte decision < 2 ^ byte-bits ⌝ }
     ensures { λ r. ⌜ r ≡ as-byte decision ⌝ }
 {
     match decision {

@@ -1,29 +1,24 @@
 -- What a tray's call answers and leaves, and the third demand of a tray, follow from those of single decisions. Assumes nothing.
-use mathlib.Core.Path.{_≡_, refl, sym, _∙_, ap}
+use mathlib.Core.Path.{_≡_, _∙_}
 use mathlib.Core.List.{List}
-use mathlib.Core.Logic.{inl, inr, _↔_}
-use Prim.Native.Nat.{ℕ, _≤_, _<_}
+use mathlib.Core.Logic.{inl, inr, Iff·trans}
+use Prim.Native.Nat.{ℕ, _≤_}
 use native.Mathlib.Omega.{arith}
 use lib.ListN.{length, getD}
 use Rattle.basics.specs.Buffers.{zeros}
-use Rattle.basics.specs.declared.Written.{Written}
 use Rattle.basics.proofs.Booleans.{same-or}
 use Rattle.tables.specs.Table.{Limits, table-refusal}
 use Rattle.complement.specs.Build.{used}
 use Rattle.lassos.specs.Decision.{decision, Lasso-says}
 use Rattle.lassos.specs.declared.Decision.{Decision}
-use Rattle.lassos.specs.declared.Decision.the-variants.{Taken, NotTaken, Refused}
-use Rattle.lassos.proofs.Answers.{says-taken, says-not-taken, says-refused}
+use Rattle.lassos.proofs.Answers.{decision-says, says-taken, says-not-taken, says-refused}
 use Rattle.lassos.proofs.Parts.{accepted}
-use Rattle.trays.specs.Answers.{as-byte, byte-of, Tray-says}
-use Rattle.trays.specs.Tray.{Parts, no-lasso, list-of}
-use Rattle.trays.proofs.Answers.{cut-right, miscounted-right, table-right, no-other-number, says-number, says-count, says-none, says-list, says-table, says-byte, Tells, tells-decision}
-use Rattle.tubochre.specs.Demand.{Byte-exactly, Tray-demand, Not-refused, Third-demand, Opposite, by-pattern, by-complement, Third-tray}
+use Rattle.trays.specs.Answers.{as-byte, byte-of}
+use Rattle.trays.specs.Tray.{Parts, no-lasso}
+use Rattle.trays.proofs.Answers.{cut-right, miscounted-right, table-right, no-other-number, says-number, says-count, says-none, says-list, says-table, says-length, says-byte, says-valid, Tells, tells-decision}
+use Rattle.trays.proofs.Bytes.{decision-most}
+use Rattle.tubochre.specs.Demand.{Byte-exactly, Tray-demand, Not-refused, Third-demand, by-pattern, by-complement, Third-tray}
 use Rattle.tubochre.proofs.Answers.{not-refused}
-
--- one statement for another
-then : {A B C : Type 0} → A ↔ B → B ↔ C → A ↔ C
-then f g = ((λ a. g .0 (f .0 a)), λ c. f .1 (g .1 c))
 
 -- A LASSO OF A TRAY on a table that is not refused: its byte stands for the single call's decision
 module _ (range : Limits) (t : List ℕ) (valid : table-refusal range t ≡ 0) (x : Parts) (w : List ℕ) where
@@ -31,21 +26,26 @@ module _ (range : Limits) (t : List ℕ) (valid : table-refusal range t ≡ 0) (
   decided = decision range t (x .prefix) (x .loop) (length w)
 
   single : Lasso-says range t (x .prefix) (x .loop) decided w (zeros w)
-  single = record { answer = refl; work = refl }
+  single = decision-says range t (x .prefix) (x .loop) w
 
   tells : Tells decided
   tells = tells-decision range t (x .prefix) (x .loop) w valid
+
+  byte-most : byte-of range t (length w) x ≤ 16
+  unfolding byte-of
+  byte-most = decision-most range t (x .prefix) (x .loop) (length w)
 
   byte-exactly : Byte-exactly range t x (byte-of range t (length w) x) (length w)
   unfolding byte-of
   byte-exactly =
       record {
+        no-other = elim (tells .no-other) [ inl small ↦ inl small | inr far ↦ inr (far, byte-most) ];
         refused =
             λ number two.
-            then (tells .refused number two)
+            Iff·trans (tells .refused number two)
             ((λ h. says-refused single number .0 h .0), λ h. says-refused single number .1 (h, omega arith));
-        taken = then (tells .taken) (says-taken single);
-        not-taken = then (tells .not-taken) (says-not-taken single);
+        taken = Iff·trans (tells .taken) (says-taken single);
+        not-taken = Iff·trans (tells .not-taken) (says-not-taken single);
       }
 
   -- a byte of 0 or 1 is no refusal
@@ -69,12 +69,12 @@ tray-demand range t s r a a-now w w-now says =
       no-other = rw number (no-other-number range t s (length a));
       count = says-count says;
       no-count = says-none says;
+      same = says-length says;
       list-bytes = says-list says;
       table-bytes = says-table says;
       lasso-bytes =
           λ none xs made i l.
-          let passed = table-right range t s (length a) 0 (omega arith) .0 (sym number ∙ none) in
-          rw (says-byte says none xs made i l) (byte-exactly range t (passed .3) (getD xs i no-lasso) w);
+          rw (says-byte says none xs made i l) (byte-exactly range t (says-valid says none) (getD xs i no-lasso) w);
     }
 
 -- THE THIRD DEMAND of a tray, from that of single lassos
@@ -83,8 +83,8 @@ unfolding Third-demand Third-tray byte-of
 third-tray range third t answer r before after checks passes built fine s p q a a-now w w-now b b-now z z-now says other none none′ xs made i l small small′ =
     let c = used r (after .words) in
     let x = getD xs i no-lasso in
-    let valid = table-right range t s (length a) 0 (omega arith) .0 (sym (says-number says) ∙ none) .3 in
-    let valid′ = table-right range c s (length b) 0 (omega arith) .0 (sym (says-number other) ∙ none′) .3 in
+    let valid = says-valid says none in
+    let valid′ = says-valid other none′ in
     let byte = says-byte says none xs made i l in
     let byte′ = says-byte other none′ xs made i l in
     let first = single range t valid x w in

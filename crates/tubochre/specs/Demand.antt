@@ -143,7 +143,9 @@ Lasso-demand range =
 
 -- A TRAY. What the byte of a lasso says, of a table that is not refused
 pub record Byte-exactly (range : Limits) (t : List ℕ) (x : Parts) (byte work : ℕ) : Type 0 where
-  -- 13 to 16: the first of them that is met, and there is no other
+  -- a byte is 1, 0, or 13 to 16
+  pub no-other : (byte ≤ 1) ⊎ ((13 ≤ byte) × (byte ≤ 16))
+  -- which refusal: the first that is met (0 and 1 are no refusal's number)
   pub refused : (number : ℕ) → 2 ≤ number → (byte ≡ number) ↔ (lasso-refusal range t (x .prefix) (x .loop) work ≡ number)
   -- 1 exactly if none is met and there is an accepting run, and 0 exactly if none is met and there is none
   pub taken : (byte ≡ 1) ↔ ((lasso-refusal range t (x .prefix) (x .loop) work ≡ 0) × Takes (meaning t) (letter-at (x .prefix) (x .loop)))
@@ -163,7 +165,8 @@ pub record Tray-exactly (range : Limits) (t s : List ℕ) (r : Written) (bytes w
   -- an accepted call answers how many bytes it wrote, a refused one none
   pub count : r .number ≡ 0 → r .count ≡ bytes
   pub no-count : (r .number ≡ 0 → ⊥) → r .count ≡ 0
-  -- the bytes: zero after 17 and 18, the table's number in each after a refusal of the table, and else what is said of the lasso there
+  -- the bytes, as many as were lent: zero after 17 and 18, the table's number in each after a refusal of the table, and else what is said of the lasso there
+  pub same : length left ≡ bytes
   pub list-bytes : 17 ≤ r .number → left ≡ replicate bytes 0
   pub table-bytes : 1 ≤ r .number → r .number ≤ 9 → left ≡ replicate bytes (r .number)
   pub lasso-bytes :

@@ -1,6 +1,6 @@
 -- `decide_each` meets its contract. The invariant: the bytes of the lassos before a place are filled. Assumes nothing.
 use denote.Ref.{now}
-use mathlib.Core.Path.{refl, sym, _∙_}
+use mathlib.Core.Path.{refl, sym}
 use Prim.Native.Nat.{ℕ, _+_, _-_, _≤_, _<_}
 use native.Mathlib.Omega.{arith}
 use lib.ListN.{length, length-replicate}

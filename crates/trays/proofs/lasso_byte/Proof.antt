@@ -3,7 +3,7 @@ use borrow.Author.Tests.{not-true, not-false}
 use denote.Ref.{now}
 use mathlib.Core.Path.{_≡_, sym, _∙_}
 use mathlib.Core.List.{List}
-use Prim.Native.Nat.{ℕ, _-_, _≤_}
+use Prim.Native.Nat.{ℕ, _≤_}
 use native.Mathlib.Omega.{arith}
 use lib.ListN.{length, take}
 use lib.Seq.{length-take-le}
@@ -58,7 +58,7 @@ lengths-refusal-requires c κs = search needs
 cast-result : tie.Need-cast-result
 cast-result c =
     let sized : tie.After-lengths-refusal = search in
-    let most : sized .lengths-refusal .result ≤ 16 = rw (sized .lengths-refusal .ensures) (lengths-most _ _) in
+    let most : sized .lengths-refusal .result ≤ 14 = rw (sized .lengths-refusal .ensures) (lengths-most _ _) in
     record { fits = omega arith }
 
 returns : tie.Need-returns

@@ -81,11 +81,11 @@ module _ (c : tie.Else2 Inv-loop μ-loop) where
 
 returns-3 : tie.Need-returns-3 Inv-loop μ-loop
 returns-3 c =
-    let ended : tie.Else2 Inv-loop μ-loop = search in list-18 _ _ (nothing-left ended) (all-counted ended) (c .if3 .taken)
+    let ended : tie.Else2 Inv-loop μ-loop = search in list-18 _ _ (nothing-left ended) (all-counted ended) (λ e. omega (arith, c .if3 .taken))
 
 returns-4 : tie.Need-returns-4 Inv-loop μ-loop
 returns-4 c =
-    let ended : tie.Else2 Inv-loop μ-loop = search in list-passes _ _ (nothing-left ended) (all-counted ended) (c .if3 .left)
+    let ended : tie.Else2 Inv-loop μ-loop = search in list-passes _ _ (nothing-left ended) (all-counted ended) (omega (arith, c .if3 .left))
 
 pub list-refusal-spec : {M : Type 1} → statement M
 list-refusal-spec =
