@@ -16,7 +16,9 @@ use Rattle.trays.specs.Tray.{Parts, tray}
 
 -- 17: the list does not end exactly at a lasso's end; 18: the answer bytes are not as many as the lassos
 unfoldable pub list-refusal : (s : List ℕ) → (bytes : ℕ) → ℕ
-list-refusal s b = cond (eqb (length (tray s .left)) 0) (cond (eqb (length (tray s .lassos)) b) 0 18) 17
+list-refusal s b =
+    cond (not (eqb (length (tray s .left)) 0)) 17
+    (cond (not (eqb (length (tray s .lassos)) b)) 18 0)
 
 -- both come before the table's 2 to 9, in a range
 unfoldable pub tray-refusal : Limits → (t s : List ℕ) → (bytes : ℕ) → ℕ

@@ -165,7 +165,8 @@ pub record Tray-exactly (range : Limits) (t s : List ℕ) (r : Written) (bytes w
   -- an accepted call answers how many bytes it wrote, a refused one none
   pub count : r .number ≡ 0 → r .count ≡ bytes
   pub no-count : (r .number ≡ 0 → ⊥) → r .count ≡ 0
-  -- the bytes, as many as were lent: zero after 17 and 18, the table's number in each after a refusal of the table, and else what is said of the lasso there
+  -- the bytes, as many as were lent: zero after 17 and 18, the table's number in each after a refusal of the table, and else what is said
+  -- of the lasso there
   pub same : length left ≡ bytes
   pub list-bytes : 17 ≤ r .number → left ≡ replicate bytes 0
   pub table-bytes : 1 ≤ r .number → r .number ≤ 9 → left ≡ replicate bytes (r .number)
