@@ -19,6 +19,7 @@ static struct place place(size_t word, const char *format, ...)
     vsnprintf(p.sentence, sizeof p.sentence, format, more);
     va_end(more);
     p.word = word;
+    p.letter = 0;
     return p;
 }
 
@@ -193,11 +194,14 @@ static struct place bad_letter_in(const uint16_t *words, const struct lasso *l)
     const int in_prefix = bad_letter(words, &l->prefix) < l->prefix.len;
     const struct letters *const part = in_prefix ? &l->prefix : &l->loop;
     const size_t at = bad_letter(words, part);
+    struct place p;
     if (at == part->len)
         return nowhere(TUBOCHRE_LETTER);
-    return place(in_prefix ? PREFIX_WORD : LOOP_WORD,
-                 "letter %u stands at place %zu of the %s, and the letters are 0 to %u", part->letter[at], at + 1,
-                 in_prefix ? "prefix" : "loop", words[1] - 1U);
+    p = place(in_prefix ? PREFIX_WORD : LOOP_WORD,
+              "letter %u stands at place %zu of the %s, and the letters are 0 to %u", part->letter[at], at + 1,
+              in_prefix ? "prefix" : "loop", words[1] - 1U);
+    p.letter = at;
+    return p;
 }
 
 struct place place_in_lasso(uint32_t number, const uint16_t *words, const struct lasso *l)

@@ -12,10 +12,10 @@
 #define NO_WORD ((size_t)-1)
 
 /* A sentence without a full stop, and the word at fault, of the table or of the two that a lasso is written in, or
- * NO_WORD. */
+ * NO_WORD. Of a lasso's word also the letter at fault, counted from 0; 0 where the word is at fault as a whole. */
 struct place {
     char sentence[200];
-    size_t word;
+    size_t word, letter;
 };
 
 /* Of a pattern that the check refuses by 2 to 10, with the check's answer. Of a fork it names the first two targets

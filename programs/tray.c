@@ -98,31 +98,29 @@ static void check_part(const struct cursor *c, struct spot at, const struct lett
     }
 }
 
-/* Keeps the text of a part, up to the first byte that may stand in none, and reads it. */
-static struct letters read_part(struct tray *t, struct cursor *c)
+/* Keeps the text of a part and where it begins, up to the first byte that may stand in none, and reads it. */
+static struct letters read_part(struct tray *t, struct cursor *c, struct tray_part *part)
 {
-    const struct spot at = c->at;
-    const size_t from = t->text_len;
     struct part_fault fault;
     struct letters l;
+    *part = (struct tray_part){t->text_len, c->at};
     for (; may_stand_in_part(c->byte); step(c))
         add_byte(t, c->byte);
     add_byte(t, '\0');
-    l = read_letters(t->text + from, &fault);
-    check_part(c, at, &l, fault);
+    l = read_letters(t->text + part->text, &fault);
+    check_part(c, part->at, &l, fault);
     return l;
 }
 
 static void read_line(struct tray *t, struct cursor *c)
 {
-    struct tray_line line = {t->text_len, 0, c->at, c->at};
-    struct letters prefix = read_part(t, c), loop;
+    struct tray_line line;
+    struct letters prefix, loop;
+    prefix = read_part(t, c, &line.prefix);
     skip_blanks(c);
     if (ends_line(c->byte))
-        bad_line(c, line.prefix_at, "a prefix has no loop beside it");
-    line.loop = t->text_len;
-    line.loop_at = c->at;
-    loop = read_part(t, c);
+        bad_line(c, line.prefix.at, "a prefix has no loop beside it");
+    loop = read_part(t, c, &line.loop);
     skip_blanks(c);
     if (!ends_line(c->byte))
         bad_line(c, c->at, "the line goes on behind its loop, and it has one prefix and one loop");
@@ -159,7 +157,18 @@ void free_tray(struct tray *t)
 
 struct lasso tray_lasso(const struct tray *t, size_t i)
 {
-    return read_lasso(i + 1, t->text + t->line[i].prefix, t->text + t->line[i].loop);
+    return read_lasso(i + 1, t->text + t->line[i].prefix.text, t->text + t->line[i].loop.text);
+}
+
+struct spot letter_spot(const struct tray *t, const struct tray_part *part, size_t letter)
+{
+    const char *const text = t->text + part->text, *at = text;
+    if (strchr(text, ',') == NULL)
+        at += letter; /* a letter is a digit */
+    else
+        for (; letter > 0; letter--)
+            at = strchr(at, ',') + 1;
+    return (struct spot){part->at.line, part->at.column + (size_t)(at - text)};
 }
 
 /* ---- Deciding. */

@@ -11,10 +11,14 @@
 #include <stddef.h>
 #include <stdint.h>
 
-/* Where a lasso was written: where its two parts begin in the tray's text, and in the file. */
+/* Where a part of a lasso begins, in the tray's text and in the file. */
+struct tray_part {
+    size_t text;
+    struct spot at;
+};
+
 struct tray_line {
-    size_t prefix, loop;
-    struct spot prefix_at, loop_at;
+    struct tray_part prefix, loop;
 };
 
 /* The lassos as the library takes them, and as they were written: the parts one behind the other, each ended by a zero
@@ -34,6 +38,9 @@ void free_tray(struct tray *t);
 
 /* One of its lassos, counted from 0; the caller frees it. */
 struct lasso tray_lasso(const struct tray *t, size_t i);
+
+/* Where a letter of a part, counted from 0, stands in the file; of a part without letters where the part begins. */
+struct spot letter_spot(const struct tray *t, const struct tray_part *part, size_t letter);
 
 /* Asks the library, with as many work words as the dearest lasso needs: a byte for each lasso. The caller frees them.
  * The table is one that no call refuses. */

@@ -268,20 +268,27 @@ static int answer_lasso(const struct words *w, const struct complement *c, const
     return FINE;
 }
 
-/* Says what the two bytes of a tray's lasso mean; where it is refused, both say why. */
-static void say_bytes(const struct lasso *l, const struct tray_line *line, const struct words *w, uint8_t by_pattern,
-                      uint8_t by_complement)
+/* Says of a tray's lasso that it is refused, with the place in the tray's file. */
+static void say_refused_in_tray(const struct lasso *l, uint32_t number, const struct words *w, const struct tray *t,
+                                const struct tray_line *line)
+{
+    const struct place p = place_in_lasso(number, w->word, l);
+    const struct spot at = letter_spot(t, p.word == PREFIX_WORD ? &line->prefix : &line->loop, p.letter);
+    say_refused(stdout, l->name, number, p.word != NO_WORD ? &at : NULL, p.sentence);
+}
+
+/* Says what the two bytes of a tray's lasso, counted from 0, mean; where it is refused, both say why. */
+static void say_bytes(const struct words *w, const struct tray *t, size_t i, uint8_t by_pattern, uint8_t by_complement)
 {
     const int refused = by_pattern > TUBOCHRE_TAKEN;
-    struct place p;
+    struct lasso l = tray_lasso(t, i);
     if (refused ? by_complement != by_pattern : by_complement != 1 - by_pattern)
-        contradiction(l);
-    if (!refused) {
-        say_taken(l, by_pattern == TUBOCHRE_TAKEN);
-        return;
-    }
-    p = place_in_lasso(by_pattern, w->word, l);
-    say_refused(stdout, l->name, by_pattern, p.word == PREFIX_WORD ? &line->prefix_at : &line->loop_at, p.sentence);
+        contradiction(&l);
+    if (refused)
+        say_refused_in_tray(&l, by_pattern, w, t, &t->line[i]);
+    else
+        say_taken(&l, by_pattern == TUBOCHRE_TAKEN);
+    free_lasso(&l);
 }
 
 static size_t count_bytes(const uint8_t *bytes, size_t len, uint8_t byte)
@@ -309,11 +316,8 @@ static int answer_tray(const struct words *w, const struct complement *c, const 
     uint8_t *const by_pattern = try_tray(w->word, w->len, t), *const by_complement = try_tray(c->words, used, t);
     size_t i;
     int status;
-    for (i = 0; i < t->lassos; i++) {
-        struct lasso l = tray_lasso(t, i);
-        say_bytes(&l, &t->line[i], w, by_pattern[i], by_complement[i]);
-        free_lasso(&l);
-    }
+    for (i = 0; i < t->lassos; i++)
+        say_bytes(w, t, i, by_pattern[i], by_complement[i]);
     status = say_counts(by_pattern, t->lassos);
     free(by_pattern);
     free(by_complement);

@@ -346,16 +346,24 @@ lasso 1 (- 0): the pattern takes it, the complement does not
 lasso 2 (- 1): the complement takes it, the pattern does not
 lasso 3 (11 01): the complement takes it, the pattern does not
 lasso 4 (1101 0): the pattern takes it, the complement does not
-lasso 5 (0 012): refused (15) in line 8, column 3: letter 2 stands at place 3 of the loop, and the letters are 0 to 1
+lasso 5 (0 012): refused (15) in line 8, column 5: letter 2 stands at place 3 of the loop, and the letters are 0 to 1
 lasso 6 (1 -): refused (13) in line 9, column 3: the loop is empty
 tray: lassos 6, the pattern takes 2, the complement takes 2, refused 2" '' \
     "$program" "$here/../../examples/pattern-a.txt" --tray "$here/../../examples/lassos.txt"
 expect 'all are refused' 1 "$passes
 lasso 1 (- -): refused (13) in line 1, column 3: the loop is empty
-lasso 2 (0,255 1): refused (15) in line 3, column 2: letter 255 stands at place 2 of the prefix, and the letters are 0 to 1
+lasso 2 (0,255 1): refused (15) in line 3, column 4: letter 255 stands at place 2 of the prefix, and the letters are 0 to 1
 lasso 3 (2 2): refused (15) in line 4, column 1: letter 2 stands at place 1 of the prefix, and the letters are 0 to 1
 tray: lassos 3, the pattern takes 0, the complement takes 0, refused 3" '' \
     "$program" "$folder/a" --tray - < <(printf -- '- -\n\n 0,255 1\n2 2')
+# The column is that of the letter: by digits, by commas with numbers of any width, and in the first part that has one.
+expect 'places of letters' 1 "$passes
+lasso 1 (0012 3): refused (15) in line 1, column 6: letter 2 stands at place 4 of the prefix, and the letters are 0 to 1
+lasso 2 (01 0,001,12,9): refused (15) in line 2, column 10: letter 12 stands at place 3 of the loop, and the letters are 0 to 1
+lasso 3 (3,1 0): refused (15) in line 3, column 1: letter 3 stands at place 1 of the prefix, and the letters are 0 to 1
+lasso 4 (- 00,1,7,): refused (15) in line 4, column 8: letter 7 stands at place 3 of the loop, and the letters are 0 to 1
+tray: lassos 4, the pattern takes 0, the complement takes 0, refused 4" '' \
+    "$program" "$folder/a" --tray - < <(printf -- '  0012 3\n01 0,001,12,9\n3,1 0\n- 00,1,7,\n')
 nothing='tray: lassos 0, the pattern takes 0, the complement takes 0, refused 0'
 expect 'an empty tray' 0 "$passes
 $nothing" '' "$program" "$folder/a" --tray /dev/null
