@@ -146,35 +146,37 @@ static void try_example(void)
     tried_free(&t);
 }
 
-/* A lasso with one odd letter at a place: 0 for the first letter of the prefix, 1 for its last, 2 and 3 likewise for
- * the loop. The lassos beside it, in front and behind, are taken. */
-static void try_letter(uint16_t letters, uint16_t letter, int place)
+/* The only edge of the table is on one letter: every other letter ends the run. A lasso with a letter, odd or not, at a
+ * place: 0 for the first letter of the prefix, 1 for its last, 2 and 3 likewise for the loop. All other letters are the
+ * edge's, and the lassos beside it, in front and behind, are taken. */
+static void try_letter(uint16_t letters, uint16_t edge, uint16_t letter, int place)
 {
-    static uint16_t table[20];
+    const uint16_t table[] = {1, letters, 1, 3, 1, edge, 0, 0};
     struct list *const l = new_list();
-    const size_t at[] = {0, 2, 3, 7}, len = tubochre_table_words(1, 1);
-    const uint8_t odd = letter >= letters ? TUBOCHRE_LETTER : 0;
-    char name[60];
-    ring_table(table, 1, letters, 1);
-    put(l, 0, 1, 0, 1);
-    put(l, 3, 5, 0, odd)[at[place]] = letter;
-    put(l, 2, 1, 0, 1);
-    snprintf(name, sizeof name, "letter %u of %u at place %d", (unsigned)letter, (unsigned)letters, place);
-    expect_bytes(name, l, lent_tray((struct tray){table, len, l->word, l->len, 3, enough(l)}), enough(l));
+    const size_t at[] = {0, 2, 3, 7};
+    const uint8_t byte = letter >= letters ? TUBOCHRE_LETTER : letter == edge;
+    char name[80];
+    put(l, 0, 1, edge, 1);
+    put(l, 3, 5, edge, byte)[at[place]] = letter;
+    put(l, 2, 1, edge, 1);
+    snprintf(name, sizeof name, "letter %u of %u at place %d, the edge on %u", (unsigned)letter, (unsigned)letters,
+             place, (unsigned)edge);
+    expect_bytes(name, l, lent_tray((struct tray){table, LENGTH(table), l->word, l->len, 3, enough(l)}), enough(l));
     free(l);
 }
 
-/* The only edge of the table is on letter 0: every other letter ends the run. */
 static void try_letters(void)
 {
-    static const uint16_t letters[] = {1, 2, 15, 16, 17, 254, 255, 256, 257, 271, 272, 512, 4096, 32768, 65280, 65535};
+    static const uint16_t letters[] = {0,   1,   2,   14,  15,  16,   17,    254,   255,
+                                       256, 257, 271, 272, 512, 4096, 32768, 65280, 65535};
     size_t i;
     int place;
     for (i = 0; i < LENGTH(letters); i++)
         for (place = 0; place < 4; place++) {
-            try_letter(1, letters[i], place);
-            try_letter(2, letters[i], place);
-            try_letter(16, letters[i], place);
+            try_letter(1, 0, letters[i], place);
+            try_letter(2, 0, letters[i], place);
+            try_letter(16, 0, letters[i], place);
+            try_letter(16, 15, letters[i], place);
         }
 }
 

@@ -364,6 +364,24 @@ lasso 3 (3,1 0): refused (15) in line 3, column 1: letter 3 stands at place 1 of
 lasso 4 (- 00,1,7,): refused (15) in line 4, column 8: letter 7 stands at place 3 of the loop, and the letters are 0 to 1
 tray: lassos 4, the pattern takes 0, the complement takes 0, refused 4" '' \
     "$program" "$folder/a" --tray - < <(printf -- '  0012 3\n01 0,001,12,9\n3,1 0\n- 00,1,7,\n')
+# Takes only 15 for ever. Its complement begins with (0,1,0,1), which 15 leaves as it is and every other letter leads to
+# (0,0,0,0), which accepts and which no letter leaves.
+echo '1 16 1 3 1 15 0 0' >"$folder/fifteen"
+fifteen='pattern: passes the check (states 1, letters 16, records 1)
+complement: states 2, edges 32
+lasso 1 (- 15,): the pattern takes it, the complement does not
+lasso 2 (15,15 15): the complement takes it, the pattern does not
+lasso 3 (- 5): the complement takes it, the pattern does not
+lasso 4 (15, 15,14): the complement takes it, the pattern does not
+lasso 5 (- 15,15): the pattern takes it, the complement does not'
+bad_16='letter 16 stands at place 1 of the loop, and the letters are 0 to 15'
+expect 'letters above 9 in a tray' 1 "$fifteen
+lasso 6 (- 16,): refused (15) in line 6, column 3: $bad_16
+tray: lassos 6, the pattern takes 2, the complement takes 3, refused 1" '' \
+    "$program" "$folder/fifteen" --tray - < <(printf -- '- 15,\n15,15 15\n- 5\n15, 15,14\n- 15,15\n- 16,\n')
+expect 'letters above 9 singly' 1 "$fifteen
+lasso 6 (- 16,): refused (15): $bad_16" '' \
+    "$program" "$folder/fifteen" - 15, 15,15 15 - 5 15, 15,14 - 15,15 - 16,
 nothing='tray: lassos 0, the pattern takes 0, the complement takes 0, refused 0'
 expect 'an empty tray' 0 "$passes
 $nothing" '' "$program" "$folder/a" --tray /dev/null
