@@ -47,8 +47,8 @@
  *     the largest table and the longest lasso that is TUBOCHRE_WORK_WORDS_MOST words, 8.6 GB; a pattern needs at most
  *     1,048,576 words, 4.2 MB.
  *   - A tray: tubochre_list_lassos(list, list_len) bytes, no more and no fewer, and
- *     tubochre_tray_work_words(n, list, list_len) work words: what the longest of its lassos needs, since all of them
- *     use the same words in turn.
+ *     tubochre_tray_work_words(n, list, list_len) work words: what the longest lasso needs that 13 and 14 let pass,
+ *     since all lassos use the same words in turn.
  *
  * What a call costs:
  *
@@ -152,8 +152,8 @@ struct tubochre_decision {
     uint32_t number, taken;
 };
 
-/* What a call answers that writes items and is no build: number 0 and how many items it wrote, or the number of the
- * refusal and count 0. An accepted call may write no items: only number tells a refusal. */
+/* What a tray answers, and every later call that writes items and is no build: number 0 and how many items it wrote, or
+ * the number of the refusal and count 0. An accepted call may write no items: only number tells a refusal. */
 struct tubochre_written {
     uint32_t number;
     uint64_t count;
@@ -260,16 +260,15 @@ static inline size_t tubochre_lasso_words(size_t prefix_len, size_t loop_len)
     return 2 + prefix_len + loop_len;
 }
 
-/* Where the lasso ends that begins at word `at` of a list, at most list_len: the next one begins there, or the list
- * ends. 0 where the list ends before the lasso does, or there is none. Any words may be the list. */
+/* Where the lasso ends that begins at word `at` of a list: the next one begins there, or the list ends. 0 where the
+ * list ends before the lasso does, or none begins there, whatever `at` is. Any words may be the list. */
 static inline size_t tubochre_lasso_end(const uint16_t *list, size_t list_len, size_t at)
 {
-    const size_t left = list_len - at;
     size_t words;
-    if (left < 2)
+    if (at > list_len || list_len - at < 2)
         return 0;
     words = tubochre_lasso_words(list[at], list[at + 1]);
-    return words <= left ? at + words : 0;
+    return words <= list_len - at ? at + words : 0;
 }
 
 /* How many lassos a list holds: the answer bytes to lend. Of a list that tubochre_tray refuses by 17 those are counted

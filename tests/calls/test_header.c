@@ -69,6 +69,9 @@ static void try_cut_list(void)
     expect(tubochre_lasso_end(list, SECOND_END - 1, FIRST_END) == 0, "the second lasso is cut");
     expect(tubochre_lasso_end(list, LIST_LEN, SECOND_END) == LIST_LEN, "the third lasso's end");
     expect(tubochre_lasso_end(list, LIST_LEN, LIST_LEN) == 0, "there is no fourth lasso");
+    expect(tubochre_lasso_end(list, LIST_LEN, LIST_LEN + 1) == 0, "none begins behind the list's end");
+    expect(tubochre_lasso_end(list, LIST_LEN, SIZE_MAX) == 0 && tubochre_lasso_end(NULL, 0, SIZE_MAX) == 0,
+           "none begins anywhere behind it");
     expect(tubochre_list_lassos(NULL, 0) == 0 && tubochre_tray_work_words(7, NULL, 0) == 0, "no words at all");
 }
 
