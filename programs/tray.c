@@ -8,7 +8,8 @@
 #include <stdlib.h>
 #include <string.h>
 
-enum { WORD_MOST = 65535 };
+/* The text of a part is kept while it is read, so it has an end, behind 65,535 letters as anyone would write them. */
+enum { WORD_MOST = 65535, PART_TEXT_MOST = 1 << 20 };
 
 static const char what_for[] = "the tray";
 
@@ -98,15 +99,28 @@ static void check_part(const struct cursor *c, struct spot at, const struct lett
     }
 }
 
-/* Keeps the text of a part and where it begins, up to the first byte that may stand in none, and reads it. */
+/* Keeps the text of a part, up to the first byte that may stand in none, and where it begins. */
+static struct tray_part keep_part(struct tray *t, struct cursor *c)
+{
+    const struct tray_part part = {t->text_len, c->at};
+    char why[100];
+    for (; may_stand_in_part(c->byte); step(c)) {
+        if (t->text_len - part.text == PART_TEXT_MOST) {
+            snprintf(why, sizeof why, "the part has more than %d bytes, the most that its text may have",
+                     PART_TEXT_MOST);
+            bad_line(c, part.at, why);
+        }
+        add_byte(t, c->byte);
+    }
+    add_byte(t, '\0');
+    return part;
+}
+
 static struct letters read_part(struct tray *t, struct cursor *c, struct tray_part *part)
 {
     struct part_fault fault;
     struct letters l;
-    *part = (struct tray_part){t->text_len, c->at};
-    for (; may_stand_in_part(c->byte); step(c))
-        add_byte(t, c->byte);
-    add_byte(t, '\0');
+    *part = keep_part(t, c);
     l = read_letters(t->text + part->text, &fault);
     check_part(c, part->at, &l, fault);
     return l;

@@ -458,6 +458,18 @@ bad 1 5 'the line goes on behind its loop, and it has one prefix and one loop' '
 bad 2 6 'the line goes on behind its loop, and it has one prefix and one loop' '\n0 1  # one\n'
 bad 1 3 'the part has 65536 letters, and in a tray a part has at most 65535' "- $(zeros 65536)"
 bad 2 1 'the part has 70000 letters, and in a tray a part has at most 65535' "- 0\n$(zeros 70000) 1"
+long='the part has more than 1048576 bytes, the most that its text may have'
+expect 'endless digits in a tray' 2 '' "tubochre-bench: standard input, line 1, column 1: $long" \
+    "$program" "$folder/a" --tray - < <(yes 0 | tr -d '\n' 2>/dev/null)
+expect 'endless numbers in a tray' 2 '' "tubochre-bench: standard input, line 2, column 4: $long" \
+    "$program" "$folder/a" --tray - < <(printf '# one\n - ' && yes 0, | tr -d '\n' 2>/dev/null)
+zeros 1048575 >"$folder/zeros"
+expect 'a number of as many digits as a part may have' 0 "$passes
+lasso 1 (- $(cat "$folder/zeros"),): the pattern takes it, the complement does not
+tray: lassos 1, the pattern takes 1, the complement takes 0, refused 0" '' \
+    "$program" "$folder/a" --tray - < <(printf -- '- ' && cat "$folder/zeros" && printf ',')
+expect 'and one digit more' 2 '' "tubochre-bench: standard input, line 1, column 3: $long" \
+    "$program" "$folder/a" --tray - < <(printf -- '- 0' && cat "$folder/zeros" && printf ',')
 expect 'endless zero bytes in a tray' 2 '' "tubochre-bench: /dev/zero, line 1, column 1: $part" \
     "$program" "$folder/a" --tray /dev/zero
 printf '0 1\n0 1x\n' >"$folder/wrong"
