@@ -18,7 +18,7 @@ static struct part_fault read_digits(const char *text, struct letters *l)
     for (at = text; *at != '\0'; at++) {
         if (*at < '0' || *at > '9')
             return (struct part_fault){(size_t)(at - text), form_of_a_part};
-        l->letter[l->len++] = (uint8_t)(*at - '0');
+        l->letter[l->len++] = (uint16_t)(*at - '0');
     }
     return (struct part_fault){0, NULL};
 }
@@ -30,13 +30,13 @@ static struct part_fault read_numbers(const char *text, struct letters *l)
     while (*at != '\0') {
         const char *const start = at;
         unsigned value = 0;
-        for (; *at >= '0' && *at <= '9' && value <= UINT8_MAX; at++)
+        for (; *at >= '0' && *at <= '9' && value <= UINT16_MAX; at++)
             value = 10 * value + (unsigned)(*at - '0');
-        if (value > UINT8_MAX)
-            return (struct part_fault){(size_t)(start - text), "a letter is a number from 0 to 255"};
+        if (value > UINT16_MAX)
+            return (struct part_fault){(size_t)(start - text), "a letter is a number from 0 to 65535"};
         if (at == start || (*at != '\0' && *at != ','))
             return (struct part_fault){(size_t)(at - text), form_of_a_part};
-        l->letter[l->len++] = (uint8_t)value;
+        l->letter[l->len++] = (uint16_t)value;
         at += *at == ',';
     }
     return (struct part_fault){0, NULL};
@@ -44,7 +44,7 @@ static struct part_fault read_numbers(const char *text, struct letters *l)
 
 struct letters read_letters(const char *text, struct part_fault *fault)
 {
-    struct letters l = {memory(strlen(text), 1, "a lasso"), 0};
+    struct letters l = {memory(strlen(text), sizeof *l.letter, "a lasso"), 0};
     *fault = (struct part_fault){0, NULL};
     if (strcmp(text, "-") == 0)
         return l;
@@ -121,14 +121,28 @@ static size_t work_words(const uint16_t *words, const struct lasso *l)
     return tubochre_work_words(words[0], l->prefix.len, l->loop.len);
 }
 
+/* A part as the call takes it, a byte for each letter. One above 255 becomes 255: both are letters of k or more on every
+ * table, so the answer is the same. The caller frees the bytes. */
+static uint8_t *narrowed(const struct letters *l)
+{
+    uint8_t *const bytes = memory(l->len, sizeof *bytes, "a lasso");
+    size_t i;
+    for (i = 0; i < l->len; i++)
+        bytes[i] = (uint8_t)(l->letter[i] > UINT8_MAX ? UINT8_MAX : l->letter[i]);
+    return bytes;
+}
+
 struct tubochre_decision decide(const uint16_t *words, size_t len, const struct lasso *l)
 {
     const size_t work_len = work_words(words, l);
     uint32_t *const work = memory(work_len, sizeof *work, "a lasso's work words");
+    uint8_t *const prefix = narrowed(&l->prefix), *const loop = narrowed(&l->loop);
     struct tubochre_decision d;
     progress_begin("deciding a lasso");
-    d = tubochre_lasso(words, len, l->prefix.letter, l->prefix.len, l->loop.letter, l->loop.len, work, work_len);
+    d = tubochre_lasso(words, len, prefix, l->prefix.len, loop, l->loop.len, work, work_len);
     progress_end();
     free(work);
+    free(prefix);
+    free(loop);
     return d;
 }

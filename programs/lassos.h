@@ -7,8 +7,9 @@
 #include <stddef.h>
 #include <stdint.h>
 
+/* Letters up to the largest word of a list, so that the library refuses those that no table has. */
 struct letters {
-    uint8_t *letter;
+    uint16_t *letter;
     size_t len;
 };
 

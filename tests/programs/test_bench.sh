@@ -285,9 +285,14 @@ lasso 4 (0102 3): refused (15): letter 2 stands at place 4 of the prefix, and th
 expect 'a refused lasso before a good one' 1 "$passes
 lasso 1 (1 -): refused (13): the loop is empty
 lasso 2 (- 1): the complement takes it, the pattern does not" '' "$program" "$folder/a" 1 '' - 1
-expect 'the largest number that can be a letter' 1 "$passes
-lasso 1 (- 255,): refused (15): letter 255 stands at place 1 of the loop, and the letters are 0 to 1" '' \
-    "$program" "$folder/a" - 255,
+# Letters that fit into no byte are refused too, though the low byte of 256 is 0, which is a letter here, and of 257 1.
+expect 'the largest numbers that can be letters' 1 "$passes
+lasso 1 (- 255,): refused (15): letter 255 stands at place 1 of the loop, and the letters are 0 to 1
+lasso 2 (- 256,): refused (15): letter 256 stands at place 1 of the loop, and the letters are 0 to 1
+lasso 3 (- 0): the pattern takes it, the complement does not
+lasso 4 (0,65535 1): refused (15): letter 65535 stands at place 2 of the prefix, and the letters are 0 to 1
+lasso 5 (- 257,): refused (15): letter 257 stands at place 1 of the loop, and the letters are 0 to 1" '' \
+    "$program" "$folder/a" - 255, - 256, - 0 0,65535 1 - 257,
 expect 'both parts too long' 1 "$passes
 lasso 1 ($(zeros 4097) $(zeros 4098)): refused (14): the prefix has 4097 letters, and a part has at most 4096" '' \
     "$program" "$folder/a" "$(zeros 4097)" "$(zeros 4098)"
@@ -364,6 +369,13 @@ lasso 3 (3,1 0): refused (15) in line 3, column 1: letter 3 stands at place 1 of
 lasso 4 (- 00,1,7,): refused (15) in line 4, column 8: letter 7 stands at place 3 of the loop, and the letters are 0 to 1
 tray: lassos 4, the pattern takes 0, the complement takes 0, refused 4" '' \
     "$program" "$folder/a" --tray - < <(printf -- '  0012 3\n01 0,001,12,9\n3,1 0\n- 00,1,7,\n')
+expect 'the largest numbers that can be letters in a tray' 1 "$passes
+lasso 1 (- 256,): refused (15) in line 1, column 3: letter 256 stands at place 1 of the loop, and the letters are 0 to 1
+lasso 2 (- 0): the pattern takes it, the complement does not
+lasso 3 (- 65535,): refused (15) in line 3, column 3: letter 65535 stands at place 1 of the loop, and the letters are 0 to 1
+lasso 4 (1 1): the complement takes it, the pattern does not
+tray: lassos 4, the pattern takes 1, the complement takes 1, refused 2" '' \
+    "$program" "$folder/a" --tray - < <(printf -- '- 256,\n- 0\n- 65535,\n1 1\n')
 # Takes only 15 for ever. Its complement begins with (0,1,0,1), which 15 leaves as it is and every other letter leads to
 # (0,0,0,0), which accepts and which no letter leaves.
 echo '1 16 1 3 1 15 0 0' >"$folder/fifteen"
@@ -450,8 +462,9 @@ bad 1 2 "$part" '0;1'
 bad 1 1 "$part" '\xef\xbb\xbf- 0\n'
 bad 1 4 "$part" '- 0\x00\n'
 bad 2 7 "$part" '# one\n1 0101#\n'
-bad 1 5 'a letter is a number from 0 to 255' '- 3,256,1'
-bad 2 1 'a letter is a number from 0 to 255' '- 0\n99999999999999999999, 0'
+bad 1 5 'a letter is a number from 0 to 65535' '- 3,65536,1'
+bad 1 3 'a letter is a number from 0 to 65535' '- 65536,'
+bad 2 1 'a letter is a number from 0 to 65535' '- 0\n99999999999999999999, 0'
 bad 1 1 'a prefix has no loop beside it' '0'
 bad 2 3 'a prefix has no loop beside it' '0 1\n  01  \n1 1'
 bad 1 5 'the line goes on behind its loop, and it has one prefix and one loop' '0 1 1\n'
@@ -551,8 +564,8 @@ trouble "lasso 1 (-1 1), byte 1 of its prefix: $parts" -- "$folder/a" -1 1
 trouble "lasso 1 (0 1,+1), byte 3 of its loop: $parts" "$folder/a" 0 1,+1
 trouble "lasso 1 (0 1\\x0a\\x1b1), byte 2 of its loop: $parts" "$folder/a" 0 $'1\n\x1b1'
 trouble "lasso 1 ($(zeros 5000)x 1), byte 5001 of its prefix: $parts" "$folder/a" "$(zeros 5000)x" 1
-trouble "lasso 1 (0 3,256,1), byte 3 of its loop: a letter is a number from 0 to 255" "$folder/a" 0 3,256,1
-trouble "lasso 1 (0 99999999999999999999,), byte 1 of its loop: a letter is a number from 0 to 255" "$folder/a" 0 99999999999999999999,
+trouble "lasso 1 (0 3,65536,1), byte 3 of its loop: a letter is a number from 0 to 65535" "$folder/a" 0 3,65536,1
+trouble "lasso 1 (0 99999999999999999999,), byte 1 of its loop: a letter is a number from 0 to 65535" "$folder/a" 0 99999999999999999999,
 
 expect '--version' 0 "tubochre-bench $(sed -n 's/^.define TUBOCHRE_VERSION_[A-Z]* //p' "$here/../../include/tubochre.h" | paste -sd. -)" \
     '' "$program" --version
