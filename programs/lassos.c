@@ -9,7 +9,7 @@
 
 /* ---- Reading. */
 
-const char form_of_a_part[] = "a part is digits, or numbers divided by commas";
+static const char form_of_a_part[] = "a part is digits, numbers divided by commas, or - for none";
 
 /* One letter for each digit. */
 static struct part_fault read_digits(const char *text, struct letters *l)

@@ -25,9 +25,6 @@ struct part_fault {
     const char *why;
 };
 
-/* The sentence for what is written in no form that a part has. */
-extern const char form_of_a_part[];
-
 /* Reads one part, "-" for an empty one. The caller frees the letters; where there is a fault there are none. */
 struct letters read_letters(const char *text, struct part_fault *fault);
 

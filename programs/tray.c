@@ -86,13 +86,19 @@ static void skip_line(struct cursor *c)
         step(c);
 }
 
-static void check_part(const struct cursor *c, struct spot at, const struct letters *l, struct part_fault fault)
+static _Noreturn void bad_byte(struct cursor *c)
+{
+    const struct fault fault = fault_of_byte(c, "digit, comma, minus sign, blank or newline");
+    bad_line(c, fault.at, fault.sentence);
+}
+
+static void check_part(struct cursor *c, struct spot at, const struct letters *l, struct part_fault fault)
 {
     char why[100];
     if (fault.why != NULL)
         bad_line(c, (struct spot){at.line, at.column + fault.byte}, fault.why);
     if (!is_blank(c->byte) && !ends_line(c->byte))
-        bad_line(c, c->at, form_of_a_part);
+        bad_byte(c);
     if (l->len > WORD_MOST) {
         snprintf(why, sizeof why, "the part has %zu letters, and in a tray a part has at most %d", l->len, WORD_MOST);
         bad_line(c, at, why);

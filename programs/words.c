@@ -16,22 +16,7 @@ static int divides(int byte)
 
 /* ---- Faults. */
 
-static int is_first(struct spot at)
-{
-    return at.line == 1 && at.column == 1;
-}
-
-/* Whether the file goes on with these bytes; it is read as far as they agree. */
-static int goes_on(struct cursor *c, const char *bytes)
-{
-    for (; *bytes != '\0'; bytes++) {
-        step(c);
-        if (c->byte != (unsigned char)*bytes)
-            return 0;
-    }
-    return 1;
-}
-
+/* What is wrong with a byte that people take for one that divides or belongs to a number; NULL for any other. */
 static const char *known_byte(struct cursor *c)
 {
     switch (c->byte) {
@@ -40,26 +25,20 @@ static const char *known_byte(struct cursor *c)
     case '\r':
         return goes_on(c, "\n") ? "the line ends with CR LF, and it has to end with LF alone"
                                 : "a carriage return stands here, and only spaces and newlines divide numbers";
-    case 0xef:
-        return is_first(c->at) && goes_on(c, "\xbb\xbf") ? "the file begins with a byte order mark, and may not" : NULL;
-    case 0xfe: return is_first(c->at) && goes_on(c, "\xff") ? "the file begins with a byte order mark of UTF-16" : NULL;
-    case 0xff: return is_first(c->at) && goes_on(c, "\xfe") ? "the file begins with a byte order mark of UTF-16" : NULL;
     default: return NULL;
     }
 }
 
-static void fault_of_byte(struct cursor *c, struct fault *fault)
+static void fault_here(struct cursor *c, struct fault *fault)
 {
-    const int byte = c->byte;
-    const char *known;
-    fault->at = c->at;
-    known = known_byte(c);
-    if (known != NULL)
-        snprintf(fault->sentence, sizeof fault->sentence, "%s", known);
-    else if (byte > ' ' && byte < 0x7f)
-        snprintf(fault->sentence, sizeof fault->sentence, "'%c' is no digit, space or newline", byte);
-    else
-        snprintf(fault->sentence, sizeof fault->sentence, "the byte 0x%02x is no digit, space or newline", byte);
+    const struct spot at = c->at;
+    const char *const known = known_byte(c);
+    if (known == NULL) {
+        *fault = fault_of_byte(c, "digit, space or newline");
+        return;
+    }
+    fault->at = at;
+    snprintf(fault->sentence, sizeof fault->sentence, "%s", known);
 }
 
 /* ---- Words. */
@@ -91,7 +70,7 @@ static int read_number(struct cursor *c, uint16_t *word, struct fault *fault)
 static int read_word(struct cursor *c, struct words *words, struct fault *fault)
 {
     if (!is_digit(c->byte)) {
-        fault_of_byte(c, fault);
+        fault_here(c, fault);
         return 0;
     }
     if (words->len == TUBOCHRE_PATTERN_WORDS_MOST) {
@@ -105,7 +84,7 @@ static int read_word(struct cursor *c, struct words *words, struct fault *fault)
         return 0;
     words->len++;
     if (c->byte != EOF && !divides(c->byte)) {
-        fault_of_byte(c, fault);
+        fault_here(c, fault);
         return 0;
     }
     return 1;

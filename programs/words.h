@@ -16,14 +16,8 @@ struct words {
     struct spot at[TUBOCHRE_PATTERN_WORDS_MOST];
 };
 
-/* Why a text is refused by 1: the first byte that may not stand where it stands, and a sentence without a full stop. */
-struct fault {
-    struct spot at;
-    char sentence[120];
-};
-
-/* Reads a file, or standard input for "-", up to its end or its first fault: whether there was none. What is kept does
- * not grow with the input. A file that cannot be read is trouble. */
+/* Reads a file, or standard input for "-", up to its end or its first fault, for which it is refused by 1: whether there
+ * was none. What is kept does not grow with the input. A file that cannot be read is trouble. */
 int read_words(const char *name, struct words *words, struct fault *fault);
 
 #endif

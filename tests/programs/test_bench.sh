@@ -449,19 +449,29 @@ bad() {
     expect "a tray: $3" 2 '' "tubochre-bench: standard input, line $1, column $2: $3" \
         "$program" "$folder/none" --tray - < <(printf %b "$4")
 }
-part='a part is digits, or numbers divided by commas'
-bad 1 1 "$part" 'x 1'
-bad 2 4 "$part" '- 0\n0 1x\n'
+part='a part is digits, numbers divided by commas, or - for none'
+allowed='digit, comma, minus sign, blank or newline'
+bad 1 1 "'x' is no $allowed" 'x 1'
+bad 2 4 "'x' is no $allowed" '- 0\n0 1x\n'
+bad 1 2 "'x' is no $allowed" '-x 1'
 bad 3 3 "$part" '- 0\n\n- ,1\n'
 bad 1 5 "$part" '- 1,,1'
 bad 1 3 "$part" '- -1'
 bad 1 4 "$part" '- 1-'
 bad 1 1 "$part" '--\n'
-bad 1 1 "$part" "'' 0"
-bad 1 2 "$part" '0;1'
-bad 1 1 "$part" '\xef\xbb\xbf- 0\n'
-bad 1 4 "$part" '- 0\x00\n'
-bad 2 7 "$part" '# one\n1 0101#\n'
+bad 1 2 "$part" '1-x 0'
+bad 1 1 "''' is no $allowed" "'' 0"
+bad 1 2 "';' is no $allowed" '0;1'
+bad 1 4 "the byte 0x00 is no $allowed" '- 0\x00\n'
+bad 2 7 "'#' is no $allowed" '# one\n1 0101#\n'
+bad 1 1 'the file begins with a byte order mark, and may not' '\xef\xbb\xbf- 0\n'
+bad 1 1 'the file begins with a byte order mark, and may not' '\xef\xbb\xbf# one\n- 0\n'
+bad 1 1 "the byte 0xef is no $allowed" '\xef\xbb- 0\n'
+bad 2 1 "the byte 0xef is no $allowed" '\n\xef\xbb\xbf- 0\n'
+bad 1 1 'the file begins with a byte order mark of UTF-16' '\xff\xfe-\x00 \x000\x00\n\x00'
+bad 1 1 'the file begins with a byte order mark of UTF-16' '\xfe\xff\x00-\x00 \x000\x00\n'
+bad 1 2 "the byte 0x00 is no $allowed" '-\x00 \x000\x00\n\x00'
+bad 2 2 "the byte 0xc2 is no $allowed" '- 0\n-\xc2\xa00\n'
 bad 1 5 'a letter is a number from 0 to 65535' '- 3,65536,1'
 bad 1 3 'a letter is a number from 0 to 65535' '- 65536,'
 bad 2 1 'a letter is a number from 0 to 65535' '- 0\n99999999999999999999, 0'
@@ -483,10 +493,10 @@ tray: lassos 1, the pattern takes 1, the complement takes 0, refused 0" '' \
     "$program" "$folder/a" --tray - < <(printf -- '- ' && cat "$folder/zeros" && printf ',')
 expect 'and one digit more' 2 '' "tubochre-bench: standard input, line 1, column 3: $long" \
     "$program" "$folder/a" --tray - < <(printf -- '- 0' && cat "$folder/zeros" && printf ',')
-expect 'endless zero bytes in a tray' 2 '' "tubochre-bench: /dev/zero, line 1, column 1: $part" \
+expect 'endless zero bytes in a tray' 2 '' "tubochre-bench: /dev/zero, line 1, column 1: the byte 0x00 is no $allowed" \
     "$program" "$folder/a" --tray /dev/zero
 printf '0 1\n0 1x\n' >"$folder/wrong"
-expect 'a tray with a fault, by its name' 2 '' "tubochre-bench: $folder/wrong, line 2, column 4: $part" \
+expect 'a tray with a fault, by its name' 2 '' "tubochre-bench: $folder/wrong, line 2, column 4: 'x' is no $allowed" \
     "$program" "$folder/a" --tray "$folder/wrong"
 
 # ---- The command line.
@@ -554,16 +564,15 @@ expect 'standard input is a directory' 2 '' 'tubochre-bench: standard input: Is 
 expect 'standard input is closed' 2 '' 'tubochre-bench: standard input: Bad file descriptor' "$program" - <&-
 expect 'a tray from a closed standard input' 2 '' 'tubochre-bench: standard input: Bad file descriptor' \
     "$program" "$folder/a" --tray - <&-
-parts='a part is digits, or numbers divided by commas'
-trouble "lasso 1 (0 1x1), byte 2 of its loop: $parts" "$folder/a" 0 1x1
-trouble "lasso 2 (a 1), byte 1 of its prefix: $parts" "$folder/a" 0 1 a 1
-trouble "lasso 1 (0 1F), byte 2 of its loop: $parts" "$folder/a" 0 1F
-trouble "lasso 1 (0 1,,1), byte 3 of its loop: $parts" "$folder/a" 0 1,,1
-trouble "lasso 1 (,1 1), byte 1 of its prefix: $parts" "$folder/a" ,1 1
-trouble "lasso 1 (-1 1), byte 1 of its prefix: $parts" -- "$folder/a" -1 1
-trouble "lasso 1 (0 1,+1), byte 3 of its loop: $parts" "$folder/a" 0 1,+1
-trouble "lasso 1 (0 1\\x0a\\x1b1), byte 2 of its loop: $parts" "$folder/a" 0 $'1\n\x1b1'
-trouble "lasso 1 ($(zeros 5000)x 1), byte 5001 of its prefix: $parts" "$folder/a" "$(zeros 5000)x" 1
+trouble "lasso 1 (0 1x1), byte 2 of its loop: $part" "$folder/a" 0 1x1
+trouble "lasso 2 (a 1), byte 1 of its prefix: $part" "$folder/a" 0 1 a 1
+trouble "lasso 1 (0 1F), byte 2 of its loop: $part" "$folder/a" 0 1F
+trouble "lasso 1 (0 1,,1), byte 3 of its loop: $part" "$folder/a" 0 1,,1
+trouble "lasso 1 (,1 1), byte 1 of its prefix: $part" "$folder/a" ,1 1
+trouble "lasso 1 (-1 1), byte 1 of its prefix: $part" -- "$folder/a" -1 1
+trouble "lasso 1 (0 1,+1), byte 3 of its loop: $part" "$folder/a" 0 1,+1
+trouble "lasso 1 (0 1\\x0a\\x1b1), byte 2 of its loop: $part" "$folder/a" 0 $'1\n\x1b1'
+trouble "lasso 1 ($(zeros 5000)x 1), byte 5001 of its prefix: $part" "$folder/a" "$(zeros 5000)x" 1
 trouble "lasso 1 (0 3,65536,1), byte 3 of its loop: a letter is a number from 0 to 65535" "$folder/a" 0 3,65536,1
 trouble "lasso 1 (0 99999999999999999999,), byte 1 of its loop: a letter is a number from 0 to 65535" "$folder/a" 0 99999999999999999999,
 
