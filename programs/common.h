@@ -5,7 +5,8 @@
 #include <stddef.h>
 #include <stdio.h>
 
-/* Exit statuses: all was answered; something was refused; wrong use, or a file, memory or output that failed. */
+/* Exit statuses: all was answered; something was refused; wrong use, a lasso that cannot be read, or a file, memory or
+ * output that failed. */
 enum { FINE = 0, REFUSED = 1, TROUBLE = 2 };
 
 /* The name that messages begin with; each program's main file defines it. */

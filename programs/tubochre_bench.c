@@ -49,7 +49,7 @@ static const char statuses[] =
     "  --               ends the options: all words behind it are PATTERN, PREFIX and LOOP\n"
     "\n"
     "Exit status: 0 all was answered; 1 the pattern, its complement or a lasso was refused;\n"
-    "2 wrong use, or a file, memory or output that failed.\n";
+    "2 wrong use, a lasso that cannot be read, or a file, memory or output that failed.\n";
 
 /* Prints why a command line is wrong, with the word at fault if there is one, and how one looks. */
 static _Noreturn void wrong_use(const char *why, const char *word)

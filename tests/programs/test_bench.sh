@@ -602,7 +602,7 @@ Options:
   --               ends the options: all words behind it are PATTERN, PREFIX and LOOP
 
 Exit status: 0 all was answered; 1 the pattern, its complement or a lasso was refused;
-2 wrong use, or a file, memory or output that failed."
+2 wrong use, a lasso that cannot be read, or a file, memory or output that failed."
 expect '--help' 0 "$help" '' "$program" --help
 expect '-h' 0 "$help" '' "$program" -h
 expect '--help before all else' 0 "$help" '' "$program" "$folder/none" --help 0
