@@ -66,7 +66,7 @@ static void put_digits(struct list *l, const char *prefix, const char *loop, uin
         letters[prefix_len + i] = (uint16_t)(loop[i] - '0');
 }
 
-/* Lassos of every kind; no byte is that of a neighbour, and no lasso has parts of the same length. */
+/* Lassos of every kind; no byte is that of a neighbour, and no lasso with letters has parts of the same length. */
 static struct list *mixed_list(void)
 {
     struct list *const l = new_list();
@@ -239,7 +239,7 @@ static void try_work_rooms(void)
     free(l);
 }
 
-/* Lassos that need exactly what is lent, one after the other, and among them one that needs a word more. */
+/* Lassos that need exactly what is lent, one after the other, and among them one that has a letter more. */
 static void try_exact_work(void)
 {
     struct list *const l = new_list();

@@ -390,7 +390,8 @@ static void widen_letter(struct random *r, struct drawn_list *l, size_t from)
         *letter = random_chance(r, 10) ? 65535 : (uint16_t)(*letter + 256 * random_between(r, 1, 255));
 }
 
-/* A lasso of the largest lengths that a list can hold, or any. Its letters do not matter, since it is too long. */
+/* A lasso of the largest lengths that a list can hold, or any. Its letters are in no table, which is seen only where
+ * both lengths happen to be small. */
 static void add_huge_lasso(struct random *r, struct drawn_list *l)
 {
     const size_t prefix_len = random_chance(r, 50) ? 65535 : random_between(r, 0, 65535);
@@ -422,10 +423,11 @@ void draw_list(struct random *r, struct drawn_list *l, uint32_t letters)
     }
 }
 
-/* The length words of a lasso, most often of the first, become others. */
+/* The length words of a lasso become others: most often of the first, and otherwise of the second where there is one. */
 static void damage_lengths(struct random *r, struct drawn_list *l)
 {
-    const size_t at = random_chance(r, 60) ? tubochre_lasso_end(l->words, l->len, 0) : 0;
+    const size_t second = tubochre_lasso_end(l->words, l->len, 0);
+    const size_t at = second < l->len && random_chance(r, 40) ? second : 0;
     uint32_t i;
     for (i = random_below(r, 2); i < 2 && at + i < l->len; i++)
         l->words[at + i] = random_chance(r, 50) ? 65535 : odd_word(r, l->words[at + i]);
