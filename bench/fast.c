@@ -507,19 +507,18 @@ static bool takes(struct search *s, const uint8_t *prefix, size_t prefix_len, co
     return false;
 }
 
-static uint32_t lasso_refusal(uint32_t k, const uint8_t *prefix, size_t prefix_len, const uint8_t *loop,
-                              size_t loop_len)
+static uint32_t length_refusal(size_t prefix_len, size_t loop_len)
 {
-    size_t i;
     if (loop_len == 0)
         return 13;
-    if (prefix_len > PART || loop_len > PART)
-        return 14;
-    for (i = 0; i < prefix_len; i++)
-        if (prefix[i] >= k)
-            return 15;
-    for (i = 0; i < loop_len; i++)
-        if (loop[i] >= k)
+    return prefix_len > PART || loop_len > PART ? 14 : 0;
+}
+
+static uint32_t letter_refusal(uint32_t k, const uint8_t *letters, size_t len)
+{
+    size_t i;
+    for (i = 0; i < len; i++)
+        if (letters[i] >= k)
             return 15;
     return 0;
 }
@@ -535,7 +534,11 @@ struct fast_decision fast_lasso(const uint16_t *table, size_t len, const uint8_t
     struct fast_decision d = {table_refusal(table, len, WIDE, WIDE), 0};
     struct search s;
     if (d.number == 0)
-        d.number = lasso_refusal(table[1], prefix, prefix_len, loop, loop_len);
+        d.number = length_refusal(prefix_len, loop_len);
+    if (d.number == 0)
+        d.number = letter_refusal(table[1], prefix, prefix_len);
+    if (d.number == 0)
+        d.number = letter_refusal(table[1], loop, loop_len);
     if (d.number != 0)
         return d;
     begin_searches(&s, table);
@@ -563,12 +566,13 @@ static uint8_t byte_of(struct search *s, const uint16_t *lasso, uint32_t *work)
 {
     uint8_t letters[2 * PART];
     const size_t prefix_len = lasso[0], loop_len = lasso[1];
+    uint32_t number = length_refusal(prefix_len, loop_len);
     size_t i;
-    uint32_t number;
-    if (loop_len > 0 && prefix_len <= PART && loop_len <= PART)
-        for (i = 0; i < prefix_len + loop_len; i++)
-            letters[i] = (uint8_t)(lasso[2 + i] > UINT8_MAX ? UINT8_MAX : lasso[2 + i]);
-    number = lasso_refusal(s->k, letters, prefix_len, letters + prefix_len, loop_len);
+    if (number != 0)
+        return (uint8_t)number;
+    for (i = 0; i < prefix_len + loop_len; i++)
+        letters[i] = (uint8_t)(lasso[2 + i] > UINT8_MAX ? UINT8_MAX : lasso[2 + i]);
+    number = letter_refusal(s->k, letters, prefix_len + loop_len);
     if (number != 0)
         return (uint8_t)number;
     return takes(s, letters, prefix_len, letters + prefix_len, loop_len, work) ? 1 : 0;

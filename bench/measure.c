@@ -102,6 +102,7 @@ struct input {
     const uint8_t *letters;
     uint8_t *answers; /* a tray's room: a byte for each lasso */
     size_t lassos;
+    uint64_t count; /* how many lassos a tray says that it answered */
     enum fast_lookup lookup;
     volatile uint32_t answer; /* so that no call is left out */
 };
@@ -222,9 +223,10 @@ enum { TRAY_PART = 4, TRAY_LETTERS = 2 * TRAY_PART };
 
 static void tray_by_library(struct input *in)
 {
-    in->answer =
-        tubochre_tray(in->table, in->len, in->list, in->list_len, in->answers, in->lassos, in->work, in->work_len)
-            .number;
+    const struct tubochre_written written =
+        tubochre_tray(in->table, in->len, in->list, in->list_len, in->answers, in->lassos, in->work, in->work_len);
+    in->answer = written.number;
+    in->count = written.count;
 }
 
 static void tray_by_single_calls(struct input *in)
@@ -240,7 +242,10 @@ static void tray_by_single_calls(struct input *in)
 
 static void tray_by_reference(struct input *in)
 {
-    in->answer = fast_tray(in->table, in->len, in->list, in->list_len, in->answers, in->lassos, in->work).number;
+    const struct fast_written written =
+        fast_tray(in->table, in->len, in->list, in->list_len, in->answers, in->lassos, in->work);
+    in->answer = written.number;
+    in->count = written.count;
     memset(in->work, 0, in->work_len * sizeof *in->work);
 }
 
@@ -561,19 +566,29 @@ static void fill_tray(uint16_t *list, uint8_t *letters, size_t lassos, uint32_t 
     }
 }
 
-/* Each of the calls leaves in the answers, which hold something else before, what the library's tray leaves there. */
+/* Runs a call on answers and work words that hold something else before: it leaves all work words zero. */
+static void run_on_garbage(call *run, struct input *in)
+{
+    size_t i;
+    memset(in->answers, 0xa5, in->lassos);
+    memset(in->work, 0xa5, in->work_len * sizeof *in->work);
+    in->count = UINT64_MAX;
+    run(in);
+    for (i = 0; i < in->work_len; i++)
+        must(in->work[i] == 0, "work words of a tray");
+}
+
+/* Each of the calls leaves in the answers what the library's tray leaves there; both trays count the same lassos. */
 static void compare_trays(struct input *in, uint8_t *expected)
 {
-    memset(in->answers, 0xa5, in->lassos);
-    tray_by_library(in);
-    must(in->answer == TUBOCHRE_OK, "the library refuses a tray of a row");
+    run_on_garbage(tray_by_library, in);
+    must(in->answer == TUBOCHRE_OK && in->count == in->lassos, "a tray of a row by the library");
     memcpy(expected, in->answers, in->lassos);
-    memset(in->answers, 0xa5, in->lassos);
-    tray_by_single_calls(in);
+    run_on_garbage(tray_by_single_calls, in);
     must(memcmp(in->answers, expected, in->lassos) == 0, "a tray and single calls");
-    memset(in->answers, 0xa5, in->lassos);
-    tray_by_reference(in);
-    must(in->answer == TUBOCHRE_OK && memcmp(in->answers, expected, in->lassos) == 0, "a tray");
+    run_on_garbage(tray_by_reference, in);
+    must(in->answer == TUBOCHRE_OK && in->count == in->lassos && memcmp(in->answers, expected, in->lassos) == 0,
+         "a tray");
 }
 
 static size_t count_taken(const uint8_t *answers, size_t lassos)
