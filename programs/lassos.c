@@ -121,8 +121,8 @@ static size_t work_words(const uint16_t *words, const struct lasso *l)
     return tubochre_work_words(words[0], l->prefix.len, l->loop.len);
 }
 
-/* A part as the call takes it, a byte for each letter. One above 255 becomes 255: both are letters of k or more on every
- * table, so the answer is the same. The caller frees the bytes. */
+/* A part as the call takes it, a byte for each letter. One above 255 becomes 255: both are letters of k or more on
+ * every table, so the answer is the same. The caller frees the bytes. */
 static uint8_t *narrowed(const struct letters *l)
 {
     uint8_t *const bytes = memory(l->len, sizeof *bytes, "a lasso");

@@ -16,7 +16,7 @@ struct words {
     struct spot at[TUBOCHRE_PATTERN_WORDS_MOST];
 };
 
-/* Reads a file, or standard input for "-", up to its end or its first fault, for which it is refused by 1: whether there
+/* Reads a file, or standard input for "-", up to its end or its first fault, by which it is refused (1): whether there
  * was none. What is kept does not grow with the input. A file that cannot be read is trouble. */
 int read_words(const char *name, struct words *words, struct fault *fault);
 

@@ -423,7 +423,7 @@ void draw_list(struct random *r, struct drawn_list *l, uint32_t letters)
     }
 }
 
-/* The length words of a lasso become others: most often of the first, and otherwise of the second where there is one. */
+/* The length words of a lasso become others: most often of the first, otherwise of the second, if there is one. */
 static void damage_lengths(struct random *r, struct drawn_list *l)
 {
     const size_t second = tubochre_lasso_end(l->words, l->len, 0);
