@@ -54,6 +54,7 @@ list-case s b =
 same-count : {s : List ℕ} (xs ys : List Parts) → s ≡ list-of xs → s ≡ list-of ys → length xs ≡ length ys
 same-count xs ys e f = ap (λ (y : Tray). length (y .lassos)) (sym (made-of xs e) ∙ made-of ys f)
 
+-- a list that is made of as many lassos as there are bytes is not refused
 list-passed : (s : List ℕ) (b : ℕ) (xs : List Parts) → s ≡ list-of xs → length xs ≡ b → list-refusal s b ≡ 0
 list-passed s b xs made count =
     let lassos = made-of xs made in
