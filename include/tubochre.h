@@ -194,7 +194,7 @@ struct tubochre_decision tubochre_lasso(const uint16_t *table, size_t table_len,
  * or not.
  *
  * Of a pattern that passes the check and the used part of its complement's words, one says 1 and the other 0 wherever
- * neither byte is a refusal. */
+ * neither byte is a refusal; 13, 14 and 15 they say alike, and 16 the one for which the work words are too few. */
 struct tubochre_written tubochre_tray(const uint16_t *table, size_t table_len, const uint16_t *list, size_t list_len,
                                       uint8_t *answers, size_t answers_len, uint32_t *work, size_t work_len);
 

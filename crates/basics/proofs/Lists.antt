@@ -26,11 +26,6 @@ map-same f g [] h blank i l = absurd (omega arith)
 map-same f g (x ∷ xs) h blank zero l = cc
 map-same f g (x ∷ xs) h blank (suc i) l = map-same f g xs (cc) blank i (omega arith)
 
--- a list without length has no elements
-pub empty-list : {X : Type 0} (xs : List X) → length xs ≡ 0 → xs ≡ []
-empty-list [] e = refl
-empty-list (x ∷ xs) e = absurd (omega arith)
-
 -- one value for each element, and a function that has no other
 pub all-same : {X Y : Type 0} (f : X → Y) (y : Y) → ((x : X) → y ≡ f x) → (xs : List X) → replicate (length xs) y ≡ map f xs
 all-same f y h [] = refl

@@ -24,19 +24,16 @@ pub or-else-most : (x y limit : ℕ) → x ≤ limit → y ≤ limit → or-else
 unfolding or-else
 or-else-most x y limit a b = answer-most (eqb x 0) limit b a
 
--- an answer is none or at least what a refusal that is met is, if those behind it are so
-pub answer-least : (b : Bool) {x y : ℕ} (least : ℕ) → least ≤ x → (y ≡ 0) ⊎ (least ≤ y) → (cond b x y ≡ 0) ⊎ (least ≤ cond b x y)
-answer-least true least a c = inr a
+-- an answer is none or not below some number, if each of two is so
+pub answer-least :
+    (b : Bool) {x y : ℕ} (least : ℕ) → (x ≡ 0) ⊎ (least ≤ x) → (y ≡ 0) ⊎ (least ≤ y) → (cond b x y ≡ 0) ⊎ (least ≤ cond b x y)
+answer-least true least a c = a
 answer-least false least a c = c
 
 -- so is the first of two refusals, if both are so
 pub or-else-least : (x y least : ℕ) → (x ≡ 0) ⊎ (least ≤ x) → (y ≡ 0) ⊎ (least ≤ y) → (or-else x y ≡ 0) ⊎ (least ≤ or-else x y)
 unfolding or-else
-or-else-least x y least a b =
-    elim (either (eqb x 0)) [
-      | inl e ↦ rw e b
-      | inr e ↦ rw e a
-    ]
+or-else-least x y least a b = answer-least (eqb x 0) least b a
 
 -- the first of two refusals is answered where it is met, and else the second
 pub or-else-first : (x y : ℕ) → (x ≡ 0 → ⊥) → or-else x y ≡ x

@@ -16,7 +16,7 @@ use Rattle.automata.proofs.Explore.{explore-exactly, exactly-at-most}
 use Rattle.automata.proofs.Members.{prefix-length}
 use Rattle.automata.proofs.Numbered.{starts-first}
 use Rattle.sets.specs.Sets.{size}
-use Rattle.tables.specs.Table.{Limits, table-words, meaning, pattern-range, table-refusal}
+use Rattle.tables.specs.Table.{Limits, table-words, k-of, meaning, pattern-range, table-refusal}
 use Rattle.tables.proofs.Laws.{valid}
 use Rattle.ncsb.specs.Bound.{bound}
 use Rattle.ncsb.specs.Successors.{ncsb, initial-free}
@@ -90,6 +90,11 @@ module _ (t : List ℕ) (passed : check-refusal t ≡ 0) where
   pub words-mean : Same (meaning (complement-words t)) (complement-automaton t)
   unfolding complement-words
   words-mean = chained-meaning (complement-automaton t) (complement t .edges) complement-orderly complement-lists
+
+  -- so they have the pattern's letters
+  pub words-letters : k-of (complement-words t) ≡ k-of t
+  unfolding meaning complement-automaton numbered system-of ncsb moves
+  words-letters = words-mean .letters
 
   -- and are a table of each range that it fits
   pub words-valid : (limits : Limits) → Fits limits t → table-refusal limits (complement-words t) ≡ 0

@@ -1,15 +1,15 @@
 -- Laws of refusals 13 to 16: what each test finds, and what holds of a table and a lasso that none refuses. Assumes nothing.
 use mathlib.Core.Path.{_≡_, refl, sym, _∙_}
-use mathlib.Core.Bool.{Bool, true, false, _&&_, _||_, not}
+use mathlib.Core.Bool.{Bool, true, false, cond, _&&_, _||_, not}
 use mathlib.Core.List.{List}
-use mathlib.Core.Logic.{_⊎_, inl}
+use mathlib.Core.Logic.{_⊎_, inl, inr}
 use Prim.Native.Nat.{ℕ, _+_, _*_, _^_, _≤_, _<_}
 use native.Mathlib.Omega.{arith}
 use native.Mathlib.Nat.{mul-le-mul}
 use lib.Dec.{ltb, eqb}
 use lib.ListN.{length, getD}
 use Rattle.basics.specs.Buffers.{or-else}
-use Rattle.basics.proofs.Booleans.{and-l, and-r, false-not, eq-eqb, eqb-ne, ne-eqb, lt-ltb, ge-ltb, ltb-ge, or-false, both-within}
+use Rattle.basics.proofs.Booleans.{either, and-l, and-r, and-false-l, and-false-r, false-not, eq-eqb, eqb-ne, ne-eqb, lt-ltb, ge-ltb, ltb-ge, or-false, both-within}
 use Rattle.basics.proofs.Refusing.{passed, answer-most, answer-least, or-else-none, or-else-most, or-else-least, or-else-first, or-else-second}
 use Rattle.basics.proofs.Scans.{scan-fails}
 use Rattle.automata.specs.Lasso.{all-below, Lasso}
@@ -71,15 +71,17 @@ module _ (n k : ℕ) (u v : List ℕ) (w : ℕ) {x : ℕ} (is-lengths : x ≡ le
     past-14 : eqb (lengths-refusal (length u) (length v)) 0 ≡ true
     past-14 = eq-eqb (sym is-lengths ∙ fine)
 
+    pub parts-15 : (all-below k u && all-below k v) ≡ false → 15 ≡ parts-refusal n k u v w
+    unfolding parts-refusal or-else
+    parts-15 far = cc past-14
+
     module _ {p : Bool} (is-p : p ≡ all-below k u) where
       pub parts-15-prefix : p ≡ false → 15 ≡ parts-refusal n k u v w
-      unfolding parts-refusal or-else
-      parts-15-prefix e = cc past-14
+      parts-15-prefix e = parts-15 (and-false-l (all-below k v) (sym is-p ∙ e))
 
       module _ (yes-p : p ≡ true) {q : Bool} (is-q : q ≡ all-below k v) where
         pub parts-15-loop : q ≡ false → 15 ≡ parts-refusal n k u v w
-        unfolding parts-refusal or-else
-        parts-15-loop e = cc past-14
+        parts-15-loop e = parts-15 (and-false-r (all-below k u) (sym is-q ∙ e))
 
         module _ (yes-q : q ≡ true) where
           pub parts-16 : w < 4 * n * (length u + length v) → 16 ≡ parts-refusal n k u v w
@@ -135,14 +137,43 @@ lasso-most range t u v w =
 lengths-least : (p l : ℕ) → (lengths-refusal p l ≡ 0) ⊎ (13 ≤ lengths-refusal p l)
 unfolding lengths-refusal
 lengths-least p l =
-    answer-least (eqb l 0) 13 (omega arith) (answer-least (ltb longest-part p || ltb longest-part l) 13 (omega arith) (inl refl))
+    answer-least (eqb l 0) 13 (inr (omega arith))
+    (answer-least (ltb longest-part p || ltb longest-part l) 13 (inr (omega arith)) (inl refl))
 
 pub parts-least : (n k : ℕ) (u v : List ℕ) (w : ℕ) → (parts-refusal n k u v w ≡ 0) ⊎ (13 ≤ parts-refusal n k u v w)
 unfolding parts-refusal
 parts-least n k u v w =
     or-else-least (lengths-refusal (length u) (length v)) _ 13 (lengths-least (length u) (length v))
-    (answer-least (not (all-below k u && all-below k v)) 13 (omega arith)
-    (answer-least (ltb w (4 * n * (length u + length v))) 13 (omega arith) (inl refl)))
+    (answer-least (not (all-below k u && all-below k v)) 13 (inr (omega arith))
+    (answer-least (ltb w (4 * n * (length u + length v))) 13 (inr (omega arith)) (inl refl)))
+
+-- 13 TO 15 are about a lasso and the letters alone: on another number of states and with other work words they are the same
+parts-alike :
+    (n n′ k : ℕ) (u v : List ℕ) (w w′ number : ℕ) → 13 ≤ number → number ≤ 15 → parts-refusal n k u v w ≡ number →
+    parts-refusal n′ k u v w′ ≡ number
+unfolding parts-refusal or-else
+parts-alike n n′ k u v w w′ number far few e =
+    elim (either (eqb (lengths-refusal (length u) (length v)) 0)) [
+      | inr met ↦ rw met (rw met at e)
+      | inl fine ↦
+          elim (either (all-below k u && all-below k v)) [
+            | inr other ↦ rw (fine, other) (rw (fine, other) at e)
+            | inl all ↦
+                let is : cond (ltb w (4 * n * (length u + length v))) 16 0 ≡ number = rw (fine, all) at e in
+                elim (answer-least (ltb w (4 * n * (length u + length v))) {x = 16} {y = 0} 16 (inr (omega arith)) (inl refl)) [
+                  | inl none ↦ absurd (omega arith)
+                  | inr most ↦ absurd (omega arith)
+                ]
+          ]
+    ]
+
+-- so two tables that pass, over the same letters, refuse a lasso by them alike
+pub lasso-alike :
+    (range : Limits) (t c u v : List ℕ) (w z number : ℕ) → table-refusal range t ≡ 0 → table-refusal range c ≡ 0 → k-of t ≡ k-of c →
+    13 ≤ number → number ≤ 15 → lasso-refusal range t u v w ≡ number → lasso-refusal range c u v z ≡ number
+lasso-alike range t c u v w z number valid valid′ letters far few e =
+    parts-own range c u v z valid′
+    ∙ (rw letters at (parts-alike (n-of t) (n-of c) (k-of t) u v w z number far few (sym (parts-own range t u v w valid) ∙ e)))
 
 -- WHAT IS NOT REFUSED
 pub record Accepted (range : Limits) (t u v : List ℕ) (w : ℕ) : Type 0 where

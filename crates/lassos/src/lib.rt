@@ -95,8 +95,8 @@ fn takes(table: &[u16], prefix: &[u8], cycle: &[u8], work: &mut [u32]) -> bool
     search(table, prefix, cycle, work, states, size)
 }
 
-// Decides whether a table takes a lasso, where the table has passed its check already. Who has many lassos for one table gets each answer
-// from it after one check: nothing is asked of the work words, and nothing is said of what is left in them, so that one clearing behind the
+// Decides whether a table takes a lasso, where the table has passed its check already. A caller with many lassos for one table gets each
+// answer from it after one check: nothing is asked of the work words, and nothing is said of what is left in them, so that one clearing behind the
 // last lasso is enough.
 pub fn decide_checked(table: &[u16], prefix: &[u8], cycle: &[u8], work: &mut [u32]) -> Decision
     requires { ⌜ table-refusal wide-range (now table) ≡ 0 ⌝ }

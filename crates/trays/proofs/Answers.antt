@@ -1,16 +1,16 @@
 -- What the answer of a tray's call says: each refusal comes in its case and in no other, how many bytes are written, and what each byte
 -- says of its lasso. Assumes nothing.
 use mathlib.Core.Path.{_≡_, refl, sym, ap, _∙_}
-use mathlib.Core.List.{List, [], map}
+use mathlib.Core.List.{List, map}
 use mathlib.Core.Logic.{_⊎_, inl, inr, _↔_}
 use Prim.Native.Nat.{ℕ, _≤_, _<_}
 use native.Mathlib.Omega.{arith}
-use lib.ListN.{length, getD, replicate, length-map}
+use lib.ListN.{length, getD, replicate, length-map, drop-of-length-le}
 use Rattle.basics.specs.Buffers.{zeros}
 use Rattle.basics.specs.declared.Written.{Written}
 use Rattle.basics.proofs.Booleans.{same-or}
 use Rattle.basics.proofs.Clears.{zeros-length}
-use Rattle.basics.proofs.Lists.{empty-list, all-same, getD-map}
+use Rattle.basics.proofs.Lists.{all-same, getD-map}
 use Rattle.basics.proofs.Refusing.{written-number, written-count, written-none}
 use Rattle.tables.specs.Table.{Limits, n-of, k-of, table-refusal}
 use Rattle.tables.proofs.Refusals.{table-most}
@@ -22,67 +22,56 @@ use Rattle.lassos.proofs.Decides.{decided-refused}
 use Rattle.lassos.proofs.Parts.{parts-least, parts-own, table-first}
 use Rattle.trays.specs.Answers.{list-refusal, tray-refusal, as-byte, byte-of, tray-bytes, Tray-says}
 use Rattle.trays.specs.Tray.{Parts, Tray, no-lasso, list-of, tray}
-use Rattle.trays.proofs.Reading.{tray-of-list, ends-exactly}
+use Rattle.trays.proofs.Reading.{made-of, made-whole, list-unique}
 use Rattle.trays.proofs.Refusals.{list-17, list-18, list-passes, list-fits, by-list, by-table, by-neither, bytes-list, bytes-table, bytes-each}
 
--- THE LISTS that lassos make up
-made-of : {s : List ℕ} (xs : List Parts) → s ≡ list-of xs → tray s ≡ record { lassos = xs; left = [] }
-made-of xs e = ap tray e ∙ tray-of-list xs
+-- THE CASES: no lassos make up the list; or some do, and they are not as many as the bytes, or they are, and the table decides
+data Tray-case (range : Limits) (t s : List ℕ) (b : ℕ) : Type 0 where
+  cut : tray-refusal range t s b ≡ 17 → ((xs : List Parts) → s ≡ list-of xs → ⊥) → Tray-case range t s b
+  miscounted : tray-refusal range t s b ≡ 18 → (xs : List Parts) → s ≡ list-of xs → (length xs ≡ b → ⊥) → Tray-case range t s b
+  fits :
+      list-refusal s b ≡ 0 → tray-refusal range t s b ≡ table-refusal range t → (xs : List Parts) → s ≡ list-of xs → length xs ≡ b →
+      Tray-case range t s b
 
--- a list is cut short, or made of lassos: not as many as the bytes, or as many
-data List-case (s : List ℕ) (b : ℕ) : Type 0 where
-  cut : list-refusal s b ≡ 17 → ((xs : List Parts) → s ≡ list-of xs → ⊥) → List-case s b
-  miscounted : list-refusal s b ≡ 18 → (xs : List Parts) → s ≡ list-of xs → (length xs ≡ b → ⊥) → List-case s b
-  fits : list-refusal s b ≡ 0 → (xs : List Parts) → s ≡ list-of xs → length xs ≡ b → List-case s b
-
-list-case : (s : List ℕ) (b : ℕ) → List-case s b
-list-case s b =
-    elim (same-or (length (tray s .left)) 0) [
-      | inr some ↦
-          cut (sym (list-17 s b some)) (λ xs e. some (ap (λ (y : Tray). length (y .left)) (made-of xs e)))
-      | inl exact ↦
-          let made : s ≡ list-of (tray s .lassos) =
-          (let ends = ends-exactly s .0 (empty-list (tray s .left) exact) in
-          ends .1 ∙ ap list-of (sym (ap (λ (y : Tray). y .lassos) (made-of (ends .0) (ends .1))))) in
-          elim (same-or (length (tray s .lassos)) b) [
-            | inl same ↦ fits (sym (list-passes s b exact refl same)) (tray s .lassos) made same
-            | inr other ↦ miscounted (sym (list-18 s b exact refl other)) (tray s .lassos) made other
-          ]
-    ]
-
--- lassos that make up one list are one list of lassos
+-- lassos that make up one list are as many
 same-count : {s : List ℕ} (xs ys : List Parts) → s ≡ list-of xs → s ≡ list-of ys → length xs ≡ length ys
-same-count xs ys e f = ap (λ (y : Tray). length (y .lassos)) (sym (made-of xs e) ∙ made-of ys f)
-
--- a list that is made of as many lassos as there are bytes is not refused
-list-passed : (s : List ℕ) (b : ℕ) (xs : List Parts) → s ≡ list-of xs → length xs ≡ b → list-refusal s b ≡ 0
-list-passed s b xs made count =
-    let lassos = made-of xs made in
-    sym
-    (list-passes s b (ap (λ (y : Tray). length (y .left)) lassos) refl (ap (λ (y : Tray). length (y .lassos)) lassos ∙ count))
+same-count xs ys e f = ap (λ (zs : List Parts). length zs) (list-unique xs ys (sym e ∙ f))
 
 -- THE NUMBERS, each in its case
 module _ (range : Limits) (t s : List ℕ) (b : ℕ) where
-  -- where the list passes, the number is the table's, which is at most 9
-  few-numbers : list-refusal s b ≡ 0 → tray-refusal range t s b ≤ 9
-  few-numbers none = let most = table-most range t in rw (by-table range t s b none) most
+  tray-case : Tray-case range t s b
+  tray-case =
+      elim (same-or (length (tray s .left)) 0) [
+        | inr some ↦
+            let met = list-17 s b some in
+            cut (by-list range t s b (omega arith) ∙ sym met) (λ xs e. some (ap (λ (y : Tray). length (y .left)) (made-of xs e)))
+        | inl exact ↦
+            let made = made-whole s (drop-of-length-le (tray s .left) {i = 0} (omega arith)) in
+            elim (same-or (length (tray s .lassos)) b) [
+              | inl same ↦
+                  let passed : list-refusal s b ≡ 0 = sym (list-passes s b exact refl same) in
+                  fits passed (by-table range t s b passed) (tray s .lassos) made same
+              | inr other ↦
+                  let met = list-18 s b exact refl other in
+                  miscounted (by-list range t s b (omega arith) ∙ sym met) (tray s .lassos) made other
+            ]
+      ]
 
   pub cut-right : (tray-refusal range t s b ≡ 17) ↔ ((xs : List Parts) → s ≡ list-of xs → ⊥)
   cut-right =
-      elim (list-case s b) [
-        | cut e none ↦ ((λ h. none), λ h. by-list range t s b (omega arith) ∙ e)
-        | miscounted e xs made other ↦
-            ((λ h. absurd (let n = by-list range t s b (omega arith) in omega arith)), λ h. absurd (h xs made))
-        | fits e xs made same ↦ ((λ h. absurd (let n = few-numbers e in omega arith)), λ h. absurd (h xs made))
+      elim tray-case [
+        | cut e none ↦ ((λ h. none), λ h. e)
+        | miscounted e xs made other ↦ ((λ h. absurd (omega arith)), λ h. absurd (h xs made))
+        | fits passed e xs made same ↦ ((λ h. absurd (let most = table-most range t in omega arith)), λ h. absurd (h xs made))
       ]
 
   pub miscounted-right : (tray-refusal range t s b ≡ 18) ↔ ((xs : List Parts) × (s ≡ list-of xs) × (length xs ≡ b → ⊥))
   miscounted-right =
-      elim (list-case s b) [
-        | cut e none ↦ ((λ h. absurd (let n = by-list range t s b (omega arith) in omega arith)), λ h. absurd (none (h .0) (h .1)))
-        | miscounted e xs made other ↦ ((λ h. (xs, made, other)), λ h. by-list range t s b (omega arith) ∙ e)
-        | fits e xs made same ↦ (
-          (λ h. absurd (let n = few-numbers e in omega arith)),
+      elim tray-case [
+        | cut e none ↦ ((λ h. absurd (omega arith)), λ h. absurd (none (h .0) (h .1)))
+        | miscounted e xs made other ↦ ((λ h. (xs, made, other)), λ h. e)
+        | fits passed e xs made same ↦ (
+          (λ h. absurd (let most = table-most range t in omega arith)),
           λ h. absurd (h .2 (same-count (h .0) xs (h .1) made ∙ same)),
         )
       ]
@@ -92,21 +81,21 @@ module _ (range : Limits) (t s : List ℕ) (b : ℕ) where
       (k : ℕ) → k ≤ 9 →
       (tray-refusal range t s b ≡ k) ↔ ((xs : List Parts) × (s ≡ list-of xs) × (length xs ≡ b) × (table-refusal range t ≡ k))
   table-right k few =
-      elim (list-case s b) [
-        | cut e none ↦ ((λ h. absurd (let n = by-list range t s b (omega arith) in omega arith)), λ h. absurd (none (h .0) (h .1)))
+      elim tray-case [
+        | cut e none ↦ ((λ h. absurd (omega arith)), λ h. absurd (none (h .0) (h .1)))
         | miscounted e xs made other ↦ (
-          (λ h. absurd (let n = by-list range t s b (omega arith) in omega arith)),
+          (λ h. absurd (omega arith)),
           λ h. absurd (other (same-count xs (h .0) made (h .1) ∙ h .2)),
         )
-        | fits e xs made same ↦ ((λ h. (xs, made, same, sym (by-table range t s b e) ∙ h)), λ h. by-table range t s b e ∙ h .3)
+        | fits passed e xs made same ↦ ((λ h. (xs, made, same, sym e ∙ h)), λ h. e ∙ h .3)
       ]
 
   pub no-other-number : (tray-refusal range t s b ≤ 9) ⊎ ((tray-refusal range t s b ≡ 17) ⊎ (tray-refusal range t s b ≡ 18))
   no-other-number =
-      elim (list-case s b) [
-        | cut e none ↦ inr (inl (by-list range t s b (omega arith) ∙ e))
-        | miscounted e xs made other ↦ inr (inr (by-list range t s b (omega arith) ∙ e))
-        | fits e xs made same ↦ inl (few-numbers e)
+      elim tray-case [
+        | cut e none ↦ inr (inl e)
+        | miscounted e xs made other ↦ inr (inr e)
+        | fits passed e xs made same ↦ inl (let most = table-most range t in omega arith)
       ]
 
 -- EACH BYTE IS THE SINGLE CALL'S: also where the table is refused, since a single call then answers its number
@@ -155,7 +144,7 @@ module _
   says-list far =
       let number = says-number in
       elim (same-or (list-refusal s (length a)) 0) [
-        | inl passed ↦ absurd (let few = few-numbers range t s (length a) passed in omega arith)
+        | inl passed ↦ absurd (let table = by-table range t s (length a) passed in let most = table-most range t in omega arith)
         | inr other ↦ says .bytes ∙ bytes-list range t s a (length w) other
       ]
 
@@ -163,10 +152,14 @@ module _
   pub says-table : 1 ≤ r .number → r .number ≤ 9 → a-now ≡ replicate (length a) (r .number)
   says-table some few =
       let number = says-number in
-      let (xs, made, count, table) = table-right range t s (length a) (r .number) few .0 (sym number) in
-      let passed = list-passed s (length a) xs made count in
-      says .bytes
-      ∙ (bytes-table range t s a (length w) passed (omega arith) ∙ ap (λ (n : ℕ). replicate (length a) n) table)
+      elim (tray-case range t s (length a)) [
+        | cut e none ↦ absurd (omega arith)
+        | miscounted e xs made other ↦ absurd (omega arith)
+        | fits passed e xs made same ↦
+            says .bytes
+            ∙ (bytes-table range t s a (length w) passed (omega arith)
+            ∙ ap (λ (n : ℕ). replicate (length a) n) (sym (number ∙ e)))
+      ]
 
   -- all bytes that were lent are left
   pub says-length : length a-now ≡ length a
@@ -194,42 +187,52 @@ module _
   pub says-valid : r .number ≡ 0 → table-refusal range t ≡ 0
   says-valid none = by-neither range t s (length a) (sym says-number ∙ none) .1
 
--- A BYTE TELLS which decision it stands for, if no refusal's number is 0 or 1
+-- A BYTE TELLS which decision it stands for, if no refusal's number is below 13
+is-taken : (d : Decision) → ((number : ℕ) → d ≡ Refused number → 13 ≤ number) → as-byte d ≡ 1 → d ≡ Taken
+unfolding as-byte
+is-taken Taken least h = refl
+is-taken NotTaken least h = absurd (omega arith)
+is-taken (Refused r) least h = absurd (let far = least r refl in omega arith)
+
+is-not-taken : (d : Decision) → ((number : ℕ) → d ≡ Refused number → 13 ≤ number) → as-byte d ≡ 0 → d ≡ NotTaken
+unfolding as-byte
+is-not-taken Taken least h = absurd (omega arith)
+is-not-taken NotTaken least h = refl
+is-not-taken (Refused r) least h = absurd (let far = least r refl in omega arith)
+
+is-refused : (d : Decision) (number : ℕ) → 2 ≤ number → as-byte d ≡ number → d ≡ Refused number
+unfolding as-byte
+is-refused Taken number two h = absurd (omega arith)
+is-refused NotTaken number two h = absurd (omega arith)
+is-refused (Refused r) number two h = ap Refused h
+
+not-between : (d : Decision) → ((number : ℕ) → d ≡ Refused number → 13 ≤ number) → (as-byte d ≤ 1) ⊎ (13 ≤ as-byte d)
+unfolding as-byte
+not-between Taken least = inl (omega arith)
+not-between NotTaken least = inl (omega arith)
+not-between (Refused r) least = inr (least r refl)
+
 pub record Tells (d : Decision) : Type 0 where
   pub taken : (as-byte d ≡ 1) ↔ (d ≡ Taken)
   pub not-taken : (as-byte d ≡ 0) ↔ (d ≡ NotTaken)
   pub refused : (number : ℕ) → 2 ≤ number → (as-byte d ≡ number) ↔ (d ≡ Refused number)
   pub no-other : (as-byte d ≤ 1) ⊎ (13 ≤ as-byte d)
 
-byte-tells : (d : Decision) → ((number : ℕ) → d ≡ Refused number → 13 ≤ number) → Tells d
-unfolding as-byte
-byte-tells Taken least =
-    record {
-      taken = ((λ h. refl), λ h. refl);
-      not-taken = ((λ h. absurd (omega arith)), λ h. absurd (let z : _≡_ {A = ℕ} 0 1 = cc in omega arith));
-      refused = λ n two. ((λ h. absurd (omega arith)), λ h. absurd (let z : _≡_ {A = ℕ} 0 1 = cc in omega arith));
-      no-other = inl (omega arith);
-    }
-byte-tells NotTaken least =
-    record {
-      taken = ((λ h. absurd (omega arith)), λ h. absurd (let z : _≡_ {A = ℕ} 0 1 = cc in omega arith));
-      not-taken = ((λ h. refl), λ h. refl);
-      refused = λ n two. ((λ h. absurd (omega arith)), λ h. absurd (let z : _≡_ {A = ℕ} 0 1 = cc in omega arith));
-      no-other = inl (omega arith);
-    }
-byte-tells (Refused r) least =
-    let far = least r refl in
-    record {
-      taken = ((λ h. absurd (omega arith)), λ h. absurd (let z : _≡_ {A = ℕ} 0 1 = cc in omega arith));
-      not-taken = ((λ h. absurd (omega arith)), λ h. absurd (let z : _≡_ {A = ℕ} 0 1 = cc in omega arith));
-      refused = λ n two. ((λ h. ap Refused h), λ h. cc);
-      no-other = inr far;
-    }
+module _ {d : Decision} (least : (number : ℕ) → d ≡ Refused number → 13 ≤ number) where
+  byte-tells : Tells d
+  unfolding as-byte
+  byte-tells =
+      record {
+        taken = ((λ h. is-taken d least h), λ h. ap as-byte h);
+        not-taken = ((λ h. is-not-taken d least h), λ h. ap as-byte h);
+        refused = λ number two. ((λ h. is-refused d number two h), λ h. ap as-byte h);
+        no-other = not-between d least;
+      }
 
 -- on a table that has passed its check each byte tells its decision
 pub tells-decision : (range : Limits) (t u v w : List ℕ) → table-refusal range t ≡ 0 → Tells (decision range t u v (length w))
 tells-decision range t u v w valid =
-    byte-tells (decision range t u v (length w))
+    byte-tells
     (λ number refused.
     let (same, some) = says-refused (decision-says range t u v w) number .0 refused in
     let own = parts-own range t u v (length w) valid in

@@ -1,8 +1,7 @@
 -- The byte of one lasso: refused for its lengths or its letters, or what the decision on its copied letters says. Assumes nothing.
 use mathlib.Core.Path.{_≡_, refl, sym, ap, _∙_}
-use mathlib.Core.Bool.{Bool, true, false}
+use mathlib.Core.Bool.{Bool, true, false, _&&_}
 use mathlib.Core.List.{List, [], _∷_, _++_}
-use mathlib.Core.Logic.{inl, inr}
 use Prim.Native.Nat.{ℕ, zero, suc, _+_, _-_, _^_, _≤_, _<_}
 use native.Mathlib.Numerals.{add-one}
 use native.Mathlib.Omega.{arith}
@@ -10,7 +9,7 @@ use lib.Dec.{ltb}
 use lib.ListN.{length, getD, set, take, drop, length-drop, length-set, take-append-drop}
 use lib.Seq.{length-take-le, take-length, take-take, take-add, drop-at, take-suc, take-suc-set}
 use Rattle.basics.specs.Words.{byte-bits}
-use Rattle.basics.proofs.Booleans.{either, clash, not-both, lt-ltb}
+use Rattle.basics.proofs.Booleans.{clash, not-both, and-l, and-r, lt-ltb}
 use Rattle.basics.proofs.Scans.{Scan, scan-start, scan-more, scan-done}
 use Rattle.automata.specs.Decision.{takes?}
 use Rattle.automata.specs.Lasso.{all-below}
@@ -20,7 +19,7 @@ use Rattle.lassos.specs.Decision.{as-decision, decision}
 use Rattle.lassos.specs.Refusals.{lengths-refusal, lasso-refusal}
 use Rattle.lassos.specs.declared.Decision.{Decision}
 use Rattle.lassos.proofs.Decides.{decided-refused}
-use Rattle.lassos.proofs.Parts.{parts-lengths, parts-15-prefix, parts-15-loop, parts-then, lasso-most, not-below}
+use Rattle.lassos.proofs.Parts.{parts-lengths, parts-15, parts-then, lasso-most, not-below}
 use Rattle.trays.specs.Answers.{as-byte, byte-of}
 use Rattle.trays.specs.Steps.{Copied}
 use Rattle.trays.specs.Tray.{lasso-of}
@@ -94,6 +93,11 @@ module _ (range : Limits) (t words : List ℕ) (p w : ℕ) (valid : table-refusa
   loop-length : length (drop p words) ≡ length words - p
   loop-length = length-drop p words
 
+  all-letters : (all-below (k-of t) (take p words) && all-below (k-of t) (drop p words)) ≡ true → all-below (k-of t) words ≡ true
+  all-letters both =
+      rw (take-append-drop p words) at
+      (both-below (k-of t) (take p words) (drop p words) (and-l (all-below (k-of t) (drop p words)) both) (and-r (all-below (k-of t) (take p words)) both))
+
   -- a number that is the refusal's
   refused-byte : {x : ℕ} → x ≡ lasso-refusal range t (take p words) (drop p words) w → (x ≡ 0 → ⊥) → x ≡ byte-of range t w (lasso-of p words)
   unfolding byte-of lasso-of as-byte
@@ -114,14 +118,8 @@ module _ (range : Limits) (t words : List ℕ) (p w : ℕ) (valid : table-refusa
     byte-letters fine far =
         refused-byte
         (parts-then range t (take p words) (drop p words) w valid refl refl
-        (elim (either (all-below (k-of t) (take p words))) [
-          | inr first ↦ parts-15-prefix (n-of t) (k-of t) (take p words) (drop p words) w by-parts fine refl first
-          | inl first ↦
-              let second : all-below (k-of t) (drop p words) ≡ false =
-              not-both (all-below (k-of t) (drop p words))
-              (λ yes. clash (rw (take-append-drop p words) at (both-below (k-of t) (take p words) (drop p words) first yes)) far) in
-              parts-15-loop (n-of t) (k-of t) (take p words) (drop p words) w by-parts fine refl first refl second
-        ]))
+        (parts-15 (n-of t) (k-of t) (take p words) (drop p words) w by-parts fine
+        (not-both (all-below (k-of t) (take p words) && all-below (k-of t) (drop p words)) (λ yes. clash (all-letters yes) far))))
         (omega arith)
 
   -- what a decision on the copied parts says

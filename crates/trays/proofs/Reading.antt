@@ -10,7 +10,7 @@ use lib.Seq.{length-take-le, take-at, drop-at, take-append-seam, drop-append-sea
 use Rattle.basics.proofs.Booleans.{either, le-leb, gt-leb, leb-le}
 use Rattle.trays.specs.Tray.{Parts, Tray, lasso-of, lasso-words, list-of, no-more, led-by, tray-in, tray}
 
--- ONE LASSO AT A TIME. Reading at most so many lassos is reading all, if a list has no more words
+-- ONE LASSO AT A TIME. Two bounds on the lassos that are read, neither of them below the number of words, give the same
 tray-enough : (f g : ℕ) (t : List ℕ) → length t ≤ f → length t ≤ g → tray-in f t ≡ tray-in g t
 unfolding tray-in
 tray-enough zero zero t a b = refl
@@ -70,6 +70,10 @@ pub tray-of-list : (xs : List Parts) → tray (list-of xs) ≡ record { lassos =
 unfolding no-more
 tray-of-list xs = ap tray (sym (append-nil (list-of xs))) ∙ (tray-joined xs [] ∙ rw (tray-none, append-nil))
 
+-- a list that lassos make up holds them, and ends exactly
+pub made-of : {s : List ℕ} (xs : List Parts) → s ≡ list-of xs → tray s ≡ record { lassos = xs; left = [] }
+made-of xs e = ap tray e ∙ tray-of-list xs
+
 -- what was read makes up the list again, with what is left
 list-of-tray-in : (f : ℕ) (t : List ℕ) → list-of (tray-in f t .lassos) ++ tray-in f t .left ≡ t
 unfolding tray-in no-more led-by list-of lasso-words lasso-of
@@ -93,13 +97,14 @@ pub list-of-tray : (t : List ℕ) → list-of (tray t .lassos) ++ tray t .left �
 unfolding tray
 list-of-tray t = list-of-tray-in (length t) t
 
+-- and by itself, where nothing is left
+pub made-whole : (s : List ℕ) → tray s .left ≡ [] → s ≡ list-of (tray s .lassos)
+made-whole s e = sym (list-of-tray s) ∙ rw (e, append-nil)
+
 -- READING IS UNIQUE: no other lassos make up the same list
 pub list-unique : (xs ys : List Parts) → list-of xs ≡ list-of ys → xs ≡ ys
-list-unique xs ys e = ap (λ (y : Tray). y .lassos) (sym (tray-of-list xs) ∙ (ap tray e ∙ tray-of-list ys))
+list-unique xs ys e = ap (λ (y : Tray). y .lassos) (sym (tray-of-list xs) ∙ made-of ys e)
 
 -- a list ends exactly at a lasso's end if lassos make it up, and only then
 pub ends-exactly : (s : List ℕ) → (tray s .left ≡ []) ↔ ((xs : List Parts) × (s ≡ list-of xs))
-ends-exactly s = (
-  (λ e. (tray s .lassos, sym (list-of-tray s) ∙ rw (e, append-nil))),
-  (λ h. ap (λ (t : List ℕ). tray t .left) (h .1) ∙ ap (λ (y : Tray). y .left) (tray-of-list (h .0))),
-)
+ends-exactly s = ((λ e. (tray s .lassos, made-whole s e)), λ h. ap (λ (y : Tray). y .left) (made-of (h .0) (h .1)))

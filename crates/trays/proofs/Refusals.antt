@@ -1,17 +1,15 @@
 -- Laws of refusals 17 and 18, and of what a call answers and leaves in each case. Assumes nothing.
-use mathlib.Core.Path.{_≡_, sym, ap, _∙_}
+use mathlib.Core.Path.{_≡_, refl, sym, ap, _∙_}
+use mathlib.Core.Bool.{not}
 use mathlib.Core.List.{List, map}
-use mathlib.Core.Logic.{inl, inr}
 use Prim.Native.Nat.{ℕ}
-use native.Mathlib.Omega.{arith}
 use lib.Dec.{eqb}
 use lib.ListN.{length, replicate}
 use Rattle.basics.specs.Buffers.{as-written, zeros}
-use Rattle.basics.proofs.Booleans.{either, eq-eqb, ne-eqb, eqb-eq}
-use Rattle.basics.proofs.Refusing.{or-else-none, or-else-first, or-else-second, written-refused}
+use Rattle.basics.proofs.Booleans.{false-not, eq-eqb, ne-eqb, eqb-eq}
+use Rattle.basics.proofs.Refusing.{passed, or-else-none, or-else-first, or-else-second, written-refused}
 use Rattle.tables.specs.Table.{Limits, table-refusal}
-use Rattle.trays.specs.Answers.{list-refusal, tray-refusal, byte-of, tray-bytes}
-use Rattle.trays.specs.Steps.{Answers-says}
+use Rattle.trays.specs.Answers.{list-refusal, tray-refusal, byte-of, tray-bytes, Tray-says}
 use Rattle.trays.specs.Tray.{tray}
 
 -- THE LIST: whether words are left, then the count
@@ -37,14 +35,12 @@ pub record List-fits (s : List ℕ) (b : ℕ) : Type 0 where
 pub list-fits : (s : List ℕ) (b : ℕ) → list-refusal s b ≡ 0 → List-fits s b
 unfolding list-refusal
 list-fits s b h =
-    elim (either (eqb (length (tray s .left)) 0)) [
-      | inr some ↦ absurd (let z : _≡_ {A = ℕ} 17 0 = rw some at h in omega arith)
-      | inl exact ↦
-          elim (either (eqb (length (tray s .lassos)) b)) [
-            | inl same ↦ record { exact = eqb-eq (length (tray s .left)) 0 exact; counted = eqb-eq (length (tray s .lassos)) b same }
-            | inr other ↦ absurd (let z : _≡_ {A = ℕ} 18 0 = rw (exact, other) at h in omega arith)
-          ]
-    ]
+    let ends = passed (not (eqb (length (tray s .left)) 0)) 16 _ h in
+    let counts = passed (not (eqb (length (tray s .lassos)) b)) 17 0 (ends .1) in
+    record {
+      exact = eqb-eq (length (tray s .left)) 0 (false-not _ (ends .0));
+      counted = eqb-eq (length (tray s .lassos)) b (false-not _ (counts .0));
+    }
 
 -- THE CALL: the list first, then the table, then each lasso
 module _ (range : Limits) (t s : List ℕ) (b : ℕ) where
@@ -75,16 +71,19 @@ module _ (range : Limits) (t s a : List ℕ) (work : ℕ) where
   unfolding tray-bytes
   bytes-each none passed = rw (eq-eqb none, eq-eqb passed)
 
+-- what it says is said of the work words as they will be cleared
+module _ (range : Limits) (t s a w : List ℕ) where
   module _ {x : ℕ} (is-list : x ≡ list-refusal s (length a)) where
     pub answers-list :
         (x ≡ 0 → ⊥) → {a-now : List ℕ} → a-now ≡ replicate (length a) 0 →
-        Answers-says range t s (record { number = x; count = 0 }) a a-now work
+        Tray-says range t s (record { number = x; count = 0 }) a a-now w (zeros w)
     unfolding zeros
     answers-list met cleared =
         let far : list-refusal s (length a) ≡ 0 → ⊥ = λ z. met (is-list ∙ z) in
         record {
           answer = written-refused x _ (is-list ∙ sym (by-list range t s (length a) far)) met (length (tray s .lassos));
-          bytes = cleared ∙ sym (bytes-list far);
+          bytes = cleared ∙ sym (bytes-list range t s a (length w) far);
+          work = refl;
         }
 
     module _ (fine : x ≡ 0) {y : ℕ} (is-table : y ≡ table-refusal range t) where
@@ -93,22 +92,24 @@ module _ (range : Limits) (t s a : List ℕ) (work : ℕ) where
 
       pub answers-table :
           (y ≡ 0 → ⊥) → {a-now : List ℕ} → a-now ≡ replicate (length a) y →
-          Answers-says range t s (record { number = y; count = 0 }) a a-now work
+          Tray-says range t s (record { number = y; count = 0 }) a a-now w (zeros w)
       answers-table met all =
           let far : table-refusal range t ≡ 0 → ⊥ = λ z. met (is-table ∙ z) in
           record {
             answer = written-refused y _ (is-table ∙ sym (by-table range t s (length a) near)) met (length (tray s .lassos));
-            bytes = all ∙ (ap (λ (n : ℕ). replicate (length a) n) is-table ∙ sym (bytes-table near far));
+            bytes = all ∙ (ap (λ (n : ℕ). replicate (length a) n) is-table ∙ sym (bytes-table range t s a (length w) near far));
+            work = refl;
           }
 
       pub answers-each :
-          y ≡ 0 → {a-now : List ℕ} → a-now ≡ map (byte-of range t work) (tray s .lassos) → {n : ℕ} → n ≡ length a →
-          Answers-says range t s (record { number = 0; count = n }) a a-now work
+          y ≡ 0 → {a-now : List ℕ} → a-now ≡ map (byte-of range t (length w)) (tray s .lassos) → {n : ℕ} → n ≡ length a →
+          Tray-says range t s (record { number = 0; count = n }) a a-now w (zeros w)
       unfolding as-written
       answers-each none each counted =
-          let passed : table-refusal range t ≡ 0 = sym is-table ∙ none in
+          let none′ : table-refusal range t ≡ 0 = sym is-table ∙ none in
           let count = list-fits s (length a) near .counted in
           record {
-            answer = rw (by-table range t s (length a) near ∙ passed, count, counted);
-            bytes = each ∙ sym (bytes-each near passed);
+            answer = rw (by-table range t s (length a) near ∙ none′, count, counted);
+            bytes = each ∙ sym (bytes-each range t s a (length w) near none′);
+            work = refl;
           }

@@ -6,10 +6,9 @@ use mathlib.Core.Logic.{inl, inr}
 use Prim.Native.Nat.{ℕ, suc, _+_, _-_, _≤_, _<_}
 use native.Mathlib.Omega.{arith}
 use native.Mathlib.Numerals.{add-one}
-use lib.ListN.{length, getD, set, take, drop, length-set, length-drop}
+use lib.ListN.{length, getD, set, take, drop, length-set, length-drop, drop-of-length-le}
 use lib.Seq.{drop-cons, drop-drop, take-all, take-suc-set, append-snoc, length-take-le}
 use Rattle.basics.proofs.Booleans.{below-or}
-use Rattle.basics.proofs.Lists.{empty-list}
 use Rattle.trays.specs.Steps.{longest-lasso, lasso-end}
 use Rattle.trays.specs.Tray.{Parts, lasso-of, no-more, led-by, tray}
 use Rattle.trays.proofs.Reading.{tray-none, tray-single, tray-whole, tray-cut}
@@ -69,7 +68,7 @@ pub counting-start : (s : List ℕ) → Counting s 0 0
 counting-start s = record { upto = omega arith; few = omega arith; rest = omega arith; left = refl }
 
 module _ {s : List ℕ} {at lassos : ℕ} (h : Counting s at lassos) where
-  -- a lasso that is cut short, or a word left over
+  -- where no more lassos are read, all words from the place on are left
   counting-left : tray (drop at s) ≡ no-more (drop at s) → length (tray s .left) ≡ length s - at
   unfolding no-more
   counting-left e = rw (sym (h .left), e) (length-drop at s)
@@ -110,17 +109,14 @@ module _ (f : Parts → ℕ) (s a : List ℕ) (work : ℕ) where
     pub same : length a-now ≡ length a
     pub room : length w-now ≡ work
     pub copies : length letters ≡ longest-lasso
-    pub upto : at ≤ length s
-    pub exact : length (tray (drop at s) .left) ≡ 0
     pub count : i + length (tray (drop at s) .lassos) ≡ length a
     pub bytes : take i a-now ++ map f (tray (drop at s) .lassos) ≡ map f (tray s .lassos)
 
 module _ {f : Parts → ℕ} {s a : List ℕ} {work : ℕ} where
   pub deciding-start :
-      {w letters : List ℕ} → length w ≡ work → length letters ≡ longest-lasso → length (tray s .left) ≡ 0 →
-      length (tray s .lassos) ≡ length a → Deciding f s a work a w letters 0 0
-  deciding-start room copies exact count =
-      record { same = refl; room = room; copies = copies; upto = omega arith; exact = exact; count = omega arith; bytes = refl }
+      {w letters : List ℕ} → length w ≡ work → length letters ≡ longest-lasso → length (tray s .lassos) ≡ length a →
+      Deciding f s a work a w letters 0 0
+  deciding-start room copies count = record { same = refl; room = room; copies = copies; count = omega arith; bytes = refl }
 
   module _ {a1 w1 letters : List ℕ} {at i : ℕ} (h : Deciding f s a work a1 w1 letters at i) where
     some-left : i < length a1 → 1 ≤ length (tray (drop at s) .lassos)
@@ -169,8 +165,6 @@ module _ {f : Parts → ℕ} {s a : List ℕ} {work : ℕ} where
             same = length-set a1 i b ∙ h .same;
             room = kept ∙ h .room;
             copies = copied ∙ h .copies;
-            upto = inside;
-            exact = rw is-end (rw whole at (h .exact));
             count = rw is-end (omega arith);
             bytes = rw (add-one i, take-suc-set a1 i b more, append-snoc (take i a1) b rest, is-byte, is-end) bytes;
           }
@@ -179,4 +173,4 @@ module _ {f : Parts → ℕ} {s a : List ℕ} {work : ℕ} where
     deciding-end over =
         let same = h .same in
         let count = h .count in
-        let none = empty-list (tray (drop at s) .lassos) (omega arith) in rw (none, append-nil, take-all i a1 over) at (h .bytes)
+        let none = drop-of-length-le (tray (drop at s) .lassos) {i = 0} (omega arith) in rw (none, append-nil, take-all i a1 over) at (h .bytes)

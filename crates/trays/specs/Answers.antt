@@ -1,4 +1,4 @@
--- What a tray's call answers and leaves (docs/RULES.md, "A tray of lassos": 17 and 18, then 2 to 9 in a range, for the call the wide one).
+-- What a tray's call answers and leaves, on a table of any range (docs/RULES.md, "A tray of lassos"; the call's range is the wide one).
 -- Assumes nothing: these are definitions.
 use mathlib.Core.Path.{_≡_}
 use mathlib.Core.Bool.{cond, not}
@@ -20,7 +20,7 @@ list-refusal s b =
     cond (not (eqb (length (tray s .left)) 0)) 17
     (cond (not (eqb (length (tray s .lassos)) b)) 18 0)
 
--- both come before the table's 2 to 9, in a range
+-- both come before 2 to 9, those of a table of the range
 unfoldable pub tray-refusal : Limits → (t s : List ℕ) → (bytes : ℕ) → ℕ
 tray-refusal r t s b = or-else (list-refusal s b) (table-refusal r t)
 

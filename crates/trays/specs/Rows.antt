@@ -1,6 +1,7 @@
 -- Trial lists with the lassos that each holds, and trays with what a call on them answers and leaves. Assumes nothing: these are definitions.
 use mathlib.Core.List.{List, [], _∷_}
 use Prim.Native.Nat.{ℕ}
+use Rattle.basics.specs.declared.Written.{Written}
 use Rattle.tables.specs.Rows.{pattern-A}
 use Rattle.trays.specs.Tray.{Parts}
 
@@ -38,36 +39,36 @@ list-rows =
     ∷ holds (9 ∷ 9 ∷ 0 ∷ 1 ∷ 7 ∷ []) [] (9 ∷ 9 ∷ 0 ∷ 1 ∷ 7 ∷ [])
     ∷ []
 
--- A TRAY: a table, a list, how many answer bytes and work words are lent; the number, and the bytes left
+-- A TRAY: a table, a list, how many answer bytes and work words are lent; number and count, and the bytes left
 pub record Tray-row : Type 0 where
   pub table : List ℕ
   pub words : List ℕ
   pub bytes : ℕ
   pub work : ℕ
-  pub number : ℕ
-  pub answers : List ℕ
+  pub answer : Written
+  pub left : List ℕ
 
-unfoldable pub answers : (number : ℕ) → (answers : List ℕ) → (table words : List ℕ) → (bytes work : ℕ) → Tray-row
-answers x a t s b w = record { table = t; words = s; bytes = b; work = w; number = x; answers = a }
+unfoldable pub answers : (number count : ℕ) → (left : List ℕ) → (table words : List ℕ) → (bytes work : ℕ) → Tray-row
+answers x n a t s b w = record { table = t; words = s; bytes = b; work = w; answer = record { number = x; count = n }; left = a }
 
 -- pattern A takes the words with finitely many ones; a lasso asks for 8 work words for each of its letters
 unfoldable pub tray-rows : List Tray-row
 tray-rows =
     -- taken, not taken, taken behind a prefix; an empty loop; letters 2, 256 and 65,535 of 2; 24 work words needed and 16 lent
-    answers 0 (1 ∷ 0 ∷ 1 ∷ 13 ∷ 15 ∷ 15 ∷ 15 ∷ 16 ∷ []) pattern-A
+    answers 0 8 (1 ∷ 0 ∷ 1 ∷ 13 ∷ 15 ∷ 15 ∷ 15 ∷ 16 ∷ []) pattern-A
     (0 ∷ 1 ∷ 0 ∷ 0 ∷ 1 ∷ 1 ∷ 1 ∷ 1 ∷ 1 ∷ 0 ∷ 1 ∷ 0 ∷ 1 ∷ 0 ∷ 1 ∷ 2 ∷ 0 ∷ 1 ∷ 256 ∷ 1 ∷ 1 ∷ 65535 ∷ 0 ∷ 0 ∷ 3 ∷ 0 ∷ 0 ∷ 0 ∷ []) 8 16
     -- no lasso
-    ∷ answers 0 [] pattern-A [] 0 0
+    ∷ answers 0 0 [] pattern-A [] 0 0
     -- a word left over; a lasso whose last letter is missing
-    ∷ answers 17 (0 ∷ []) pattern-A (0 ∷ 1 ∷ 0 ∷ 0 ∷ []) 1 16
-    ∷ answers 17 (0 ∷ 0 ∷ []) pattern-A (0 ∷ 1 ∷ 0 ∷ 1 ∷ 1 ∷ 1 ∷ []) 2 16
+    ∷ answers 17 0 (0 ∷ []) pattern-A (0 ∷ 1 ∷ 0 ∷ 0 ∷ []) 1 16
+    ∷ answers 17 0 (0 ∷ 0 ∷ []) pattern-A (0 ∷ 1 ∷ 0 ∷ 1 ∷ 1 ∷ 1 ∷ []) 2 16
     -- a byte too few, a byte too many
-    ∷ answers 18 [] pattern-A (0 ∷ 1 ∷ 0 ∷ []) 0 16
-    ∷ answers 18 (0 ∷ 0 ∷ []) pattern-A (0 ∷ 1 ∷ 0 ∷ []) 2 16
+    ∷ answers 18 0 [] pattern-A (0 ∷ 1 ∷ 0 ∷ []) 0 16
+    ∷ answers 18 0 (0 ∷ 0 ∷ []) pattern-A (0 ∷ 1 ∷ 0 ∷ []) 2 16
     -- the table's refusal is in each byte, also where a lasso would be refused; and comes behind 17 and 18
-    ∷ answers 2 (2 ∷ 2 ∷ []) [] (0 ∷ 1 ∷ 0 ∷ 0 ∷ 0 ∷ []) 2 16
-    ∷ answers 3 [] (0 ∷ 1 ∷ 0 ∷ []) [] 0 0
-    ∷ answers 7 (7 ∷ []) (1 ∷ 1 ∷ 0 ∷ 4 ∷ 0 ∷ []) (0 ∷ 1 ∷ 0 ∷ []) 1 16
-    ∷ answers 17 (0 ∷ []) [] (0 ∷ []) 1 16
-    ∷ answers 18 (0 ∷ []) [] [] 1 16
+    ∷ answers 2 0 (2 ∷ 2 ∷ []) [] (0 ∷ 1 ∷ 0 ∷ 0 ∷ 0 ∷ []) 2 16
+    ∷ answers 3 0 [] (0 ∷ 1 ∷ 0 ∷ []) [] 0 0
+    ∷ answers 7 0 (7 ∷ []) (1 ∷ 1 ∷ 0 ∷ 4 ∷ 0 ∷ []) (0 ∷ 1 ∷ 0 ∷ []) 1 16
+    ∷ answers 17 0 (0 ∷ []) [] (0 ∷ []) 1 16
+    ∷ answers 18 0 (0 ∷ []) [] [] 1 16
     ∷ []

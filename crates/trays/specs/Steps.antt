@@ -4,14 +4,11 @@ use mathlib.Core.Bool.{Bool, true}
 use mathlib.Core.List.{List}
 use Prim.Native.Nat.{ℕ, _+_, _*_, _^_, _≤_, _<_}
 use lib.ListN.{length, getD, take}
-use Rattle.basics.specs.Buffers.{as-written}
 use Rattle.basics.specs.Words.{byte-bits}
-use Rattle.basics.specs.declared.Written.{Written}
 use Rattle.automata.specs.Lasso.{all-below}
 use Rattle.tables.specs.Table.{Limits, table-refusal}
 use Rattle.lassos.specs.Refusals.{longest-part}
-use Rattle.trays.specs.Tray.{tray}
-use Rattle.trays.specs.Answers.{list-refusal, tray-refusal, tray-bytes}
+use Rattle.trays.specs.Answers.{list-refusal}
 
 -- the letters of the longest lasso that is not refused
 abbrev pub longest-lasso : ℕ
@@ -41,8 +38,3 @@ pub record Byte-asks (range : Limits) (t words : List ℕ) (prefix : ℕ) (bytes
 pub record Each-asks (range : Limits) (t s a : List ℕ) : Type 0 where
   pub list : list-refusal s (length a) ≡ 0
   pub valid : table-refusal range t ≡ 0
-
--- what a call says before the work words are cleared
-pub record Answers-says (range : Limits) (t s : List ℕ) (r : Written) (a a-now : List ℕ) (work : ℕ) : Type 0 where
-  pub answer : r ≡ as-written (tray-refusal range t s (length a)) (length (tray s .lassos))
-  pub bytes : a-now ≡ tray-bytes range t s a work

@@ -14,10 +14,11 @@ ghost use mathlib.Core.Path.{_≡_};
 ghost use mathlib.Core.List.{map};
 ghost use Prim.Native.Nat.{_+_, _^_, _<_};
 ghost use lib.ListN.{length};
+ghost use Rattle.basics.specs.Buffers.{zeros};
 ghost use Rattle.basics.specs.Words.{byte-bits};
 ghost use Rattle.tables.specs.Table.{wide-range};
 ghost use Rattle.trays.specs.Answers.{list-refusal, as-byte, byte-of, Tray-says};
-ghost use Rattle.trays.specs.Steps.{lasso-end, Copy-asks, Copied, Byte-asks, Each-asks, Answers-says};
+ghost use Rattle.trays.specs.Steps.{lasso-end, Copy-asks, Copied, Byte-asks, Each-asks};
 ghost use Rattle.trays.specs.Tray.{lasso-of, tray};
 
 // The letters of the longest lasso that is not refused: a prefix and a loop.
@@ -33,9 +34,10 @@ pub fn decide_tray(table: &[u16], list: &[u16], answers: &mut [u8], work: &mut [
     written
 }
 
-// Refuses by 17 and 18, then by 2 to 9, or decides each lasso; leaves the work words as the searches do.
+// Refuses by 17 and 18, then by 2 to 9, or decides each lasso. The work words are left as the searches leave them: it says what the call
+// will say that clears them.
 fn fill_answers(table: &[u16], list: &[u16], answers: &mut [u8], work: &mut [u32]) -> Written
-    ensures { λ r. ⌜ Answers-says wide-range (now (table .entry)) (now (list .entry)) r (now (answers .entry)) (now (answers .exit)) (length (now (work .entry))) ⌝ }
+    ensures { λ r. ⌜ Tray-says wide-range (now (table .entry)) (now (list .entry)) r (now (answers .entry)) (now (answers .exit)) (now (work .entry)) (zeros (now (work .entry))) ⌝ }
 {
     let of_list = list_refusal(list, answers.len());
     if of_list != 0 {

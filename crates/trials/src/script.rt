@@ -7,7 +7,7 @@
 //     lasso NAME: WORK LASSO       decides a lasso over it in so many work words
 //     complement NAME: WORK LASSO  decides a lasso over its complement
 //     many NAME: WORK BYTES COUNT WORDS
-//                                  decides each lasso of a list, the first COUNT of these words and of zeros behind them, in so many work
+//                                  decides each lasso of a list of COUNT words, which are these and then zeros, in so many work
 //                                  words and so many answer bytes
 //
 // Each of the last five prints its name and the answer.

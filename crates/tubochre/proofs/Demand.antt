@@ -10,7 +10,6 @@ use Rattle.basics.specs.Words.{word-bits}
 use Rattle.basics.proofs.Booleans.{eqb-eq, eq-eqb}
 use Rattle.automata.specs.Automaton.{Accepting-run, Takes, Single-run}
 use Rattle.automata.specs.Lasso.{letter-at, Lasso}
-use Rattle.automata.specs.System.{numbered}
 use Rattle.tables.specs.Table.{Limits, Wider, Range-fits, pattern-range, wide-range, k-of, meaning}
 use Rattle.tables.proofs.Laws.{valid, words-fit, wide-fits, wide-patterns}
 use Rattle.ncsb.specs.Successors.{ncsb, accepting}
@@ -21,8 +20,8 @@ use Rattle.patterns.specs.Check.{check-refusal}
 use Rattle.patterns.specs.Pattern.{moves}
 use Rattle.patterns.proofs.Passed.{checked-split, checked-wider}
 use Rattle.complement.specs.Build.{room-of}
-use Rattle.complement.specs.Complement.{system-of, complement, complement-automaton, complement-words}
-use Rattle.complement.proofs.Second.{Fits, pattern-exactly, few-states, words-mean, words-valid, build-number, build-place, build-passed, build-fits, build-states, build-edges, build-used, build-sets}
+use Rattle.complement.specs.Complement.{system-of, complement, complement-words}
+use Rattle.complement.proofs.Second.{Fits, pattern-exactly, few-states, words-mean, words-letters, words-valid, build-number, build-place, build-passed, build-fits, build-states, build-edges, build-used, build-sets}
 use Rattle.complement.proofs.Third.{Parted, parted-words}
 use Rattle.lassos.specs.Decision.{decision, Lasso-says}
 use Rattle.lassos.specs.declared.Decision.{Decision}
@@ -122,8 +121,7 @@ module _
 
   -- they have the same letters
   over-complement : Lasso (k-of c) u v
-  unfolding meaning complement-automaton numbered system-of ncsb moves
-  over-complement = rw (words-mean t passed .letters) lasso
+  over-complement = rw (words-letters t passed) lasso
 
   decisions :
       Parted (meaning t) (meaning c) word → (d e : Decision) (w w-now z z-now : List ℕ) → Lasso-says range t u v d w w-now →
@@ -193,7 +191,7 @@ demands {range} fits wider =
       lassos = lasso-demand range;
       trays = tray-demand range;
       third = third-demand range wider;
-      third-tray = third-tray range (third-demand range wider);
+      third-tray = third-tray range wider (third-demand range wider);
     }
 
 -- and for wide tables of 16-bit words

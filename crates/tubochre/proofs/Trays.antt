@@ -1,5 +1,5 @@
 -- What a tray's call answers and leaves, and the third demand of a tray, follow from those of single decisions. Assumes nothing.
-use mathlib.Core.Path.{_≡_, _∙_}
+use mathlib.Core.Path.{_≡_, refl, sym}
 use mathlib.Core.List.{List}
 use mathlib.Core.Logic.{inl, inr, Iff·trans}
 use Prim.Native.Nat.{ℕ, _≤_}
@@ -7,18 +7,22 @@ use native.Mathlib.Omega.{arith}
 use lib.ListN.{length, getD}
 use Rattle.basics.specs.Buffers.{zeros}
 use Rattle.basics.proofs.Booleans.{same-or}
-use Rattle.tables.specs.Table.{Limits, table-refusal}
+use Rattle.automata.specs.Automaton.{Takes}
+use Rattle.automata.specs.Lasso.{letter-at}
+use Rattle.tables.specs.Table.{Limits, Wider, pattern-range, k-of, meaning, table-refusal}
+use Rattle.patterns.proofs.Passed.{checked-wider}
 use Rattle.complement.specs.Build.{used}
+use Rattle.complement.proofs.Second.{words-letters, words-valid, build-passed, build-fits, build-used}
 use Rattle.lassos.specs.Decision.{decision, Lasso-says}
+use Rattle.lassos.specs.Refusals.{lasso-refusal}
 use Rattle.lassos.specs.declared.Decision.{Decision}
 use Rattle.lassos.proofs.Answers.{decision-says, says-taken, says-not-taken, says-refused}
-use Rattle.lassos.proofs.Parts.{accepted}
-use Rattle.trays.specs.Answers.{as-byte, byte-of}
-use Rattle.trays.specs.Tray.{Parts, no-lasso}
+use Rattle.lassos.proofs.Parts.{lasso-alike, accepted}
+use Rattle.trays.specs.Answers.{byte-of}
+use Rattle.trays.specs.Tray.{Parts, no-lasso, list-of}
 use Rattle.trays.proofs.Answers.{cut-right, miscounted-right, table-right, no-other-number, says-number, says-count, says-none, says-list, says-table, says-length, says-byte, says-valid, Tells, tells-decision}
 use Rattle.trays.proofs.Bytes.{decision-most}
-use Rattle.tubochre.specs.Demand.{Byte-exactly, Tray-demand, Not-refused, Third-demand, by-pattern, by-complement, Third-tray}
-use Rattle.tubochre.proofs.Answers.{not-refused}
+use Rattle.tubochre.specs.Demand.{Byte-exactly, Tray-demand, Compared, Third-demand, Opposite, by-pattern, by-complement, Third-tray}
 
 -- A LASSO OF A TRAY on a table that is not refused: its byte stands for the single call's decision
 module _ (range : Limits) (t : List ℕ) (valid : table-refusal range t ≡ 0) (x : Parts) (w : List ℕ) where
@@ -48,15 +52,6 @@ module _ (range : Limits) (t : List ℕ) (valid : table-refusal range t ≡ 0) (
         not-taken = Iff·trans (tells .not-taken) (says-not-taken single);
       }
 
-  -- a byte of 0 or 1 is no refusal
-  decides : byte-of range t (length w) x ≤ 1 → Not-refused decided
-  unfolding byte-of Not-refused
-  decides small number refused =
-      elim (same-or (as-byte decided) 1) [
-        | inl one ↦ let taken = tells .taken .0 one in absurd (let z : _≡_ {A = ℕ} 0 1 = cc in omega arith)
-        | inr other ↦ let not-taken = tells .not-taken .0 (omega arith) in absurd (let z : _≡_ {A = ℕ} 0 1 = cc in omega arith)
-      ]
-
 -- WHATEVER A TRAY'S CALL ANSWERS AND LEAVES
 pub tray-demand : (range : Limits) → Tray-demand range
 unfolding Tray-demand
@@ -77,25 +72,63 @@ tray-demand range t s r a a-now w w-now says =
           rw (says-byte says none xs made i l) (byte-exactly range t (says-valid says none) (getD xs i no-lasso) w);
     }
 
+-- TWO BYTES of one lasso. One of 0 or 1 is no refusal
+decides :
+    {range : Limits} {t : List ℕ} {x : Parts} {byte work : ℕ} → Byte-exactly range t x byte work → byte ≤ 1 →
+    lasso-refusal range t (x .prefix) (x .loop) work ≡ 0
+decides {byte = byte} says small =
+    elim (same-or byte 1) [ inl one ↦ says .taken .0 one .0 | inr other ↦ says .not-taken .0 (omega arith) .0 ]
+
+module _
+    {range : Limits} {t c : List ℕ} {x : Parts} {byte byte′ w z : ℕ} (says : Byte-exactly range t x byte w)
+    (other : Byte-exactly range c x byte′ z) where
+  -- what is parted has opposite bytes
+  parted-bytes :
+      {states : ℕ} → byte ≤ 1 → byte′ ≤ 1 → Compared range t c (x .prefix) (x .loop) states → Opposite t c x byte byte′
+  parted-bytes small small′ compared =
+      elim (compared .parted) [
+        | inl (takes, none) ↦
+            by-pattern takes (says .taken .1 (decides says small, takes))
+            (other .not-taken .1 (decides other small′, λ h. none (h .run) (h .accepting-run)))
+        | inr (none, one) ↦
+            let takes : Takes (meaning c) (letter-at (x .prefix) (x .loop)) =
+            record { run = one .run; accepting-run = one .accepting-run } in
+            by-complement takes (says .not-taken .1 (decides says small, none)) (other .taken .1 (decides other small′, takes))
+      ]
+
+  -- and 13 to 15 are alike, of tables over the same letters
+  alike-bytes :
+      table-refusal range t ≡ 0 → table-refusal range c ≡ 0 → k-of t ≡ k-of c → (number : ℕ) → 13 ≤ number → number ≤ 15 →
+      byte ≡ number → byte′ ≡ number
+  alike-bytes valid valid′ letters number far few e =
+      other .refused number (omega arith) .1
+      (lasso-alike range t c (x .prefix) (x .loop) w z number valid valid′ letters far few (says .refused number (omega arith) .0 e))
+
 -- THE THIRD DEMAND of a tray, from that of single lassos
-pub third-tray : (range : Limits) → Third-demand range → Third-tray range
-unfolding Third-demand Third-tray byte-of
-third-tray range third t answer r before after checks passes built fine s p q a a-now w w-now b b-now z z-now says other none none′ xs made i l small small′ =
+pub third-tray : (range : Limits) → Wider pattern-range range → Third-demand range → Third-tray range
+unfolding Tray-demand Third-demand Third-tray
+third-tray range wider third t answer r before after checks passes built fine xs p q a a-now w w-now b b-now z z-now many many′ says other =
     let c = used r (after .words) in
-    let x = getD xs i no-lasso in
-    let valid = says-valid says none in
-    let valid′ = says-valid other none′ in
-    let byte = says-byte says none xs made i l in
-    let byte′ = says-byte other none′ xs made i l in
-    let first = single range t valid x w in
-    let second = single range c valid′ x z in
-    let settled = decides range t valid x w (rw byte at small) in
-    let settled′ = decides range c valid′ x z (rw byte′ at small′) in
-    let lasso = accepted range t (x .prefix) (x .loop) (length w) (not-refused first settled) .lasso in
-    let compared = third t answer r before after (x .prefix) (x .loop) checks passes built fine lasso in
-    let tell = tells range t valid x w in
-    let tell′ = tells range c valid′ x z in
-    elim (compared .decisions (decided range t valid x w) (decided range c valid′ x z) w (zeros w) z (zeros z) first second settled settled′) [
-      | inl (takes, d, e) ↦ by-pattern takes (byte ∙ tell .taken .1 d) (byte′ ∙ tell′ .not-taken .1 e)
-      | inr (takes, d, e) ↦ by-complement takes (byte ∙ tell .not-taken .1 d) (byte′ ∙ tell′ .taken .1 e)
-    ]
+    let passed = build-passed built fine in
+    let valid : table-refusal range t ≡ 0 = checked-wider t passed wider in
+    let valid′ : table-refusal range c ≡ 0 = rw (build-used built fine) (words-valid t passed range (build-fits built fine)) in
+    let letters : k-of t ≡ k-of c = rw (build-used built fine) (sym (words-letters t passed)) in
+    let first = tray-demand range t (list-of xs) p a a-now w w-now says in
+    let second = tray-demand range c (list-of xs) q b b-now z z-now other in
+    let none = first .table 0 (omega arith) .1 (xs, refl, many, valid) in
+    let none′ = second .table 0 (omega arith) .1 (xs, refl, many′, valid′) in
+    record {
+      accepted = (none, none′);
+      opposite =
+          λ i l small small′.
+          let x = getD xs i no-lasso in
+          let byte = first .lasso-bytes none xs refl i l in
+          let lasso = accepted range t (x .prefix) (x .loop) (length w) (decides byte small) .lasso in
+          parted-bytes byte (second .lasso-bytes none′ xs refl i l) small small′
+          (third t answer r before after (x .prefix) (x .loop) checks passes built fine lasso);
+      alike =
+          λ i l number far few.
+          let byte = first .lasso-bytes none xs refl i l in
+          let byte′ = second .lasso-bytes none′ xs refl i l in
+          (alike-bytes byte byte′ valid valid′ letters number far few, alike-bytes byte′ byte valid′ valid (sym letters) number far few);
+    }

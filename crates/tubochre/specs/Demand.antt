@@ -225,16 +225,27 @@ pub data Opposite (t c : List ℕ) (x : Parts) (first second : ℕ) : Type 0 whe
   by-pattern : Takes (meaning t) (letter-at (x .prefix) (x .loop)) → first ≡ 1 → second ≡ 0 → Opposite t c x first second
   by-complement : Takes (meaning c) (letter-at (x .prefix) (x .loop)) → first ≡ 0 → second ≡ 1 → Opposite t c x first second
 
--- whatever pattern passes the check, whatever room its complement is built in without refusal, and whatever list is tried on both without
--- refusal: at each place where both bytes are 0 or 1
+-- of a pattern t, the words c left of its complement, the lassos tried on both, and what the two calls answered and left
+pub record Tray-compared (t c : List ℕ) (xs : List Parts) (p q : Written) (left left′ : List ℕ) : Type 0 where
+  -- neither call is refused
+  pub accepted : (p .number ≡ 0) × (q .number ≡ 0)
+  -- where both bytes of a lasso are 0 or 1 they are opposite
+  pub opposite :
+      (i : ℕ) → i < length xs → getD left i 0 ≤ 1 → getD left′ i 0 ≤ 1 →
+      Opposite t c (getD xs i no-lasso) (getD left i 0) (getD left′ i 0)
+  -- and where one is 13, 14 or 15, so is the other: only work words can be too few for one of the two
+  pub alike :
+      (i : ℕ) → i < length xs → (number : ℕ) → 13 ≤ number → number ≤ 15 → (getD left i 0 ≡ number) ↔ (getD left′ i 0 ≡ number)
+
+-- whatever pattern passes the check, whatever room its complement is built in without refusal, and whatever lassos are tried on both, with
+-- a byte for each
 unfoldable pub Third-tray : Limits → Type 0
 Third-tray range =
     (t : List ℕ) (answer : Checked) (r : Counts) (before after : Lent) → answer ≡ checked t → answer ≡ Passed →
     Build-says range t r before after → r .number ≡ 0 →
-    (s : List ℕ) (p q : Written) (a a-now w w-now b b-now z z-now : List ℕ) → Tray-says range t s p a a-now w w-now →
-    Tray-says range (used r (after .words)) s q b b-now z z-now → p .number ≡ 0 → q .number ≡ 0 →
-    (xs : List Parts) → s ≡ list-of xs → (i : ℕ) → i < length xs → getD a-now i 0 ≤ 1 → getD b-now i 0 ≤ 1 →
-    Opposite t (used r (after .words)) (getD xs i no-lasso) (getD a-now i 0) (getD b-now i 0)
+    (xs : List Parts) (p q : Written) (a a-now w w-now b b-now z z-now : List ℕ) → length xs ≡ length a → length xs ≡ length b →
+    Tray-says range t (list-of xs) p a a-now w w-now → Tray-says range (used r (after .words)) (list-of xs) q b b-now z z-now →
+    Tray-compared t (used r (after .words)) xs p q a-now b-now
 
 -- ALL OF THEM, for tables of a range in words of so many bits
 pub record Demands (bits : ℕ) (range : Limits) : Type 0 where

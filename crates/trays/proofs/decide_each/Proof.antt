@@ -22,7 +22,7 @@ abbrev μ-loop : tie.MeasureT-loop
 loop-holds : tie.Need-loop-holds Inv-loop μ-loop
 loop-holds c =
     let start : tie.Start Inv-loop μ-loop = search in
-    let fits = list-fits _ _ (start .pre .list) in deciding-start refl (length-replicate {A = ℕ} longest-lasso 0) (fits .exact) (fits .counted)
+    deciding-start refl (length-replicate {A = ℕ} longest-lasso 0) (list-fits _ _ (start .pre .list) .counted)
 
 lasso-end-requires : tie.Need-lasso-end-requires Inv-loop μ-loop
 lasso-end-requires c κs =

@@ -1,4 +1,4 @@
--- `decide_tray` meets its contract: the answers, and all work words are cleared behind them. Assumes nothing.
+-- `decide_tray` meets its contract: what was said of cleared work words, and they are cleared. Assumes nothing.
 use mathlib.Core.Path.{_∙_}
 use Rattle.basics.proofs.Clears.{zeros-same}
 use borrow.Author.Needs.{needs}
