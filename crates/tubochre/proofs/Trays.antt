@@ -52,6 +52,9 @@ module _ (range : Limits) (t : List ℕ) (valid : table-refusal range t ≡ 0) (
         not-taken = Iff·trans (tells .not-taken) (says-not-taken single);
       }
 
+  byte-exactly-as : {byte : ℕ} → byte ≡ byte-of range t (length w) x → Byte-exactly range t x byte (length w)
+  byte-exactly-as is-byte = rw is-byte byte-exactly
+
 -- WHATEVER A TRAY'S CALL ANSWERS AND LEAVES
 pub tray-demand : (range : Limits) → Tray-demand range
 unfolding Tray-demand
@@ -69,7 +72,7 @@ tray-demand range t s r a a-now w w-now says =
       table-bytes = says-table says;
       lasso-bytes =
           λ none xs made i l.
-          rw (says-byte says none xs made i l) (byte-exactly range t (says-valid says none) (getD xs i no-lasso) w);
+          byte-exactly-as range t (says-valid says none) (getD xs i no-lasso) w (says-byte says none xs made i l);
     }
 
 -- TWO BYTES of one lasso. One of 0 or 1 is no refusal
