@@ -1,5 +1,6 @@
 -- Laws of walking through a list by index: what is read at a place, and the two loops, which count its lassos and decide them.
 -- Assumes nothing.
+use borrow.Rule.Slice.PartMut.{mid-len}
 use mathlib.Core.Path.{_≡_, refl, sym, ap, _∙_}
 use mathlib.Core.List.{List, [], _∷_, _++_, append-nil, map}
 use mathlib.Core.Logic.{inl, inr}
@@ -7,7 +8,7 @@ use Prim.Native.Nat.{ℕ, suc, _+_, _-_, _≤_, _<_}
 use native.Mathlib.Omega.{arith}
 use native.Mathlib.Numerals.{add-one}
 use lib.ListN.{length, getD, set, take, drop, length-set, length-drop, drop-of-length-le}
-use lib.Seq.{drop-cons, drop-drop, take-all, take-suc-set, append-snoc, length-take-le}
+use lib.Seq.{drop-cons, drop-drop, take-all, take-suc-set, append-snoc}
 use Rattle.basics.proofs.Booleans.{below-or}
 use Rattle.trays.specs.Steps.{longest-lasso, lasso-end}
 use Rattle.trays.specs.Tray.{Parts, lasso-of, no-more, led-by, tray}
@@ -145,10 +146,7 @@ module _ {f : Parts → ℕ} {s a : List ℕ} {work : ℕ} where
       -- its letters hold its prefix
       pub next-prefix : getD s at 0 ≤ length (take (end - (at + 2)) (drop (at + 2) s))
       unfolding lasso-end
-      next-prefix =
-          let inside = next-inside in
-          let left = length-drop (at + 2) s in
-          let long = length-take-le (end - (at + 2)) (drop (at + 2) s) (omega arith) in omega arith
+      next-prefix = let long = mid-len (at + 2) end s next-inside in omega arith
 
       pub deciding-turn :
           {w2 letters2 : List ℕ} → length w2 ≡ length w1 → length letters2 ≡ length letters → {b : ℕ} →
