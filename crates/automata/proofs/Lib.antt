@@ -12,3 +12,4 @@ pub mod Product
 pub mod Recurring
 pub mod Same
 pub mod Traces
+pub mod Union

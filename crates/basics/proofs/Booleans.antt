@@ -3,7 +3,7 @@
 use mathlib.Core.Path.{_≡_, refl, sym, _∙_}
 use mathlib.Core.Bool.{Bool, true, false, _&&_, _||_, not, true≢false}
 use mathlib.Core.Logic.{_⊎_, inl, inr}
-use Prim.Native.Nat.{ℕ, suc, _≤_, _<_}
+use Prim.Native.Nat.{ℕ, suc, _+_, _≤_, _<_}
 use native.Mathlib.Omega.{arith}
 use borrow.Author.Tests as tests
 use lib.Dec.{ltb, leb, eqb, T}
@@ -129,3 +129,16 @@ pub below-suc : (q k : ℕ) → (q ≡ k → ⊥) → ltb q (suc k) ≡ ltb q k
 below-suc q k ne =
     same-truth (ltb q (suc k)) (ltb q k) (λ h. let l = ltb-lt q (suc k) h in lt-ltb {m = q} {n = k} (omega arith))
     (λ h. let l = ltb-lt q k h in lt-ltb {m = q} {n = suc k} (omega arith))
+
+-- two numbers compare as they do with another one before both
+pub same-on : (n x y : ℕ) → eqb (n + x) (n + y) ≡ eqb x y
+same-on n x y =
+    same-truth (eqb (n + x) (n + y)) (eqb x y)
+    (λ h. let e = eqb-eq (n + x) (n + y) h in eq-eqb {m = x} {n = y} (omega arith))
+    (λ h. let e = eqb-eq x y h in eq-eqb {m = n + x} {n = n + y} (omega arith))
+
+pub below-on : (n x y : ℕ) → ltb (n + x) (n + y) ≡ ltb x y
+below-on n x y =
+    same-truth (ltb (n + x) (n + y)) (ltb x y)
+    (λ h. let l = ltb-lt (n + x) (n + y) h in lt-ltb {m = x} {n = y} (omega arith))
+    (λ h. let l = ltb-lt x y h in lt-ltb {m = n + x} {n = n + y} (omega arith))

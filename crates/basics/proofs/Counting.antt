@@ -3,6 +3,7 @@ use mathlib.Core.Path.{_≡_, refl, sym}
 use mathlib.Core.Bool.{Bool, true, false, _&&_, cond, and-true}
 use mathlib.Core.Logic.{inl, inr}
 use Prim.Native.Nat.{ℕ, zero, suc, _+_, _≤_, _<_}
+use native.Mathlib.Nat.{add-zero, add-suc}
 use native.Mathlib.Omega.{arith}
 use native.Mathlib.Numerals.{add-one}
 use lib.Dec.{ltb, eqb, eqb·suc-suc}
@@ -41,6 +42,12 @@ pub count-past : (j k : ℕ) (f : ℕ → Bool) → j ≤ k → ((i : ℕ) → j
 unfolding count
 count-past j k f l h =
     upward (λ k. count k f ≡ count j f) j refl (λ k m same. let out = h k m in rw out (omega arith)) k l
+
+-- the numbers below n, and those behind them
+pub count-split : (n m : ℕ) (f : ℕ → Bool) → count (n + m) f ≡ count n f + count m (λ i. f (n + i))
+unfolding count
+count-split n zero f = rw (add-zero n) (omega arith)
+count-split n (suc m) f = let before = count-split n m f in rw (add-suc n m) (omega arith)
 
 -- f and g agree but for one number, a hit of f alone
 pub count-one :

@@ -4,8 +4,11 @@ pub mod Clears
 pub mod Counting
 pub mod Filled
 pub mod Growing
+pub mod Joined
+pub mod Laying
 pub mod Least
 pub mod Lists
+pub mod Overwriting
 pub mod Packed
 pub mod Radix
 pub mod Refusing

@@ -1,12 +1,13 @@
 -- Refusals one after the other: where the answer is none, no refusal is met; the answer is one of them. What a call answers that writes
--- items. Assumes nothing.
+-- items, and what it leaves. Assumes nothing.
 use mathlib.Core.Path.{_≡_, refl}
 use mathlib.Core.Bool.{Bool, true, false, cond}
+use mathlib.Core.List.{List}
 use mathlib.Core.Logic.{_⊎_, inl, inr}
 use Prim.Native.Nat.{ℕ, zero, suc, _≤_}
 use native.Mathlib.Omega.{arith}
 use lib.Dec.{eqb}
-use Rattle.basics.specs.Buffers.{or-else, as-written}
+use Rattle.basics.specs.Buffers.{or-else, as-written, zeros, filled, after-call}
 use Rattle.basics.proofs.Booleans.{either, eqb-eq, eqb-ne, eq-eqb, ne-eqb}
 
 -- a refusal that is not met, and those behind it
@@ -74,3 +75,14 @@ pub written-refused : (x y : ℕ) → x ≡ y → (x ≡ 0 → ⊥) → (count :
 unfolding as-written
 written-refused x zero e met count = absurd (met e)
 written-refused x (suc y) e met count = rw e
+
+-- WHAT A CALL LEAVES in a lent buffer: an accepted one what it writes, and a refused one nothing
+pub after-accepted : (number : ℕ) → number ≡ 0 → (x o : List ℕ) → after-call number x o ≡ filled x o
+unfolding after-call
+after-accepted zero e x o = refl
+after-accepted (suc r) e x o = absurd (omega arith)
+
+pub after-refused : (number : ℕ) → (number ≡ 0 → ⊥) → (x o : List ℕ) → after-call number x o ≡ zeros o
+unfolding after-call
+after-refused zero met x o = absurd (met refl)
+after-refused (suc r) met x o = refl

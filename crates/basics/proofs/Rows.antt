@@ -1,15 +1,18 @@
 -- Laws of rows of words, by number or of the items of a list: where each row has the same width, how long they are and which word stands
--- where. Assumes nothing.
+-- where; rows numbered on from others. Assumes nothing.
 use mathlib.Core.Path.{_≡_, refl, sym, _∙_, ap}
 use mathlib.Core.List.{List, [], _∷_, _++_, flatMap, append-nil, append-assoc}
 use mathlib.Core.Logic.{inl, inr}
 use Prim.Native.Nat.{ℕ, zero, suc, _+_, _*_, _≤_, _<_}
-use native.Mathlib.Nat.{mul-zero, mul-suc, mul-le-mul-left}
+use native.Mathlib.Nat.{add-zero, add-suc, mul-zero, mul-suc, mul-le-mul-left}
 use native.Mathlib.Omega.{arith}
 use lib.ListN.{length, getD, take, length-append, List·getD-append}
 use lib.Seq.{getD-append-add, take-suc, take-length}
+use Rattle.basics.specs.Joined.{numbered-on}
 use Rattle.basics.specs.Rows.{rows}
 use Rattle.basics.proofs.Booleans.{same-or}
+use Rattle.basics.proofs.Joined.{on-first, on-behind}
+use Rattle.basics.proofs.Upward.{below-sum}
 
 -- k rows of width w have w * k words
 pub rows-length :
@@ -44,6 +47,24 @@ pub rows-same :
 unfolding rows
 rows-same zero f g h = refl
 rows-same (suc k) f g h = let a = rows-same k f g (λ i l. h i (omega arith)) in let b = h k (omega arith) in cc
+
+-- rows numbered on from others stand behind them
+pub rows-on : (n m : ℕ) (f g : ℕ → List ℕ) → rows (n + m) (numbered-on n f g) ≡ rows n f ++ rows m g
+unfolding rows
+rows-on n zero f g =
+    rw (add-zero n) (rows-same n (numbered-on n f g) f (λ i l. on-first n f g i l) ∙ sym (append-nil (rows n f)))
+rows-on n (suc m) f g =
+    let before = rows-on n m f g in
+    let last = on-behind n f g m in
+    rw (add-suc n m, before, last) (append-assoc (rows n f) (rows m g) (g m))
+
+-- and where each of both has the same width, so has each of them all
+pub on-width :
+    (w n m : ℕ) (f g : ℕ → List ℕ) → ((i : ℕ) → i < n → length (f i) ≡ w) → ((i : ℕ) → i < m → length (g i) ≡ w) →
+    (i : ℕ) → i < n + m → length (numbered-on n f g i) ≡ w
+on-width w n m f g a b =
+    below-sum n m (λ i. length (numbered-on n f g i) ≡ w) (λ i l. rw (on-first n f g i l) (a i l))
+    (λ i l. rw (on-behind n f g i) (b i l))
 
 -- THE ROWS OF A LIST'S ITEMS
 module _ {X : Type 0} (row : X → List ℕ) where

@@ -3,7 +3,7 @@ use mathlib.Core.Bool.{cond}
 use mathlib.Core.List.{List, _++_}
 use Prim.Native.Nat.{ℕ, zero, suc, _-_}
 use lib.Dec.{eqb}
-use lib.ListN.{length, replicate}
+use lib.ListN.{length, drop, replicate}
 use Rattle.basics.specs.declared.Written.{Written}
 
 -- the first refusal that is not zero
@@ -22,3 +22,12 @@ zeros o = replicate (length o) 0
 -- a buffer that begins with these words, and is zero beyond them
 unfoldable pub filled : (new before : List ℕ) → List ℕ
 filled x o = x ++ replicate (length o - length x) 0
+
+-- a buffer that begins with these words, and is as it was beyond them
+unfoldable pub overwritten : (new before : List ℕ) → List ℕ
+overwritten x o = x ++ drop (length x) o
+
+-- a buffer after a call: what it writes and zero beyond that, or all zero where the call is refused
+unfoldable pub after-call : (number : ℕ) → (new before : List ℕ) → List ℕ
+after-call zero x o = filled x o
+after-call (suc r) x o = zeros o

@@ -1,5 +1,6 @@
 pub mod Bounded
 pub mod Buffers
+pub mod Joined
 pub mod Least
 pub mod Packed
 pub mod Rows

@@ -7,7 +7,7 @@ use Prim.Native.Nat.{ℕ, zero, suc, _≤_, _<_, min}
 use native.Mathlib.Omega.{arith}
 use lib.Dec.{ltb}
 use lib.ListN.{length}
-use Rattle.basics.specs.Buffers.{or-else, filled}
+use Rattle.basics.specs.Buffers.{or-else, filled, after-call}
 use Rattle.basics.proofs.Booleans.{either, ltb-lt, ltb-ge, lt-ltb, ge-ltb, ne-eqb, both-within}
 use Rattle.basics.proofs.Clears.{zeros-same}
 use Rattle.tables.specs.Table.{Limits, table-words}
@@ -16,7 +16,7 @@ use Rattle.patterns.specs.declared.Place.{Place}
 use Rattle.patterns.proofs.Answers.{passed-no-place}
 use Rattle.record_words.specs.Record.{full-records}
 use Rattle.record_words.proofs.Laws.{full-kept}
-use Rattle.complement.specs.Build.{Lent, room-of, too-long, room-refusal, build-refusal, as-counts, after-build, Build-says, Refused-with}
+use Rattle.complement.specs.Build.{Lent, room-of, too-long, room-refusal, build-refusal, as-counts, Build-says, Refused-with}
 use Rattle.complement.specs.Complement.{complement, complement-words, sets-words}
 use Rattle.complement.specs.Found.{quadruples, counted-to, Shows, Ends}
 use Rattle.complement.specs.Records.{capacity}
@@ -108,7 +108,7 @@ says-refused :
     {limits : Limits} {t : List ℕ} {lends l after : Lent} {k : ℕ} {p : Place} {r : Counts} →
     build-refusal limits t (room-of lends) ≡ k → (k ≡ 0 → ⊥) → p ≡ check-place t →
     Refused-with k p r l after → Same-sizes l lends → Build-says limits t r lends after
-unfolding as-counts after-build
+unfolding as-counts after-call
 says-refused {k = zero} e ne at h sizes = absurd (ne refl)
 says-refused {lends} {l} {k = suc k} e ne at h sizes =
     record {
@@ -123,7 +123,7 @@ pub says-built :
     r ≡ record { number = 0; states = length (complement t .states); edges = length (complement t .edges); place = no-place } →
     after .words ≡ filled (complement-words t) (lends .words) → after .sets ≡ filled (sets-words t) (lends .sets) →
     Build-says limits t r lends after
-unfolding as-counts after-build
+unfolding as-counts after-call
 says-built e answer words sets = record { answer = rw e answer; words = rw e words; sets = rw e sets }
 
 -- THE THREE REFUSALS of the build

@@ -9,7 +9,7 @@ use lib.ListN.{length}
 use lib.Pow.{pow-pos}
 use Rattle.basics.specs.Buffers.{filled}
 use Rattle.basics.proofs.Filled.{filled-take}
-use Rattle.basics.proofs.Refusing.{or-else-none}
+use Rattle.basics.proofs.Refusing.{or-else-none, after-accepted}
 use Rattle.automata.specs.Automaton.{Same}
 use Rattle.automata.specs.System.{At-most, Decides, Distinct, Exactly, state-at, numbered}
 use Rattle.automata.proofs.Explore.{explore-exactly, exactly-at-most}
@@ -35,7 +35,7 @@ use Rattle.layout.proofs.Valid.{chained-valid}
 use Rattle.layout.proofs.Words.{chained-length}
 use Rattle.record_words.specs.Record.{record-words}
 use Rattle.record_words.proofs.Laws.{rows-long}
-use Rattle.complement.specs.Build.{Lent, Room, room-of, room-refusal, build-refusal, as-counts, after-build, Build-says, used, used-sets}
+use Rattle.complement.specs.Build.{Lent, Room, room-of, room-refusal, build-refusal, as-counts, Build-says, used, used-sets}
 use Rattle.complement.specs.Complement.{system-of, complement, complement-automaton, complement-words, sets-words}
 use Rattle.complement.specs.declared.Counts.{Counts}
 use Rattle.complement.proofs.Room.{states-over, table-over, all-fits, room-cases}
@@ -183,12 +183,10 @@ module _
 
   -- what is left of the words begins with the complement's table, and of the sets with its quadruples
   pub words-left : after .words ≡ filled (complement-words t) (before .words)
-  unfolding after-build
-  words-left = rw build-accepted at (says .words)
+  words-left = says .words ∙ after-accepted _ build-accepted (complement-words t) (before .words)
 
   pub sets-left : after .sets ≡ filled (sets-words t) (before .sets)
-  unfolding after-build
-  sets-left = rw build-accepted at (says .sets)
+  sets-left = says .sets ∙ after-accepted _ build-accepted (sets-words t) (before .sets)
 
   -- the used part of the words is the complement's table
   pub build-used : used r (after .words) ≡ complement-words t

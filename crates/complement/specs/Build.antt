@@ -5,7 +5,7 @@ use mathlib.Core.List.{List}
 use Prim.Native.Nat.{ℕ, zero, suc, _*_}
 use lib.Dec.{ltb}
 use lib.ListN.{length, take}
-use Rattle.basics.specs.Buffers.{or-else, zeros, filled}
+use Rattle.basics.specs.Buffers.{or-else, zeros, after-call}
 use Rattle.tables.specs.Table.{Limits, table-words}
 use Rattle.patterns.specs.Check.{check-refusal, no-place, check-place}
 use Rattle.patterns.specs.declared.Place.{Place}
@@ -48,18 +48,13 @@ unfoldable pub as-counts : (number : ℕ) → Place → (states edges : ℕ) →
 as-counts zero p n m = record { number = 0; states = n; edges = m; place = no-place }
 as-counts (suc r) p n m = record { number = suc r; states = 0; edges = 0; place = p }
 
--- a buffer after the build: the words built and zero beyond them, or all zero where it is refused
-unfoldable pub after-build : (number : ℕ) → (new before : List ℕ) → List ℕ
-after-build zero x o = filled x o
-after-build (suc r) x o = zeros o
-
 -- what the build of a table of a range answers, with the check's place, and what it leaves of the lent buffers
 pub record Build-says (limits : Limits) (t : List ℕ) (r : Counts) (before after : Lent) : Type 0 where
   pub answer :
       r
       ≡ as-counts (build-refusal limits t (room-of before)) (check-place t) (length (complement t .states)) (length (complement t .edges))
-  pub words : after .words ≡ after-build (build-refusal limits t (room-of before)) (complement-words t) (before .words)
-  pub sets : after .sets ≡ after-build (build-refusal limits t (room-of before)) (sets-words t) (before .sets)
+  pub words : after .words ≡ after-call (build-refusal limits t (room-of before)) (complement-words t) (before .words)
+  pub sets : after .sets ≡ after-call (build-refusal limits t (room-of before)) (sets-words t) (before .sets)
 
 -- a refusal: its number and place and nothing else, and every buffer is zero
 pub record Refused-with (number : ℕ) (p : Place) (r : Counts) (before after : Lent) : Type 0 where

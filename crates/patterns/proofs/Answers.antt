@@ -59,7 +59,7 @@ module _ (t : List ℕ) where
     unfolding check-refusal or-else
     uneven-refused e = rw (passed, e)
 
-    even-none : semi-deterministic (meaning t) ≡ true → check-refusal t ≡ 0
+    pub even-none : semi-deterministic (meaning t) ≡ true → check-refusal t ≡ 0
     unfolding check-refusal or-else
     even-none e = rw (passed, e)
 

@@ -10,4 +10,5 @@ pub mod Rounds
 pub mod Rows
 pub mod Shapes
 pub mod Split
+pub mod Union
 pub mod Walks
