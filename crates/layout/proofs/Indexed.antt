@@ -11,11 +11,13 @@ use Rattle.basics.specs.Buffers.{filled}
 use Rattle.basics.proofs.Filled.{filled-length, filled-at}
 use Rattle.automata.specs.Automaton.{Automaton}
 use Rattle.automata.specs.System.{Edge, edge-at}
+use Rattle.tables.specs.Made.{table-of}
 use Rattle.tables.specs.Table.{table-words, n-of, k-of, m-of, flags-of, head-of, letter-of, target-of, next-of}
+use Rattle.tables.proofs.Made.{made-state, made-record}
 use Rattle.tables.proofs.Places.{Word-place, states-place, letters-place, records-place, flags-place, head-place, letter-place, target-place, next-place, beyond-place, place-of, letter-at, target-at, next-at}
 use Rattle.layout.specs.Chained.{first-record, next-record, flags-word, record-row, state-row, chained-words}
 use Rattle.layout.specs.Triples.{plain}
-use Rattle.layout.proofs.Words.{chained-length, state-word, record-word}
+use Rattle.layout.proofs.Words.{states-width, records-width, chained-length}
 
 -- the words are those of the table, and zero beyond it
 pub record Indexed (a : Automaton) (es : List Edge) (w : List ℕ) : Type 0 where
@@ -93,17 +95,21 @@ module _ (a : Automaton) (es : List Edge) where
 
   -- THE TABLE'S OWN WORDS
   pub chained-indexed : Indexed a es (chained-words a es)
-  unfolding chained-words state-row record-row
+  unfolding chained-words table-of state-row record-row
   chained-indexed =
+      let two = states-width a es in
+      let three = records-width a es in
+      let state = made-state (a .states) (a .letters) (length es) (state-row a es) (record-row es) two three in
+      let links = made-record (a .states) (a .letters) (length es) (state-row a es) (record-row es) two three in
       record {
         states = refl;
         letters = refl;
         records = refl;
-        flags = λ i l. state-word a es i 0 l (omega arith) (3 + 2 * i) (omega arith);
-        head = λ i l. state-word a es i 1 l (omega arith) (4 + 2 * i) (omega arith);
-        letter = λ r l. record-word a es r 0 l (omega arith) (3 + 2 * a .states + 3 * r) (omega arith);
-        target = λ r l. record-word a es r 1 l (omega arith) (4 + 2 * a .states + 3 * r) (omega arith);
-        next = λ r l. record-word a es r 2 l (omega arith) (5 + 2 * a .states + 3 * r) (omega arith);
+        flags = λ i l. state i 0 l (omega arith) (3 + 2 * i) (omega arith);
+        head = λ i l. state i 1 l (omega arith) (4 + 2 * i) (omega arith);
+        letter = λ r l. links r 0 l (omega arith) (3 + 2 * a .states + 3 * r) (omega arith);
+        target = λ r l. links r 1 l (omega arith) (4 + 2 * a .states + 3 * r) (omega arith);
+        next = λ r l. links r 2 l (omega arith) (5 + 2 * a .states + 3 * r) (omega arith);
         beyond =
             λ i l.
             let past : length (chained-words a es) ≤ i = (let long = chained-length a es in omega arith) in

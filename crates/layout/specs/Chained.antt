@@ -1,13 +1,13 @@
 -- The words of a table whose chains run through consecutive records (docs/RULES.md, "Numbering and result"). Assumes nothing: these are definitions.
 use mathlib.Core.Bool.{_&&_, cond}
-use mathlib.Core.List.{List, [], _∷_, _++_}
+use mathlib.Core.List.{List, [], _∷_}
 use Prim.Native.Nat.{ℕ, suc}
 use lib.Dec.{ltb, eqb}
 use lib.ListN.{length}
 use Rattle.basics.specs.Least.{least}
-use Rattle.basics.specs.Rows.{rows}
 use Rattle.automata.specs.Automaton.{Automaton}
 use Rattle.automata.specs.System.{Edge, edge-at}
+use Rattle.tables.specs.Made.{table-of}
 use Rattle.tables.specs.Table.{flags}
 
 -- the number of the first record with this source; zero where there is none
@@ -30,8 +30,6 @@ state-row a es i = flags-word a i ∷ first-record i es ∷ []
 unfoldable pub record-row : List Edge → (r : ℕ) → List ℕ
 record-row es r = edge-at es r .letter ∷ edge-at es r .target ∷ next-record es r ∷ []
 
--- n, k, m; flags and head of each state; letter, target and next of each record
+-- the table made of these rows
 unfoldable pub chained-words : Automaton → List Edge → List ℕ
-chained-words a es =
-    (a .states ∷ a .letters ∷ length es ∷ [])
-    ++ (rows (a .states) (state-row a es) ++ rows (length es) (record-row es))
+chained-words a es = table-of (a .states) (a .letters) (length es) (state-row a es) (record-row es)

@@ -78,8 +78,8 @@ fn link(words: &mut [u16], states: usize, edges: usize)
     }
 }
 
-// The counts n, k and m.
-fn write_counts(words: &mut [u16], states: usize, letters: usize, edges: usize)
+// The counts n, k and m, before all else.
+pub fn write_counts(words: &mut [u16], states: usize, letters: usize, edges: usize)
     requires { ⌜ Counts-ask word-bits (now words) states letters edges ⌝ }
     ensures { λ _. ⌜ now (words .exit) ≡ with-counts states letters edges (now (words .entry)) ⌝ }
 {

@@ -2,6 +2,7 @@ pub mod Chains
 pub mod Checks
 pub mod Flags
 pub mod Laws
+pub mod Made
 pub mod Marking
 pub mod Places
 pub mod Refusals

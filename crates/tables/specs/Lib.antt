@@ -1,4 +1,5 @@
 pub mod Access
+pub mod Made
 pub mod Marks
 pub mod Rows
 pub mod Table
