@@ -17,40 +17,18 @@ use Rattle.automata.specs.Lasso.{positions}
 use Rattle.automata.proofs.Decision.{takes-found}
 use Rattle.tables.specs.Table.{Limits, n-of, meaning}
 use Rattle.tables.proofs.Laws.{Valid, valid, meaning-closed}
+use Rattle.lasso_search.specs.Product.{product-graph}
+use Rattle.lasso_search.specs.Search.{colour}
+use Rattle.lasso_search.specs.Steps.{Given, Search-asks, Searched, found, nothing}
+use Rattle.lasso_search.specs.Width.{Width, machine-bits, colours, word-colours, Width-fits}
+use Rattle.lasso_search.proofs.Given.{size-is}
+use Rattle.lasso_search.proofs.Outer.{fresh}
+use Rattle.lasso_search.proofs.Product.{found-cycle}
+use Rattle.lasso_search.proofs.Width.{colour-word}
 use Rattle.lassos.specs.Decision.{as-decision, decision, Takes-asks}
-use Rattle.lassos.specs.Graph.{Graph}
-use Rattle.lassos.specs.Product.{product-graph}
 use Rattle.lassos.specs.Refusals.{longest-part, lasso-refusal}
-use Rattle.lassos.specs.Search.{colour, Search}
-use Rattle.lassos.specs.Steps.{Given, Search-asks, Searched, found, nothing}
-use Rattle.lassos.specs.Width.{Width, machine-bits, white, grey, colours, word-colours, Width-fits}
 use Rattle.lassos.specs.declared.Decision.the-variants.{Taken, NotTaken, Refused}
-use Rattle.lassos.proofs.Colours.{coloured-le}
-use Rattle.lassos.proofs.Given.{size-is}
 use Rattle.lassos.proofs.Parts.{Accepted, accepted}
-use Rattle.lassos.proofs.Product.{found-cycle}
-use Rattle.lassos.proofs.Width.{colour-word}
-
--- THE BEGINNING: all nodes are white, and the stack is empty
-pub fresh : (wd : Width) (g : Graph) (w : List ℕ) → 4 * g .size ≤ length w → ((x : ℕ) → x < g .size → colour wd w x ≡ white) → Search wd g w 0
-fresh wd g w long unseen =
-    let unmet : (x : ℕ) → x < g .size → grey ≤ colour wd w x → ⊥ = λ x l o. (let k = unseen x l in omega arith) in
-    record {
-      long = long;
-      room = let k = coloured-le wd white (g .size) w in omega arith;
-      stack =
-          record {
-            places = λ i l. absurd (omega arith);
-            distinct = λ i j l m. absurd (omega arith);
-            linked = λ i l. absurd (omega arith);
-          };
-      greys = λ i l. absurd (omega arith);
-      on-stack = λ x l k. absurd (unmet x l (omega arith));
-      reached = λ x l o. absurd (unmet x l o);
-      finished = λ x y l o. absurd (unmet x l (omega arith));
-      closed = record { edges = λ x y l o. absurd (unmet x l (omega arith)) };
-      fruitless = λ x l o. absurd (unmet x l (omega arith));
-    }
 
 -- A TABLE AND A LASSO that are not refused
 module _ {wd : Width} (fits : Width-fits wd) {t u v w : List ℕ} (a : Takes-asks (wd .range) t u v w) where

@@ -1,16 +1,3 @@
 pub mod Answers
-pub mod Chains
-pub mod Colours
 pub mod Decides
-pub mod Descends
-pub mod Drains
-pub mod Explores
-pub mod Follows
-pub mod Given
-pub mod Inner
-pub mod Outer
 pub mod Parts
-pub mod Places
-pub mod Product
-pub mod Stores
-pub mod Width

@@ -15,8 +15,8 @@ use Rattle.basics.proofs.Scans.{scan-fails}
 use Rattle.automata.specs.Lasso.{all-below, Lasso}
 use Rattle.tables.specs.Table.{Limits, n-of, k-of, table-refusal}
 use Rattle.tables.proofs.Refusals.{table-most}
+use Rattle.lasso_search.specs.Width.{machine-bits, Few}
 use Rattle.lassos.specs.Refusals.{longest-part, lengths-refusal, parts-refusal, lasso-refusal}
-use Rattle.lassos.specs.Width.{machine-bits, Few}
 
 -- A LETTER of a part that is none
 pub not-below : (k : ℕ) (u : List ℕ) (i : ℕ) → i < length u → k ≤ getD u i 0 → false ≡ all-below k u

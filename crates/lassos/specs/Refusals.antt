@@ -7,10 +7,7 @@ use lib.ListN.{length}
 use Rattle.basics.specs.Buffers.{or-else}
 use Rattle.automata.specs.Lasso.{all-below}
 use Rattle.tables.specs.Table.{Limits, n-of, k-of, table-refusal}
-
--- a prefix, and a loop, have at most 4,096 letters
-abbrev pub longest-part : ℕ
-longest-part = 4096
+pub use Rattle.lasso_search.specs.Width.{longest-part}
 
 -- 13 and 14, by how many letters the prefix and the loop have
 unfoldable pub lengths-refusal : (prefix loop : ℕ) → ℕ

@@ -1,12 +1,7 @@
 // The lasso decision: whether a table takes the word of a prefix and a loop.
-mod colouring;
-mod inner_search;
-mod nodes;
-mod outer_search;
-
 use basics::clear32;
-use colouring::WORD_COLOURS;
-use outer_search::search;
+use lasso_search::WORD_COLOURS;
+use lasso_search::search;
 use tables::WIDE_RECORDS;
 use tables::WIDE_STATES;
 use tables::letters_of;
@@ -18,9 +13,9 @@ ghost use lib.ListN.{length};
 ghost use Rattle.automata.specs.Decision.{takes?};
 ghost use Rattle.automata.specs.Lasso.{all-below};
 ghost use Rattle.tables.specs.Table.{wide-range, meaning, table-refusal};
+ghost use Rattle.lasso_search.specs.Width.{width-16};
 ghost use Rattle.lassos.specs.Decision.{decision, Lasso-says, Takes-asks};
 ghost use Rattle.lassos.specs.Refusals.{lengths-refusal, parts-refusal};
-ghost use Rattle.lassos.specs.Width.{width-16};
 
 // The letters that a prefix may have, and a loop.
 pub const PART_LETTERS: usize = 4096;

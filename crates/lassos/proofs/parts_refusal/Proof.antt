@@ -4,7 +4,7 @@ use borrow.Author.Tests.{not-true, not-false}
 use mathlib.Core.Path.{sym, _∙_}
 use Prim.Native.Nat.{_^_}
 use native.Mathlib.Omega.{arith}
-use Rattle.lassos.specs.Width.{width-16}
+use Rattle.lasso_search.specs.Width.{width-16}
 use Rattle.lassos.proofs.Parts.{lengths-past, parts-lengths, parts-15-prefix, parts-15-loop, parts-16, parts-pass, needed-fits}
 use Rattle.lassos.proofs.parts_refusal.Statement.{statement}
 use Rattle.lassos.proofs.parts_refusal.Tie as tie

@@ -4,8 +4,8 @@ use borrow.Author.Needs.{needs}
 use mathlib.Core.Path.{sym}
 use native.Mathlib.Omega.{arith}
 use lib.Seq.{length-take-le}
+use Rattle.lasso_search.proofs.Width.{width-16-fits}
 use Rattle.lassos.proofs.Decides.{size-fits, colours-inside, takes-explore, takes-end}
-use Rattle.lassos.proofs.Width.{width-16-fits}
 use Rattle.lassos.proofs.takes.Statement.{statement}
 use Rattle.lassos.proofs.takes.Tie as tie
 

@@ -1,0 +1,13 @@
+pub mod Chains
+pub mod Colours
+pub mod Descends
+pub mod Drains
+pub mod Explores
+pub mod Follows
+pub mod Given
+pub mod Inner
+pub mod Outer
+pub mod Places
+pub mod Product
+pub mod Stores
+pub mod Width
