@@ -1,0 +1,11 @@
+pub mod Answers
+pub mod Chains
+pub mod Laid
+pub mod Links
+pub mod Meaning
+pub mod Passed
+pub mod Refusals
+pub mod Rows
+pub mod Turns
+pub mod Valid
+pub mod Words

@@ -1,0 +1,4 @@
+pub mod Merge
+pub mod Merged
+pub mod Rows
+pub mod Steps
