@@ -29,10 +29,9 @@ use Rattle.lassos.specs.declared.Decision.the-variants.{Taken, NotTaken, Refuse
 use Rattle.lassos.proofs.Answers.{says-taken, says-not-taken, says-refused, lasso-refused}
 use Rattle.tubochre.specs.Calls.{as-answer, Lasso-answers}
 use Rattle.tubochre.specs.declared.Answer.{Answer}
-use Rattle.tubochre.specs.Demand.{Reached-exactly, Second-demand, Refused-builds, Not-refused, Compared, Third-demand, Demands}
-use Rattle.tubochre.proofs.Answers.{not-refused, lasso-demand}
-use Rattle.tubochre.proofs.Checks.{placed-exactly, check-demand}
-use Rattle.tubochre.proofs.Trays.{tray-demand, third-tray}
+use Rattle.tubochre.specs.Demand.{Reached-exactly, Second-demand, Refused-builds, Not-refused, Compared, Third-demand}
+use Rattle.tubochre.proofs.Answers.{not-refused}
+use Rattle.tubochre.proofs.Checks.{placed-exactly}
 use Rattle.tubochre.proofs.Refusals.{Met, which-refusal, refused-checked, checked-refused, refused-states, states-refused, refused-words, words-refused, refused-none, none-refused, refused-most}
 
 -- THE COMPLEMENT of a pattern that passes is exactly what is reached
@@ -86,14 +85,14 @@ refused-builds range t r before after says =
 -- AN ANSWER IN NUMBERS stands for a decision
 module _
     {range : Limits} {t u v : List ℕ} {r : Answer} {w w-now : List ℕ} (answers : Lasso-answers range t u v r w w-now) where
-  abbrev decided : Decision
+  abbrev pub decided : Decision
   decided = decision range t u v (length w)
 
-  stands-for : Lasso-says range t u v decided w w-now
+  pub stands-for : Lasso-says range t u v decided w w-now
   stands-for = record { answer = refl; work = answers .work }
 
   -- which refuses only by a number other than 0
-  accepts : r .number ≡ 0 → Not-refused decided
+  pub accepts : r .number ≡ 0 → Not-refused decided
   unfolding Not-refused as-answer
   accepts zero number refused =
       let (met, some) = says-refused stands-for number .0 refused in
@@ -101,7 +100,7 @@ module _
       omega arith
 
 -- `taken` is 1 for a decision that says so, and 0 for one that does not
-numbers-taken : {r : Answer} {d : Decision} → r ≡ as-answer d → d ≡ Taken → r .taken ≡ 1
+pub numbers-taken : {r : Answer} {d : Decision} → r ≡ as-answer d → d ≡ Taken → r .taken ≡ 1
 unfolding as-answer
 numbers-taken e h = ap (λ (x : Answer). x .taken) (e ∙ ap as-answer h)
 
@@ -180,20 +179,3 @@ unfolding Third-demand
 third-demand range wider t answer r before after u v checks passes says accepted lasso =
     compared-as wider t (build-passed says accepted) (build-fits says accepted) u v lasso (build-used says accepted)
     (build-states says accepted)
-
--- ALL OF THEM, as one fact over the width
-pub demands : {bits : ℕ} {range : Limits} → Range-fits bits range → Wider pattern-range range → Demands bits range
-demands {range} fits wider =
-    record {
-      check = check-demand;
-      second = second-demand fits;
-      refused = refused-builds range;
-      lassos = lasso-demand range;
-      trays = tray-demand range;
-      third = third-demand range wider;
-      third-tray = third-tray range wider (third-demand range wider);
-    }
-
--- and for wide tables of 16-bit words
-pub wide-demands : Demands word-bits wide-range
-wide-demands = demands wide-fits wide-patterns

@@ -1,7 +1,9 @@
 pub mod Answers
 pub mod Checks
 pub mod Demand
+pub mod Demands
 pub mod Inside
+pub mod Merges
 pub mod Refusals
 pub mod Trays
 pub mod Trying

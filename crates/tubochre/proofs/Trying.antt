@@ -17,7 +17,7 @@ use Rattle.lassos.specs.Decision.{Lasso-says}
 use Rattle.tubochre.specs.Trying.{Decided-built, Trial-says}
 use Rattle.tubochre.specs.Demand.{Third-demand}
 use Rattle.tubochre.specs.declared.Trial.{Trial}
-use Rattle.tubochre.proofs.Demand.{wide-demands}
+use Rattle.tubochre.proofs.Demands.{wide-demands}
 
 module _
     {t u v w between w-now : List ℕ}

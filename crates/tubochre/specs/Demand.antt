@@ -246,15 +246,3 @@ Third-tray range =
     (xs : List Parts) (p q : Written) (a a-now w w-now b b-now z z-now : List ℕ) → length xs ≡ length a → length xs ≡ length b →
     Tray-says range t (list-of xs) p a a-now w w-now → Tray-says range (used r (after .words)) (list-of xs) q b b-now z z-now →
     Tray-compared t (used r (after .words)) xs p q a-now b-now
-
--- ALL OF THEM, for tables of a range in words of so many bits
-pub record Demands (bits : ℕ) (range : Limits) : Type 0 where
-  -- of patterns alone
-  pub check : Check-demand
-  -- of tables of the range
-  pub second : Second-demand bits range
-  pub refused : Refused-builds range
-  pub lassos : Lasso-demand range
-  pub trays : Tray-demand range
-  pub third : Third-demand range
-  pub third-tray : Third-tray range

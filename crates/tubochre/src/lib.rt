@@ -11,6 +11,7 @@ ghost use Rattle.patterns.specs.Check.{checked};
 ghost use Rattle.tables.specs.Table.{wide-range};
 ghost use Rattle.complement.specs.Build.{lent, Build-says};
 ghost use Rattle.trays.specs.Answers.{Tray-says};
+ghost use Rattle.merge.specs.Merge.{Merge-says};
 ghost use Rattle.tubochre.specs.Calls.{as-check-answer, as-answer, Lasso-answers};
 ghost use Rattle.tubochre.specs.Trying.{Used-inside, Decided-built, Trial-says};
 
@@ -84,6 +85,14 @@ pub extern "C" fn tubochre_tray(
     ensures { λ r. ⌜ Tray-says wide-range (now (table .entry)) (now (list .entry)) r (now (answers .entry)) (now (answers .exit)) (now (work .entry)) (now (work .exit)) ⌝ }
 {
     trays::decide_tray(table, list, answers, work)
+}
+
+// Two patterns made into one, in the lent words.
+#[no_mangle]
+pub extern "C" fn tubochre_merge(first: &[u16], second: &[u16], words: &mut [u16]) -> Written
+    ensures { λ r. ⌜ Merge-says (now (first .entry)) (now (second .entry)) r (now (words .entry)) (now (words .exit)) ⌝ }
+{
+    merge::merge_patterns(first, second, words)
 }
 
 fn in_numbers(decision: Decision) -> Answer
