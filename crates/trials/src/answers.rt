@@ -63,16 +63,38 @@ fn print_bytes(bytes: &[u8]) {
     }
 }
 
-// How many lassos a tray's call decided, or the refusal's number, and what the answer bytes hold after it.
-pub(crate) fn print_written(answer: Written, bytes: &[u8]) {
+// Words, each behind a blank.
+fn print_words(words: &[u16]) {
+    let mut i = 0;
+    while i < words.len() {
+        print_number(b" ", words[i] as u32);
+        i += 1;
+    }
+}
+
+// How many of these a call wrote, or the refusal's number.
+fn print_written(answer: Written, these: &[u8]) {
     if answer.number != 0 {
         print_number(b": refused ", answer.number);
     } else {
         io::write_all(1, b": ");
         io::print_decimal(1, answer.count as u64);
-        io::write_all(1, b" lassos");
+        io::write_all(1, these);
     }
+}
+
+// What a tray's call answers, and what the answer bytes hold after it.
+pub(crate) fn print_tray(answer: Written, bytes: &[u8]) {
+    print_written(answer, b" lassos");
     io::write_all(1, b", bytes");
     print_bytes(bytes);
+    io::write_all(1, b"\n");
+}
+
+// What a merge answers, and what lent words hold after it.
+pub(crate) fn print_merged(answer: Written, lent: &[u16]) {
+    print_written(answer, b" words");
+    io::write_all(1, b", lent");
+    print_words(lent);
     io::write_all(1, b"\n");
 }

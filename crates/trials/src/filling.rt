@@ -64,6 +64,17 @@ fn put_rows(
     total
 }
 
+// Makes a table of words that stand elsewhere, and answers how many it has.
+pub(crate) fn put_words(words: &[u16], table: &mut [u16]) -> usize {
+    let mut total = 0;
+    let mut i = 0;
+    while i < words.len() {
+        total = put(table, total, words[i] as usize);
+        i += 1;
+    }
+    total
+}
+
 // Does what a line about a table says, and answers how many words the table then has.
 pub(crate) fn filled(text: &[u8], from: usize, to: usize, table: &mut [u16], used: usize) -> usize {
     let rest = behind(text, from, b' ');

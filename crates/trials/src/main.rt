@@ -3,6 +3,7 @@
 mod answers;
 mod filling;
 mod lasso;
+mod pair;
 mod scan;
 mod script;
 mod tray;

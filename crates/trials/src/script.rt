@@ -9,12 +9,15 @@
 //     many NAME: WORK BYTES COUNT WORDS
 //                                  decides each lasso of a list of COUNT words, which are these and then zeros, in so many work
 //                                  words and so many answer bytes
+//     join NAME: SIZE LENT FROM    merges the pattern of the table's first SIZE words with that of the others in so many lent words,
+//                                  of which those from a place on are printed; the merged pattern is the table from then on
 //
-// Each of the last five prints its name and the answer.
+// Each of the last six prints its name and the answer.
 use crate::answers::print_checked;
 use crate::answers::print_counts;
 use crate::filling::filled;
 use crate::lasso::decide;
+use crate::pair::join;
 use crate::scan::behind;
 use crate::scan::decimal;
 use crate::tray::decide_many;
@@ -55,7 +58,7 @@ fn decide_over_complement(table: &[u16], text: &[u8], at: usize) {
 
 fn is_command(letter: u8) -> bool {
     match letter {
-        b'p' | b'b' | b'l' | b'c' | b'm' => true,
+        b'p' | b'b' | b'l' | b'c' | b'm' | b'j' => true,
         _ => false,
     }
 }
@@ -81,19 +84,30 @@ fn print_name(text: &[u8], from: usize, to: usize) {
     }
 }
 
-// Does what a line asks of a table: a name, and behind a colon what is given.
-fn ask(text: &[u8], from: usize, table: &[u16]) {
+// Does what a line asks of a table's words in use, and answers how many these then are: only a join changes them.
+fn answer_over(command: u8, table: &mut [u16], used: usize, text: &[u8], at: usize) -> usize {
+    if command == b'j' {
+        return join(table, used, text, at);
+    }
+    if used <= table.len() {
+        answer(command, &table[0..used], text, at);
+    }
+    used
+}
+
+// Does what a line asks of a table: a name, and behind a colon what is given. Answers how many words the table then has.
+fn ask(text: &[u8], from: usize, table: &mut [u16], used: usize) -> usize {
     if from >= text.len() {
-        return;
+        return used;
     }
     let command = text[from];
     if !is_command(command) {
-        return;
+        return used;
     }
     let name = behind(text, from, b' ');
     let colon = behind(text, name, b':');
     print_name(text, name, colon);
-    answer(command, table, text, behind(text, colon, b' '));
+    answer_over(command, table, used, text, behind(text, colon, b' '))
 }
 
 pub(crate) fn run(text: &[u8], table: &mut [u16]) {
@@ -102,9 +116,7 @@ pub(crate) fn run(text: &[u8], table: &mut [u16]) {
     while at < text.len() {
         let end = behind(text, at, b'\n');
         used = filled(text, at, end, table, used);
-        if used <= table.len() {
-            ask(text, at, &table[0..used]);
-        }
+        used = ask(text, at, table, used);
         at = end;
     }
 }

@@ -1,5 +1,5 @@
 // Trays of lassos: a list of words, in which each lasso is its prefix length, its loop length and its letters.
-use crate::answers::print_written;
+use crate::answers::print_tray;
 use crate::filling::put_row;
 use crate::scan::behind;
 use crate::scan::decimal;
@@ -10,7 +10,7 @@ fn decide_in(count: usize, table: &[u16], list: &[u16], bytes: &mut [u8]) {
     let mut work = [7u32; 512];
     if count <= 512 {
         let written = decide_tray(table, list, bytes, &mut work[0..count]);
-        print_written(written, bytes);
+        print_tray(written, bytes);
     }
 }
 

@@ -21,15 +21,6 @@ behind-requires c κs = search needs
 filled-requires : tie.Need-filled-requires Inv-loop μ-loop
 filled-requires c κs = search needs
 
-sub-ask : tie.Need-sub-ask Inv-loop μ-loop
-sub-ask c = search needs
-
-part-ask-start : tie.Need-part-ask-start Inv-loop μ-loop
-part-ask-start c = search needs
-
-part-ask-end : tie.Need-part-ask-end Inv-loop μ-loop
-part-ask-end c = search needs
-
 ask-requires : tie.Need-ask-requires Inv-loop μ-loop
 ask-requires c κs = search needs
 
@@ -38,12 +29,6 @@ loop-less c = search needs
 
 loop-again : tie.Need-loop-again Inv-loop μ-loop
 loop-again c = search needs
-
-loop-less-2 : tie.Need-loop-less-2 Inv-loop μ-loop
-loop-less-2 c = search needs
-
-loop-again-2 : tie.Need-loop-again-2 Inv-loop μ-loop
-loop-again-2 c = search needs
 
 same-length : tie.Need-same-length Inv-loop μ-loop
 same-length c = search needs
@@ -60,13 +45,8 @@ run-spec =
     loop-holds
     behind-requires
     filled-requires
-    sub-ask
-    part-ask-start
-    part-ask-end
     ask-requires
     loop-less
     loop-again
-    loop-less-2
-    loop-again-2
     same-length
     returns)
