@@ -20,10 +20,12 @@ FOLDERS = include programs bench tests/calls tests/support tests/reference
 BUILD = $(CC) -std=c11 $(WARNINGS) $(CFLAGS) $(addprefix -I,$(FOLDERS))
 
 HEADERS = $(wildcard include/*.h programs/*.h bench/*.h tests/*/*.h)
-PARTS = $(addprefix programs/,common.c text.c words.c places.c lassos.c tray.c complement.c print.c progress.c)
+PARTS = $(addprefix programs/,common.c text.c words.c places.c refusals.c lassos.c tray.c merge.c complement.c \
+	print.c progress.c)
 SUPPORT = $(addprefix tests/support/,arguments.c draw.c expect.c fence.c rings.c room.c stack.c)
-REFERENCE = $(addprefix tests/reference/,reference.c reference_lasso.c reference_tray.c reference_listing.c)
-CALLS = $(addprefix $(OUT)/,test_calls test_forks test_rooms test_limits test_null test_tray)
+REFERENCE = $(addprefix tests/reference/,reference.c reference_lasso.c reference_tray.c reference_merge.c \
+	reference_listing.c)
+CALLS = $(addprefix $(OUT)/,test_calls test_forks test_rooms test_limits test_null test_tray test_merge)
 TESTS = $(CALLS) $(addprefix $(OUT)/,test_header test_header_cxx test_records test_places compare compare_listing)
 
 .PHONY: run test test-c tests lib host bench install clean

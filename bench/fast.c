@@ -598,3 +598,55 @@ struct fast_written fast_tray(const uint16_t *table, size_t len, const uint16_t 
     written.count = lassos;
     return written;
 }
+
+/* ---- The merge. */
+
+static uint32_t merge_refusal(const uint16_t *first, const uint16_t *second, size_t words_len)
+{
+    const uint32_t n = (uint32_t)first[0] + second[0], m = (uint32_t)first[2] + second[2];
+    if (first[1] != second[1])
+        return 19;
+    if (n > STATES)
+        return 20;
+    if (m > RECORDS)
+        return 21;
+    return words_len < tubochre_table_words(n, m) ? 22 : 0;
+}
+
+/* Copies both, and then moves the numbers of the second on, where they stand. */
+static void join(const uint16_t *first, const uint16_t *second, uint16_t *words)
+{
+    const uint32_t n1 = first[0], m1 = first[2], n2 = second[0], m2 = second[2];
+    uint16_t *const states = words + 3 + 2 * n1, *const records = words + 3 + 2 * (n1 + n2);
+    uint16_t *const more = records + 3 * m1;
+    uint32_t i;
+    words[0] = (uint16_t)(n1 + n2);
+    words[1] = first[1];
+    words[2] = (uint16_t)(m1 + m2);
+    memcpy(words + 3, first + 3, 2 * n1 * sizeof *words);
+    memcpy(states, second + 3, 2 * n2 * sizeof *words);
+    memcpy(records, first + 3 + 2 * n1, 3 * m1 * sizeof *words);
+    memcpy(more, second + 3 + 2 * n2, 3 * m2 * sizeof *words);
+    for (i = 0; i < n2; i++)
+        states[2 * i + 1] = (uint16_t)(states[2 * i + 1] + (states[2 * i + 1] != 0 ? m1 : 0));
+    for (i = 0; i < m2; i++) {
+        more[3 * i + 1] = (uint16_t)(more[3 * i + 1] + n1);
+        more[3 * i + 2] = (uint16_t)(more[3 * i + 2] + (more[3 * i + 2] != 0 ? m1 : 0));
+    }
+}
+
+struct fast_written fast_merge(const uint16_t *first, size_t first_len, const uint16_t *second, size_t second_len,
+                               uint16_t *words, size_t words_len)
+{
+    struct fast_written written = {fast_check(first, first_len).number, 0};
+    if (written.number == 0)
+        written.number = fast_check(second, second_len).number;
+    if (written.number == 0)
+        written.number = merge_refusal(first, second, words_len);
+    if (written.number == 0) {
+        join(first, second, words);
+        written.count = tubochre_table_words(words[0], words[2]);
+    }
+    memset(words + written.count, 0, (words_len - written.count) * sizeof *words);
+    return written;
+}

@@ -1,4 +1,4 @@
-/* The same four jobs without any proof, written for speed: what the library's times are measured against. */
+/* The same five jobs without any proof, written for speed: what the library's times are measured against. */
 #ifndef FAST_H
 #define FAST_H
 
@@ -49,5 +49,8 @@ struct fast_decision fast_lasso(const uint16_t *table, size_t len, const uint8_t
  * that the largest of them takes there. It measures none against them: the benchmark lends enough. */
 struct fast_written fast_tray(const uint16_t *table, size_t len, const uint16_t *list, size_t list_len,
                               uint8_t *answers, size_t answers_len, uint32_t *work);
+
+struct fast_written fast_merge(const uint16_t *first, size_t first_len, const uint16_t *second, size_t second_len,
+                               uint16_t *words, size_t words_len);
 
 #endif

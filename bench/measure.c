@@ -1,13 +1,13 @@
 /* The library's calls beside an unverified reference written for speed, in one process, on the same inputs.
  *
- *     measure [--quick] [check] [build] [growth] [tray] [stack]
+ *     measure [--quick] [check] [build] [growth] [tray] [merge] [stack]
  *     measure --count LETTERS
  *
  * For each row both are run once to warm up, and what they answer and leave is compared. Then they take turns, and the
  * medians of the processor's time are printed. What is timed is whole calls that leave the same in the lent memory:
- * both clear the unused words of a build, and after a decision or a tray as many work words as the library is lent. The
- * reference allocates and frees its own tables, and is lent one block of work words more. A tray is measured against as
- * many single calls of the library too.
+ * both clear the unused words of a build or a merge, and after a decision or a tray as many work words as the library
+ * is lent. The reference allocates and frees its own tables, and is lent one block of work words more. A tray is
+ * measured against as many single calls of the library too.
  *
  * `--count` makes one decision only, with a loop of so many letters on the table of the growth rows, for a tool that
  * counts its instructions (instructions.sh). */
@@ -89,7 +89,9 @@ static double median(double *times, int count)
 struct input {
     const uint16_t *table;
     size_t len;
-    uint16_t *words; /* a build's room */
+    const uint16_t *second; /* the other table of a merge */
+    size_t second_len;
+    uint16_t *words; /* a build's room, or a merge's */
     size_t words_len;
     uint32_t *sets;
     size_t sets_len;
@@ -102,7 +104,7 @@ struct input {
     const uint8_t *letters;
     uint8_t *answers; /* a tray's room: a byte for each lasso */
     size_t lassos;
-    uint64_t count; /* how many lassos a tray says that it answered */
+    uint64_t count; /* how many items a tray or a merge says that it wrote */
     enum fast_lookup lookup;
     volatile uint32_t answer; /* so that no call is left out */
 };
@@ -249,29 +251,36 @@ static void tray_by_reference(struct input *in)
     memset(in->work, 0, in->work_len * sizeof *in->work);
 }
 
-/* ---- Checks. */
-
-/* 32 states, each with m / 32 records over 16 letters, one target for a letter: all is read, and it passes. */
-static void full_pattern(struct drawn_table *t, uint32_t records)
+static void merge_by_library(struct input *in)
 {
-    static struct drawn_edge edge[TUBOCHRE_PATTERN_RECORDS_MOST];
-    uint8_t flags[32];
-    uint32_t i;
-    for (i = 0; i < 32; i++)
-        flags[i] = (uint8_t)(i % 4);
-    for (i = 0; i < records; i++) {
-        edge[i].source = (uint16_t)(i % 32);
-        edge[i].letter = (uint16_t)(i / 32 % 16);
-        edge[i].target = (uint16_t)((i % 32 * 7 + i / 32 % 16) % 32);
-    }
-    draw_from_edges(t, 32, 16, flags, edge, records);
+    const struct tubochre_written written =
+        tubochre_merge(in->table, in->len, in->second, in->second_len, in->words, in->words_len);
+    in->answer = written.number;
+    in->count = written.count;
 }
 
-/* The same with the most records, of which the last leads elsewhere: the only fork is at the last place that there can
- * be, state 31 and letter 15, and the search for it is the longest. */
+static void merge_by_reference(struct input *in)
+{
+    const struct fast_written written =
+        fast_merge(in->table, in->len, in->second, in->second_len, in->words, in->words_len);
+    in->answer = written.number;
+    in->count = written.count;
+}
+
+/* ---- Checks. */
+
+/* The records of each state go through 16 letters, one target for a letter: all is read, and it passes. */
+static void full_pattern(struct drawn_table *t, uint32_t states, uint32_t records)
+{
+    full_table(t->words, states, 16, records);
+    t->len = tubochre_table_words(states, records);
+}
+
+/* The same with the most states and records, of which the last leads elsewhere: the only fork is at the last place that
+ * there can be, state 31 and letter 15, and the search for it is the longest. */
 static void last_fork_pattern(struct drawn_table *t)
 {
-    full_pattern(t, TUBOCHRE_PATTERN_RECORDS_MOST);
+    full_pattern(t, TUBOCHRE_PATTERN_STATES_MOST, TUBOCHRE_PATTERN_RECORDS_MOST);
     t->words[t->len - 2] ^= 1;
 }
 
@@ -304,7 +313,7 @@ static void check_rows(void)
     uint32_t records;
     print_heading("check", "");
     for (records = 256; records <= 4096; records *= 2) {
-        full_pattern(&t, records);
+        full_pattern(&t, TUBOCHRE_PATTERN_STATES_MOST, records);
         snprintf(name, sizeof name, "32 states, 16 letters, %" PRIu32 " records", records);
         check_row(name, &t, passes);
     }
@@ -670,6 +679,59 @@ static void tray_rows(void)
     free(table);
 }
 
+/* ---- Merges. */
+
+/* Runs a merge on words that hold something else before, and keeps what it leaves there. */
+static void merge_on_garbage(call *run, struct input *in, uint16_t *left)
+{
+    memset(in->words, 0xa5, in->words_len * sizeof *in->words);
+    in->count = UINT64_MAX;
+    run(in);
+    memcpy(left, in->words, in->words_len * sizeof *left);
+}
+
+static void compare_merges(struct input *in, uint64_t count)
+{
+    static uint16_t by_library[TUBOCHRE_PATTERN_WORDS_MOST], by_reference[TUBOCHRE_PATTERN_WORDS_MOST];
+    merge_on_garbage(merge_by_library, in, by_library);
+    must(in->answer == TUBOCHRE_OK && in->count == count, "a merge of a row by the library");
+    merge_on_garbage(merge_by_reference, in, by_reference);
+    must(in->answer == TUBOCHRE_OK && in->count == count, "a merge of a row by the reference");
+    must(memcmp(by_library, by_reference, in->words_len * sizeof *by_library) == 0, "words of a merge");
+}
+
+/* A pattern of so many states and records with another of the same sizes, in exactly the room that they need. */
+static void merge_row(uint32_t states, uint32_t records)
+{
+    static struct drawn_table first, second;
+    static uint16_t words[TUBOCHRE_PATTERN_WORDS_MOST];
+    const size_t need = tubochre_table_words(2 * states, 2 * records);
+    struct input in;
+    struct times times;
+    char name[80];
+    full_pattern(&first, states, records);
+    full_pattern(&second, states, records);
+    memset(&in, 0, sizeof in);
+    in.table = first.words;
+    in.len = first.len;
+    in.second = second.words;
+    in.second_len = second.len;
+    in.words = words;
+    in.words_len = need;
+    compare_merges(&in, need);
+    times = take_turns(merge_by_library, merge_by_reference, &in);
+    snprintf(name, sizeof name, "%" PRIu32 " states, 16 letters, %" PRIu32 " records each", states, records);
+    print_times(name, times);
+    printf("%.2f ns a record, %zu bytes lent\n", times.library * 1e9 / (2 * records), need * sizeof *words);
+}
+
+static void merge_rows(void)
+{
+    print_heading("merge of two patterns", "");
+    merge_row(16, 2048);
+    merge_row(16, 256);
+}
+
 /* ---- Stack. */
 
 static void *check_on_stack(void *data)
@@ -696,6 +758,22 @@ static void *tray_on_stack(void *data)
     return NULL;
 }
 
+static void *merge_on_stack(void *data)
+{
+    merge_by_library(data);
+    return NULL;
+}
+
+/* What a merge of the largest two patterns takes that can be merged. */
+static size_t merge_stack(struct input *in)
+{
+    static struct drawn_table t;
+    full_pattern(&t, TUBOCHRE_PATTERN_STATES_MOST / 2, TUBOCHRE_PATTERN_RECORDS_MOST / 2);
+    in->table = in->second = t.words;
+    in->len = in->second_len = t.len;
+    return stack_used(merge_on_stack, in);
+}
+
 /* A tray of the longest lasso that is decided; its letters are all 0. */
 static void stack_rows(void)
 {
@@ -708,7 +786,7 @@ static void stack_rows(void)
     uint8_t byte;
     struct input in;
     memset(&in, 0, sizeof in);
-    full_pattern(&t, 4096);
+    full_pattern(&t, TUBOCHRE_PATTERN_STATES_MOST, TUBOCHRE_PATTERN_RECORDS_MOST);
     in.table = t.words;
     in.len = t.len;
     in.words = words;
@@ -726,7 +804,9 @@ static void stack_rows(void)
     printf("\nstack used by the library: check %zu bytes", stack_used(check_on_stack, &in));
     printf(", build %zu bytes", stack_used(build_on_stack, &in));
     printf(", lasso %zu bytes", stack_used(lasso_on_stack, &in));
-    printf(", tray %zu bytes\n", stack_used(tray_on_stack, &in));
+    printf(", tray %zu bytes", stack_used(tray_on_stack, &in));
+    printf(", merge %zu bytes\n", merge_stack(&in));
+    must(in.answer == TUBOCHRE_OK, "the merge on a stack of its own is refused");
 }
 
 /* ---- The whole. */
@@ -812,11 +892,12 @@ static const struct part {
              {"build", build_and_lasso_rows},
              {"growth", growth_rows},
              {"tray", tray_rows},
+             {"merge", merge_rows},
              {"stack", stack_rows}};
 
 enum { PARTS = sizeof parts / sizeof parts[0] };
 
-static const char usage[] = "usage: measure [--quick] [check] [build] [growth] [tray] [stack]\n"
+static const char usage[] = "usage: measure [--quick] [check] [build] [growth] [tray] [merge] [stack]\n"
                             "       measure --count LETTERS    (1 to 4096)\n";
 
 static int part_of(const char *name)
@@ -842,7 +923,8 @@ int main(int argc, char **argv)
     if (letters != UINT64_MAX)
         wrong_use("--count", usage);
     printf("Medians of whole calls, by turns in one process, after a warm-up. Reference: compiler %s.\n", __VERSION__);
-    puts("Timed with both: clearing unused words after a build, and the lent work words after a decision or a tray.");
+    puts("Timed with both: clearing unused words after a build or a merge, and the lent work words after a decision or "
+         "a tray.");
     for (i = 0; i < PARTS; i++)
         if (wanted[i] || words == 0)
             parts[i].run();

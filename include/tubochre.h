@@ -1,4 +1,5 @@
-/* Tubochre: checks patterns of endless behaviour, builds their complements, and decides lassos, singly or in trays.
+/* Tubochre: checks patterns of endless behaviour, makes two of them into one, builds their complements, and decides
+ * lassos, singly or in trays.
  *
  * A pattern is a semi-deterministic Büchi automaton, held as a chained table of 16-bit words:
  *
@@ -49,6 +50,8 @@
  *   - A tray: tubochre_list_lassos(list, list_len) bytes, no more and no fewer, and
  *     tubochre_tray_work_words(n, list, list_len) work words: what the longest lasso needs that 13 and 14 let pass,
  *     since all lassos use the same words in turn.
+ *   - A merge: TUBOCHRE_PATTERN_WORDS_MOST words, 25 KB, or first_len + second_len words, which are three more than the
+ *     merged pattern takes.
  *
  * What a call costs:
  *
@@ -60,6 +63,7 @@
  *     Then all work words are cleared, those beyond the need too, and also where it refuses.
  *   - A tray: one check of the table and one clearing of the work words for all of it, and for each lasso what its
  *     search costs. Decisions check and clear for each lasso anew, which may take longer than the searches.
+ *   - A merge: one check of each table, and one pass over each.
  *
  * The calls are proved against contracts that say the same. This header, the programs that call, and the compiler's
  * back end are outside those proofs. The header is C99 and C++11; the archives are for x86-64 Linux.
@@ -72,7 +76,7 @@
 
 /* The version of this header, of the archives and of the programs. */
 #define TUBOCHRE_VERSION_MAJOR 0
-#define TUBOCHRE_VERSION_MINOR 3
+#define TUBOCHRE_VERSION_MINOR 4
 #define TUBOCHRE_VERSION_PATCH 0
 #define TUBOCHRE_VERSION_TEXT(major, minor, patch) #major "." #minor "." #patch
 #define TUBOCHRE_VERSION_OF(major, minor, patch) TUBOCHRE_VERSION_TEXT(major, minor, patch)
@@ -85,28 +89,33 @@ extern "C" {
 /* Why a call refuses. The tests are made in this order, each over all of the table before the next one starts, and the
  * answer is the first that fails. The check gives 2 to 10, the build 2 to 12, the lasso decision 2 to 9 (in the wide
  * range, where 5 cannot occur) and 13 to 16. A tray gives 17 and 18 first, and then 2 to 9 in the wide range; 13 to 16
- * are bytes of its lassos there and refuse no tray. Refusal 10 of the check and of the build comes with a place. */
+ * are bytes of its lassos there and refuse no tray. A merge gives 2 to 10 for its first table, then 2 to 10 for its
+ * second, then 19 to 22. Refusal 10 of the check and of the build comes with a place, that of a merge does not. */
 enum tubochre_refusal {
-    TUBOCHRE_OK = 0,           /* not refused */
-    TUBOCHRE_TEXT = 1,         /* only programs that read text: not decimal words from 0 to 65,535, or too many */
-    TUBOCHRE_SHORT = 2,        /* the table has fewer than three words */
-    TUBOCHRE_STATES = 3,       /* n is outside its range */
-    TUBOCHRE_LETTERS = 4,      /* k is outside 1 to 16 */
-    TUBOCHRE_RECORDS = 5,      /* m is above 4,096 in a pattern */
-    TUBOCHRE_LENGTH = 6,       /* the length is not 3 + 2n + 3m */
-    TUBOCHRE_FLAGS = 7,        /* a flags word is above 3 */
-    TUBOCHRE_RECORD = 8,       /* a record's letter is k or more, or its target is n or more */
-    TUBOCHRE_CHAIN = 9,        /* a head or next is above m, a next is neither zero nor larger than its own record's
-                                  number, or a record is not named exactly once among all heads and nexts */
-    TUBOCHRE_FORK = 10,        /* the pattern is not semi-deterministic: it forks at the place */
-    TUBOCHRE_MANY_STATES = 11, /* the complement has more states than records are lent, or more than 65,535 */
-    TUBOCHRE_MANY_EDGES = 12,  /* the complement has more than 65,535 edges, or needs more words than are lent */
-    TUBOCHRE_LOOP_EMPTY = 13,  /* the loop is empty */
-    TUBOCHRE_LASSO_LONG = 14,  /* the prefix or the loop is longer than 4,096 */
-    TUBOCHRE_LETTER = 15,      /* a letter of the prefix or the loop is k or more */
-    TUBOCHRE_WORK = 16,        /* the work words are fewer than 4 n (prefix length + loop length) */
-    TUBOCHRE_LIST = 17,        /* the list does not end exactly at a lasso's end: words are missing or left over */
-    TUBOCHRE_BYTES = 18        /* the answer bytes are not as many as the list's lassos */
+    TUBOCHRE_OK = 0,             /* not refused */
+    TUBOCHRE_TEXT = 1,           /* only programs that read text: not decimal words from 0 to 65,535, or too many */
+    TUBOCHRE_SHORT = 2,          /* the table has fewer than three words */
+    TUBOCHRE_STATES = 3,         /* n is outside its range */
+    TUBOCHRE_LETTERS = 4,        /* k is outside 1 to 16 */
+    TUBOCHRE_RECORDS = 5,        /* m is above 4,096 in a pattern */
+    TUBOCHRE_LENGTH = 6,         /* the length is not 3 + 2n + 3m */
+    TUBOCHRE_FLAGS = 7,          /* a flags word is above 3 */
+    TUBOCHRE_RECORD = 8,         /* a record's letter is k or more, or its target is n or more */
+    TUBOCHRE_CHAIN = 9,          /* a head or next is above m, a next is neither zero nor larger than its own record's
+                                    number, or a record is not named exactly once among all heads and nexts */
+    TUBOCHRE_FORK = 10,          /* the pattern is not semi-deterministic: it forks at the place */
+    TUBOCHRE_MANY_STATES = 11,   /* the complement has more states than records are lent, or more than 65,535 */
+    TUBOCHRE_MANY_EDGES = 12,    /* the complement has more than 65,535 edges, or needs more words than are lent */
+    TUBOCHRE_LOOP_EMPTY = 13,    /* the loop is empty */
+    TUBOCHRE_LASSO_LONG = 14,    /* the prefix or the loop is longer than 4,096 */
+    TUBOCHRE_LETTER = 15,        /* a letter of the prefix or the loop is k or more */
+    TUBOCHRE_WORK = 16,          /* the work words are fewer than 4 n (prefix length + loop length) */
+    TUBOCHRE_LIST = 17,          /* the list does not end exactly at a lasso's end: words are missing or left over */
+    TUBOCHRE_BYTES = 18,         /* the answer bytes are not as many as the list's lassos */
+    TUBOCHRE_MERGE_LETTERS = 19, /* the two patterns have different numbers of letters */
+    TUBOCHRE_MERGE_STATES = 20,  /* the two patterns have more than 32 states together */
+    TUBOCHRE_MERGE_RECORDS = 21, /* the two patterns have more than 4,096 records together */
+    TUBOCHRE_MERGE_WORDS = 22    /* the merged pattern needs more words than are lent */
 };
 
 /* The largest tables and lassos, and what a build stores for a state. */
@@ -152,8 +161,9 @@ struct tubochre_decision {
     uint32_t number, taken;
 };
 
-/* What a tray answers, and every later call that writes items and is no build: number 0 and how many items it wrote, or
- * the number of the refusal and count 0. An accepted call may write no items: only number tells a refusal. */
+/* What a tray and a merge answer, and every later call that writes items and is no build: number 0 and how many items
+ * it wrote, or the number of the refusal and count 0. An accepted call may write no items: only number tells a
+ * refusal. */
 struct tubochre_written {
     uint32_t number;
     uint64_t count;
@@ -198,6 +208,22 @@ struct tubochre_decision tubochre_lasso(const uint16_t *table, size_t table_len,
 struct tubochre_written tubochre_tray(const uint16_t *table, size_t table_len, const uint16_t *list, size_t list_len,
                                       uint8_t *answers, size_t answers_len, uint32_t *work, size_t work_len);
 
+/* Makes two patterns into one, and answers how many words it has: 3 + 2 (n1 + n2) + 3 (m1 + m2), where the first has n1
+ * states and m1 records, the second n2 and m2.
+ *
+ * words  receives the merged pattern. The states of the second are numbered on from those of the first, and its records
+ *        likewise: its state q is n1 + q, its record r is m1 + r, and its heads and nexts that are zero stay zero. All
+ *        else is as it was. All words beyond the count are zero, and after a refusal all words are.
+ *
+ * The merged pattern passes the check, and takes a lasso exactly if at least one of the two does. So its complement
+ * takes those that neither takes. Both tables may be the same memory.
+ *
+ * The call is refused by 2 to 10 for the first table, then by 2 to 10 for the second, then by 19 to 22. The answer is
+ * the number alone: 10 comes without a place, and 2 to 10 do not tell which of the two tables they are about. The
+ * caller may ask tubochre_check about the first: where that passes, the number is about the second. */
+struct tubochre_written tubochre_merge(const uint16_t *first, size_t first_len, const uint16_t *second,
+                                       size_t second_len, uint16_t *words, size_t words_len);
+
 /* One state of a complement: its four sets of pattern states, in which state q adds 2^q. They have the paper's names:
  * include this header before any macro of such a name. */
 struct tubochre_quadruple {
@@ -232,11 +258,16 @@ static inline const char *tubochre_refusal_text(uint32_t number)
         "fewer work words are lent than 4 * states * (prefix length + loop length)",
         "the list does not end exactly at a lasso's end",
         "the answer bytes are not as many as the list's lassos",
+        "the two patterns have different numbers of letters",
+        "the two patterns have more than 32 states together",
+        "the two patterns have more than 4096 records together",
+        "the merged pattern needs more words than are lent",
     };
     return number < sizeof text / sizeof text[0] ? text[number] : "there is no refusal of that number";
 }
 
-/* The words of a table of so many states and records: after an accepted build, the used part of its words. */
+/* The words of a table of so many states and records: after an accepted build, the used part of its words; with the
+ * states and records of both patterns, what a merge writes. */
 static inline size_t tubochre_table_words(uint32_t states, uint32_t records)
 {
     return 3 + 2 * (size_t)states + 3 * (size_t)records;

@@ -33,6 +33,7 @@ run_tests() {
     "$1/test_limits"
     "$1/test_null"
     "$1/test_tray"
+    "$1/test_merge"
     "$1/test_records"
     "$1/test_places"
     tests/programs/test_bench.sh "$1/tubochre-bench" "$listing"
@@ -79,6 +80,9 @@ try_install() {
     readme_shows 'the answers' "$("$prefix/bin/tubochre-bench" examples/pattern-a.txt - 0 11 01)"
     readme_shows 'the refusal' "$(printf '2 1 1\n0 1\n0 0\n0 7 0\n' | "$prefix/bin/tubochre-bench" -)"
     readme_shows 'the tray' "$("$prefix/bin/tubochre-bench" examples/pattern-a.txt --tray examples/lassos.txt | tail -4)"
+    readme_shows 'the merge' "$("$prefix/bin/tubochre-bench" --merge examples/clamp.txt examples/spindle.txt |
+        "$prefix/bin/tubochre-bench" - 123 01 12 0 - 123)"
+    readme_shows 'the refused merge' "$("$prefix/bin/tubochre-bench" --merge examples/clamp.txt examples/pattern-a.txt 2>&1)"
     readme_shows 'the fork' "$(printf '2 1 2\n1 0\n2 1\n0 0 2\n0 1 0\n' | "$prefix/bin/tubochre-bench" -)"
     echo 'ok: an installed copy, the example compiled with it, its programs, and what the README shows of them'
 }
@@ -131,7 +135,7 @@ run_tests "$out-sanitized"
 if command -v valgrind >/dev/null; then
     say 'the same under valgrind, the comparison shorter'
     for test in "$out/test_calls" "$out/test_forks" "$out/test_rooms" "$out/test_null" "$out/test_tray" \
-        "$out/test_records" "$out/compare --trials 60"; do
+        "$out/test_merge" "$out/test_records" "$out/compare --trials 60"; do
         # shellcheck disable=SC2086 # a program and its arguments
         valgrind -q --error-exitcode=1 --leak-check=full $test
     done

@@ -265,3 +265,84 @@ void tried_free(struct tried *t)
 {
     free(t->byte);
 }
+
+/* ---- Merges. */
+
+/* On tables that lie where they are to lie. */
+static struct merged merge_once(struct merge m, enum fence_side side)
+{
+    const struct fence fence = fence_make(m.words_len * sizeof(uint16_t));
+    uint16_t *const words = spoilt(&fence, m.words_len * sizeof *words, side);
+    struct merged merged;
+    merged.written = tubochre_merge(m.first, m.first_len, m.second, m.second_len, words, m.words_len);
+    merged.words_len = m.words_len;
+    merged.words = kept(words, m.words_len * sizeof *words);
+    fence_free(fence);
+    return merged;
+}
+
+static struct merged merge_apart(struct merge m, enum fence_side side)
+{
+    const struct fence first_fence = fence_make(m.first_len * sizeof *m.first);
+    const struct fence second_fence = fence_make(m.second_len * sizeof *m.second);
+    struct merged merged;
+    m.first = copied(&first_fence, m.first, m.first_len * sizeof *m.first, side);
+    m.second = copied(&second_fence, m.second, m.second_len * sizeof *m.second, side);
+    merged = merge_once(m, side);
+    fence_free(first_fence);
+    fence_free(second_fence);
+    return merged;
+}
+
+static struct merged merge_inside(struct merge m, enum fence_side side)
+{
+    const struct fence fence = fence_make(m.first_len * sizeof *m.first);
+    const uint16_t *const copy = copied(&fence, m.first, m.first_len * sizeof *m.first, side);
+    struct merged merged;
+    m.second = copy + (m.second - m.first);
+    m.first = copy;
+    merged = merge_once(m, side);
+    fence_free(fence);
+    return merged;
+}
+
+static void expect_of_every_merge(struct merge m, const struct merged *merged)
+{
+    const uint32_t number = merged->written.number;
+    size_t used = 0;
+    if (number == TUBOCHRE_OK)
+        used = tubochre_table_words((uint32_t)m.first[0] + m.second[0], (uint32_t)m.first[2] + m.second[2]);
+    expect(merged->written.count == used, "%u comes with the count %llu instead of %zu", (unsigned)number,
+           (unsigned long long)merged->written.count, used);
+    expect(used <= m.words_len && all_zero(merged->words + used, (m.words_len - used) * sizeof *merged->words),
+           "%u leaves words behind the first %zu of %zu that are not zero", (unsigned)number, used, m.words_len);
+}
+
+static struct merged merge_twice(struct merge m, struct merged (*once)(struct merge, enum fence_side))
+{
+    struct merged merged, again;
+    fence_watch("a merge");
+    merged = once(m, FENCE_LOW);
+    again = once(m, FENCE_HIGH);
+    expect(merged.written.number == again.written.number && merged.written.count == again.written.count &&
+               memcmp(merged.words, again.words, m.words_len * sizeof *merged.words) == 0,
+           "two merges of the same tables in equal room agree in each word");
+    expect_of_every_merge(m, &merged);
+    merged_free(&again);
+    return merged;
+}
+
+struct merged lent_merge(struct merge m)
+{
+    return merge_twice(m, merge_apart);
+}
+
+struct merged lent_merge_inside(struct merge m)
+{
+    return merge_twice(m, merge_inside);
+}
+
+void merged_free(struct merged *m)
+{
+    free(m->words);
+}

@@ -1,4 +1,4 @@
-/* What the tests of the C calls share: the four calls made on fenced memory. */
+/* What the tests of the C calls share: the five calls made on fenced memory. */
 #ifndef TEST_H
 #define TEST_H
 
@@ -63,5 +63,27 @@ struct tried lent_tray(struct tray t);
 /* The same where the list is a part of the table's own words. */
 struct tried lent_tray_inside(struct tray t);
 void tried_free(struct tried *t);
+
+/* What a merge is tried with: two tables, and how many words are lent. */
+struct merge {
+    const uint16_t *first;
+    size_t first_len;
+    const uint16_t *second;
+    size_t second_len, words_len;
+};
+
+struct merged {
+    struct tubochre_written written;
+    size_t words_len;
+    uint16_t *words;
+};
+
+/* Also expects what holds of every merge: the count is that of its states and records where it is accepted, and 0
+ * otherwise; all words beyond the count are zero. */
+struct merged lent_merge(struct merge m);
+
+/* The same where the second table lies among the first's own words, or is all of them. */
+struct merged lent_merge_inside(struct merge m);
+void merged_free(struct merged *m);
 
 #endif

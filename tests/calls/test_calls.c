@@ -1,5 +1,5 @@
-/* The calls on the tables that the rules work out by hand, and every refusal from 2 to 16; a tray's own are in
- * test_tray.c. */
+/* The calls on the tables that the rules work out by hand, and every refusal from 2 to 16; those of a tray alone are in
+ * test_tray.c, those of a merge alone in test_merge.c. */
 #include "rings.h"
 #include "test.h"
 
@@ -131,7 +131,7 @@ static void try_finite_run(void)
     built_free(&b);
 }
 
-/* ---- Refusals of a table: each by all four calls, in the pattern's range and in the wide one. */
+/* ---- Refusals of a table: each by all five calls, in the pattern's range and in the wide one. */
 
 struct damaged {
     const char *name;
@@ -183,6 +183,24 @@ static void try_table_by_tray(const char *name, const uint16_t *words, size_t le
     tried_free(&t);
 }
 
+/* The table with itself, and behind a pattern of other letters: what it is refused by comes before all that two patterns
+ * can be refused by together. */
+static void try_table_by_merge(const char *name, const uint16_t *words, size_t len, uint32_t in_pattern)
+{
+    static const uint16_t all_letters[] = {1, 16, 0, 0, 0};
+    const size_t words_len = len + LENGTH(all_letters);
+    struct merged twice = lent_merge_inside((struct merge){words, len, words, len, 2 * len});
+    struct merged behind = lent_merge((struct merge){all_letters, LENGTH(all_letters), words, len, words_len});
+    const uint32_t number = behind.written.number;
+    expect(in_pattern == 0 || twice.written.number == in_pattern, "%s: the merge with itself", name);
+    expect(in_pattern != 0 || twice.written.number == TUBOCHRE_OK || twice.written.number > TUBOCHRE_MERGE_LETTERS,
+           "%s: the merge with itself has the same letters", name);
+    expect(in_pattern == 0 || number == in_pattern, "%s: the merge behind another", name);
+    expect(in_pattern != 0 || words[1] == 16 || number == TUBOCHRE_MERGE_LETTERS, "%s: other letters", name);
+    merged_free(&twice);
+    merged_free(&behind);
+}
+
 static void try_table(const char *name, const uint16_t *words, size_t len, uint32_t in_pattern, uint32_t in_wide)
 {
     static const uint8_t letters[] = {0};
@@ -195,6 +213,7 @@ static void try_table(const char *name, const uint16_t *words, size_t len, uint3
     expect(same_place(b.counts.place, checked.place), "%s: the place", name);
     expect(in_wide == 0 ? decision < 100 : decision == 100 + in_wide, "%s: the lasso decision", name);
     try_table_by_tray(name, words, len, in_wide);
+    try_table_by_merge(name, words, len, in_pattern);
     built_free(&b);
 }
 

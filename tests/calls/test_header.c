@@ -17,18 +17,31 @@ static void expect(int holds, const char *what)
 static void try_sentences(void)
 {
     uint32_t i, j;
-    for (i = 0; i <= 19; i++) {
+    for (i = 0; i <= 23; i++) {
         const char *const text = tubochre_refusal_text(i);
         expect(text != NULL && strlen(text) > 10, "each refusal has a sentence");
         for (j = 0; j < i; j++)
             expect(strcmp(text, tubochre_refusal_text(j)) != 0, "and one of its own");
     }
-    expect(strcmp(tubochre_refusal_text(19), tubochre_refusal_text(UINT32_MAX)) == 0, "above 18 there is no refusal");
+    expect(strcmp(tubochre_refusal_text(23), tubochre_refusal_text(UINT32_MAX)) == 0, "above 22 there is no refusal");
     expect(strcmp(tubochre_refusal_text(TUBOCHRE_LOOP_EMPTY), "the loop is empty") == 0, "13 is the empty loop");
     expect(strcmp(tubochre_refusal_text(TUBOCHRE_LIST), "the list does not end exactly at a lasso's end") == 0,
            "17 is the list's end");
     expect(strcmp(tubochre_refusal_text(TUBOCHRE_BYTES), "the answer bytes are not as many as the list's lassos") == 0,
            "18 is the number of bytes");
+    expect(strcmp(tubochre_refusal_text(TUBOCHRE_MERGE_LETTERS),
+                  "the two patterns have different numbers of letters") == 0,
+           "19 is the number of letters of two patterns");
+    expect(strcmp(tubochre_refusal_text(TUBOCHRE_MERGE_WORDS),
+                  "the merged pattern needs more words than are lent") == 0,
+           "22 is the room of a merge");
+}
+
+/* The numbers of the refusals that are about two patterns at once. */
+static void try_merge_numbers(void)
+{
+    expect(TUBOCHRE_MERGE_LETTERS == 19 && TUBOCHRE_MERGE_STATES == 20, "19 and 20");
+    expect(TUBOCHRE_MERGE_RECORDS == 21 && TUBOCHRE_MERGE_WORDS == 22, "21 and 22");
 }
 
 static void try_sizes(void)
@@ -36,6 +49,9 @@ static void try_sizes(void)
     expect(tubochre_table_words(32, 4096) == TUBOCHRE_PATTERN_WORDS_MOST, "the largest pattern");
     expect(tubochre_table_words(65535, 65535) == TUBOCHRE_WIDE_WORDS_MOST, "the largest wide table");
     expect(tubochre_table_words(2, 4) == 19, "pattern A");
+    expect(tubochre_table_words(1 + 31, 96 + 4000) == TUBOCHRE_PATTERN_WORDS_MOST, "the largest merged pattern");
+    expect(tubochre_table_words(5, 7) + tubochre_table_words(6, 8) == tubochre_table_words(5 + 6, 7 + 8) + 3,
+           "two patterns are three words longer than what they are made into");
     expect(tubochre_sets_words(3) == 12, "three records");
     expect(tubochre_sets_words(1) == TUBOCHRE_RECORD_WORDS, "one record");
     expect(tubochre_work_words(65535, 4096, 4096) == TUBOCHRE_WORK_WORDS_MOST, "the most work words");
@@ -116,7 +132,7 @@ static void try_layouts(void)
            "what a decision answers");
     expect(sizeof(struct tubochre_written) == 16 && offsetof(struct tubochre_written, number) == 0 &&
                offsetof(struct tubochre_written, count) == 8,
-           "what a tray answers");
+           "what a tray and a merge answer");
     expect(sizeof(struct tubochre_quadruple) == TUBOCHRE_RECORD_WORDS * sizeof(uint32_t), "a record");
 }
 
@@ -131,6 +147,7 @@ int main(void)
 {
     try_version();
     try_sentences();
+    try_merge_numbers();
     try_sizes();
     try_lists();
     try_layouts();

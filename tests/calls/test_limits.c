@@ -105,6 +105,8 @@ struct job {
     struct tubochre_counts counts;
     struct asked pattern_asked, complement_asked;
     struct tubochre_quadruple records[P << R];
+    uint16_t twice[2 * PATTERN_LEN]; /* the pattern merged with itself */
+    struct tubochre_written merged;
 };
 
 static const uint8_t job_prefix[PREFIX_LEN] = {0, 1, 1};
@@ -124,6 +126,7 @@ static void *all_calls(void *data)
     ask(j, j->pattern, PATTERN_LEN, &j->pattern_asked);
     ask(j, j->words, tubochre_table_words(j->counts.states, j->counts.edges), &j->complement_asked);
     tubochre_records(j->records, P << R, j->sets, SETS_LEN);
+    j->merged = tubochre_merge(j->pattern, PATTERN_LEN, j->pattern, PATTERN_LEN, j->twice, 2 * PATTERN_LEN);
     return NULL;
 }
 
@@ -168,6 +171,7 @@ static void expect_answers(const struct job *j)
            "both trays are tried");
     expect(p->bytes[0] <= TUBOCHRE_TAKEN && c->bytes[0] == TUBOCHRE_WORK, "the longest lasso");
     expect(p->bytes[1] == p->single.taken && c->bytes[1] == c->single.taken, "a byte is what the single call says");
+    expect(j->merged.number == TUBOCHRE_OK && j->merged.count == 2 * PATTERN_LEN - 3, "the pattern with itself");
 }
 
 /* ---- The stack. */
@@ -205,7 +209,9 @@ static int same_results(const struct job *a, const struct job *b)
            memcmp(&a->counts, &b->counts, sizeof a->counts) == 0 && same_asked(&a->pattern_asked, &b->pattern_asked) &&
            same_asked(&a->complement_asked, &b->complement_asked) &&
            memcmp(a->words, b->words, sizeof a->words) == 0 && memcmp(a->sets, b->sets, sizeof a->sets) == 0 &&
-           memcmp(a->work, b->work, sizeof a->work) == 0 && memcmp(a->records, b->records, sizeof a->records) == 0;
+           memcmp(a->work, b->work, sizeof a->work) == 0 &&
+           memcmp(a->records, b->records, sizeof a->records) == 0 && a->merged.number == b->merged.number &&
+           a->merged.count == b->merged.count && memcmp(a->twice, b->twice, sizeof a->twice) == 0;
 }
 
 static void try_threads(void)

@@ -84,6 +84,17 @@ static struct written tray(unsigned empty, int null)
     return w;
 }
 
+/* The table with itself: both are the same memory, or one is empty. */
+static struct written merge(unsigned empty, int null)
+{
+    struct written w = before();
+    const struct tubochre_written written =
+        tubochre_merge(TABLE(empty & 1, null), TABLE(empty & 2, null), LENT(w.words, empty & 4, null));
+    w.answer[0] = written.number;
+    w.answer[1] = (uint32_t)written.count;
+    return w;
+}
+
 static struct written records(unsigned empty, int null)
 {
     static const uint32_t sets[] = {1, 0, 0, 0, 1, 2, 0, 2};
@@ -110,6 +121,7 @@ int main(void)
     static const uint32_t by_build[] = {0, 2, 12, 2, 11, 2, 11, 2};
     static const uint32_t by_lasso[] = {0, 2, 0, 2, 13, 2, 13, 2, 16, 2, 16, 2, 13, 2, 13, 2};
     static const uint32_t by_tray[] = {0, 2, 18, 18, 18, 18, 0, 2, 0, 2, 18, 18, 18, 18, 0, 2};
+    static const uint32_t by_merge[] = {0, 2, 2, 2, 22, 2, 2, 2};
     static const uint32_t fork_by_check[] = {10, 2}, fork_by_build[] = {10, 2, 10, 2, 10, 2, 10, 2};
     static const uint32_t by_records[] = {0xa5a5a5a5, 0xa5a5a5a5, 0xa5a5a5a5, 0xa5a5a5a5}; /* it answers nothing */
     ASK_ABOUT(pattern);
@@ -117,9 +129,11 @@ int main(void)
     try_call("build", build, 3, by_build);
     try_call("lasso", lasso, 4, by_lasso);
     try_call("tray", tray, 4, by_tray);
+    try_call("merge", merge, 3, by_merge);
     ASK_ABOUT(forking);
     try_call("check of a fork", check, 1, fork_by_check);
     try_call("build of a fork", build, 3, fork_by_build);
+    try_call("merge of a fork", merge, 3, fork_by_build);
     try_call("records", records, 2, by_records);
     section("NULL for each buffer without elements");
     return summary("test_null");

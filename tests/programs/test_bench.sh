@@ -499,6 +499,167 @@ printf '0 1\n0 1x\n' >"$folder/wrong"
 expect 'a tray with a fault, by its name' 2 '' "tubochre-bench: $folder/wrong, line 2, column 4: 'x' is no $allowed" \
     "$program" "$folder/a" --tray "$folder/wrong"
 
+# ---- Merges.
+
+examples=$here/../../examples
+merged='5 4 19
+1 1
+2 6
+0 9
+1 12
+2 17
+0 0 2
+1 0 3
+2 0 4
+3 0 5
+1 1 0
+0 2 7
+1 1 8
+2 2 0
+0 2 10
+1 1 11
+2 2 0
+0 3 13
+1 3 14
+2 3 15
+3 3 16
+2 4 0
+0 4 18
+1 4 19
+2 4 0'
+expect 'a merge' 0 "$merged" '' "$program" --merge "$examples/clamp.txt" "$examples/spindle.txt"
+expect 'a merge, the option last' 0 "$merged" '' "$program" "$examples/clamp.txt" "$examples/spindle.txt" --merge
+expect 'a merge, the option between' 0 "$merged" '' "$program" "$examples/clamp.txt" --merge -- "$examples/spindle.txt"
+expect 'a first pattern from standard input' 0 "$merged" '' "$program" --merge - "$examples/spindle.txt" <"$examples/clamp.txt"
+expect 'a second pattern from standard input' 0 "$merged" '' "$program" --merge "$examples/clamp.txt" - <"$examples/spindle.txt"
+expect 'the other way round' 0 '5 4 19
+1 1
+2 6
+1 9
+2 14
+0 17
+0 0 2
+1 0 3
+2 0 4
+3 0 5
+2 1 0
+0 1 7
+1 1 8
+2 1 0
+0 2 10
+1 2 11
+2 2 12
+3 2 13
+1 3 0
+0 4 15
+1 3 16
+2 4 0
+0 4 18
+1 3 19
+2 4 0' '' "$program" --merge "$examples/spindle.txt" "$examples/clamp.txt"
+expect 'a pattern with itself' 0 '4 2 8
+1 1
+2 4
+1 5
+2 8
+0 0 2
+1 0 3
+0 1 0
+0 1 0
+0 2 6
+1 2 7
+0 3 0
+0 3 0' '' "$program" --merge "$folder/a" "$folder/a"
+expect 'patterns without records' 0 '2 1 0
+1 0
+2 0' '' "$program" --merge <(echo 1 1 0 1 0) - <<<'1 1 0 2 0'
+
+# What is written can be read: by the program itself, by the listing, and merged again.
+"$program" --merge "$examples/clamp.txt" "$examples/spindle.txt" >"$folder/merged"
+expect 'lassos by either, and by neither' 0 'pattern: passes the check (states 5, letters 4, records 19)
+complement: states 11, edges 44
+lasso 1 (123 01): the pattern takes it, the complement does not
+lasso 2 (12 0): the pattern takes it, the complement does not
+lasso 3 (- 123): the complement takes it, the pattern does not
+lasso 4 (123 0): the complement takes it, the pattern does not' '' "$program" - 123 01 12 0 - 123 123 0 <"$folder/merged"
+expect 'the first alone' 0 'pattern: passes the check (states 3, letters 4, records 11)
+complement: states 4, edges 16
+lasso 1 (123 01): the pattern takes it, the complement does not
+lasso 2 (12 0): the complement takes it, the pattern does not' '' "$program" "$examples/clamp.txt" 123 01 12 0
+expect 'the second alone' 0 'pattern: passes the check (states 2, letters 4, records 8)
+complement: states 2, edges 8
+lasso 1 (123 01): the complement takes it, the pattern does not
+lasso 2 (12 0): the pattern takes it, the complement does not' '' "$program" "$examples/spindle.txt" 123 01 12 0
+expect 'a merge into the listing' 0 'states 11 edges 44' '' \
+    bash -c "\"\$0\" --merge \"\$1\" \"\$2\" | \"\$3\" | head -n 1" "$program" "$examples/clamp.txt" "$examples/spindle.txt" "$listing"
+expect 'its states as the program has them' 0 "$("$listing" <"$folder/merged" | sed -n '2,12p')" '' \
+    bash -c "\"\$0\" --states \"\$1\" | sed 1,2d" "$program" "$folder/merged"
+expect 'three patterns, the last two merged first' 0 "$("$program" --merge "$folder/merged" "$folder/merged")" '' \
+    bash -c "\"\$0\" --merge \"\$2\" \"\$3\" | \"\$0\" --merge \"\$1\" -" \
+    "$program" "$examples/clamp.txt" "$examples/spindle.txt" "$folder/merged"
+
+# bare N: n states without records; repeats M: one edge m times
+bare() {
+    echo "$1 1 0"
+    for _ in $(seq "$1"); do echo 1 0; done
+}
+repeats() {
+    local r
+    echo "1 1 $1"
+    echo 3 1
+    for r in $(seq "$1"); do echo "0 0 $((r < $1 ? r + 1 : 0))"; done
+}
+both='in the first pattern and'
+expect '32 states' 0 "$(bare 32)" '' "$program" --merge <(bare 31) <(bare 1)
+expect '33 states' 1 '' "merge: refused (20): the number of states is 1 $both 32 in the second, and a pattern has at most 32" \
+    "$program" --merge <(bare 1) <(bare 32)
+expect '4,096 records' 0 'pattern: passes the check (states 2, letters 1, records 4096)
+complement: states 1, edges 1
+lasso 1 (- 0): the pattern takes it, the complement does not' '' \
+    bash -c "\"\$0\" --merge \"\$1\" \"\$2\" | \"\$0\" - - 0" "$program" <(repeats 4095) <(repeats 1)
+expect '4,097 records' 1 '' \
+    "merge: refused (21): the number of records is 4096 $both 1 in the second, and a pattern has at most 4096" \
+    "$program" --merge <(repeats 4096) <(repeats 1)
+expect 'other letters' 1 '' "merge: refused (19): the number of letters is 4 $both 2 in the second, and has to be the same" \
+    "$program" --merge "$examples/clamp.txt" "$folder/a"
+expect 'other letters before too many states and records' 1 '' \
+    "merge: refused (19): the number of letters is 16 $both 1 in the second, and has to be the same" \
+    "$program" --merge <(rings 15 16 16) <(bare 32)
+expect 'too many states before too many records' 1 '' \
+    "merge: refused (20): the number of states is 32 $both 1 in the second, and a pattern has at most 32" \
+    "$program" --merge <(bare 32) <(repeats 4096)
+
+# merge_refused FIRST SECOND ERRORS: two texts, the second from standard input
+merge_refused() {
+    printf '%s' "$1" >"$folder/first"
+    expect "$3" 1 '' "$3" "$program" --merge "$folder/first" - <<<"$2"
+}
+first="first pattern ($folder/first): refused"
+second='second pattern (standard input): refused'
+merge_refused $'2 2\n4\t1' "$a" "$first (1) in line 2, column 2: a tab stands here, $divide"
+merge_refused "$a" $'2 2\n4\t1' "$second (1) in line 2, column 2: a tab stands here, $divide"
+merge_refused '1 1' "$a" "$first (2): the number of words is 2, and a table has at least 3"
+merge_refused "$a" '' "$second (2): the number of words is 0, and a table has at least 3"
+merge_refused $'33\n1 0' "$a" "$first (3) in line 1, column 1: the number of states is 33, and a pattern has 1 to 32"
+merge_refused "$a" $'\n33 1 0' "$second (3) in line 2, column 1: the number of states is 33, and a pattern has 1 to 32"
+merge_refused '1 17 0' "$a" "$first (4) in line 1, column 3: the number of letters is 17, and a table has 1 to 16"
+merge_refused "$a" '1 1 4097' "$second (5) in line 1, column 5: the number of records is 4097, and a pattern has at most 4096"
+merge_refused "$a 0" "$a" "$first (6): the number of words is 20, $length 3 + 2 * 2 + 3 * 4 = 19"
+merge_refused "$a" '2 1 0 3 0 4 0' "$second (7) in line 1, column 11: state 1 has flags 4, and flags are 0 to 3"
+merge_refused $'2 1 1\n0 1\n0 0\n0 7 0' "$a" "$first (8) in line 4, column 3: record 1 has target 7, and the states are 0 to 1"
+merge_refused "$a" '1 1 1 0 0 0 0 0' "$second (9): record 1 is in no chain: no head and no next names it"
+merge_refused $'2 1 2\n1 0\n2 1\n0 0 2\n0 1 0' "$a" "$first (10) in line 5, column 3: $fork1"
+merge_refused "$a" '2 1 2 1 0 2 1 0 0 2 0 1 0' "$second (10) in line 1, column 23: $fork1"
+# Of two refused patterns the first is named, though the second's number is smaller; but a text comes before all tables.
+merge_refused '2 1 2 1 0 2 1 0 0 2 0 1 0' '1' "$first (10) in line 1, column 23: $fork1"
+merge_refused '1' '2 1 2 1 0 2 1 0 0 2 0 1 0' "$first (2): the number of words is 1, and a table has at least 3"
+merge_refused '1' 'x' "$second (1) in line 1, column 1: 'x' is no digit, space or newline"
+merge_refused 'x' 'y' "$first (1) in line 1, column 1: 'x' is no digit, space or newline"
+echo 1 >"$folder/"$'\x1b[31m'
+expect 'a name that could steer a terminal' 1 '' \
+    "second pattern ($folder/\\x1b[31m): refused (2): the number of words is 1, and a table has at least 3" \
+    "$program" --merge "$folder/a" "$folder/"$'\x1b[31m'
+
 # ---- The command line.
 
 # misuse SENTENCE ARGUMENTS...
@@ -508,6 +669,7 @@ misuse() {
     expect "$sentence" 2 '' "tubochre-bench: $sentence
 usage: tubochre-bench [OPTION]... PATTERN [PREFIX LOOP]...
        tubochre-bench [OPTION]... PATTERN --tray FILE
+       tubochre-bench --merge FIRST SECOND
 tubochre-bench --help says more" "$program" "$@"
 }
 misuse 'no pattern is named'
@@ -541,6 +703,15 @@ misuse '--tray takes all lassos from its file, and this is another: 0' --tray "$
 misuse '--tray takes all lassos from its file, and this is another: 0' "$folder/a" 0 --tray "$folder/lassos"
 misuse 'pattern and tray cannot both be read from standard input' --tray - -
 misuse 'no pattern is named' --tray "$folder/lassos"
+misuse 'no pattern is named' --merge
+misuse "--merge takes two patterns, and this is the only one: $folder/a" --merge "$folder/a"
+misuse '--merge takes two patterns, and this is a third: 0' --merge "$folder/a" "$folder/a" 0 1
+misuse 'two patterns cannot both be read from standard input' --merge - -
+alone='--merge writes a pattern alone, without states, graphs and lassos'
+misuse "$alone" --merge --states "$folder/a" "$folder/a"
+misuse "$alone" --merge --dot pattern "$folder/a" "$folder/a"
+misuse "$alone" --merge --tray "$folder/lassos" "$folder/a" "$folder/a"
+misuse 'this option takes no value: --merge=a' --merge=a "$folder/a"
 
 # trouble SENTENCE ARGUMENTS...
 trouble() {
@@ -555,6 +726,9 @@ trouble "'': No such file or directory" ''
 trouble "$folder/none: No such file or directory" --tray "$folder/none" "$folder/a"
 trouble "$folder: Is a directory" --tray "$folder" "$folder/a"
 trouble "'': No such file or directory" --tray= "$folder/a"
+trouble "$folder/none: No such file or directory" --merge "$folder/none" "$folder/a"
+trouble "$folder/none: No such file or directory" --merge "$folder/a" "$folder/none"
+trouble "$folder: Is a directory" --merge "$folder/a" "$folder"
 trouble "$folder/\\x1b[31m\\x0a: No such file or directory" "$folder/"$'\x1b[31m\n'
 trouble "$folder/ü€\\xc2\\x9b31m\\xff\\xe2\\x82x: No such file or directory" "$folder/"$'\xc3\xbc\xe2\x82\xac\xc2\x9b31m\xff\xe2\x82x'
 touch "$folder/closed"
@@ -580,11 +754,12 @@ expect '--version' 0 "tubochre-bench $(sed -n 's/^.define TUBOCHRE_VERSION_[A-Z]
     '' "$program" --version
 help="usage: tubochre-bench [OPTION]... PATTERN [PREFIX LOOP]...
        tubochre-bench [OPTION]... PATTERN --tray FILE
+       tubochre-bench --merge FIRST SECOND
 
 Checks a pattern, builds its complement, and says of each lasso which of the two takes it.
 
 PATTERN is a file that holds a pattern's words as decimal numbers divided by spaces and newlines,
-or - for standard input.
+or - for standard input. So are FIRST and SECOND.
 
 Each PREFIX and LOOP is a lasso: the word that reads PREFIX once and then LOOP for ever. Either is
 written as digits, one for each letter (0110), or as numbers divided by commas (10,3,15; a single
@@ -597,11 +772,13 @@ Options:
   --tray FILE      takes the lassos from a file, or - for standard input, and counts the answers; a line
                    has a PREFIX, blanks, and a LOOP, and the empty prefix is -; blank lines and lines that
                    begin with # are skipped
+  --merge          makes FIRST and SECOND into one pattern, which takes a lasso if at least one of them does,
+                   and writes its words, and nothing else
   -h, --help       prints this, and ends
   --version        prints the version, and ends
-  --               ends the options: all words behind it are PATTERN, PREFIX and LOOP
+  --               ends the options: all words behind it are PATTERN, PREFIX and LOOP, or FIRST and SECOND
 
-Exit status: 0 all was answered; 1 the pattern, its complement or a lasso was refused;
+Exit status: 0 all was answered; 1 a pattern, its complement, a merge or a lasso was refused;
 2 wrong use, a lasso that cannot be read, or a file, memory or output that failed."
 expect '--help' 0 "$help" '' "$program" --help
 expect '-h' 0 "$help" '' "$program" -h
@@ -610,13 +787,13 @@ expect '--help before all else' 0 "$help" '' "$program" "$folder/none" --help 0
 # ---- Outputs that cannot be written.
 
 for arguments in --help --version "$folder/a" "--states $folder/a" "--dot pattern $folder/a" "--dot complement $folder/a" - \
-    "--tray $folder/lassos $folder/a"; do
+    "--tray $folder/lassos $folder/a" "--merge $folder/a $folder/a"; do
     # shellcheck disable=SC2086 # words
     expect "a full disk: $arguments" 2 '' 'tubochre-bench: standard output: No space left on device' \
         sh -c "exec \"\$0\" \"\$@\" >/dev/full" "$program" $arguments <<<'x'
 done
 for arguments in --help --version "$folder/a" "--states $folder/a" "--dot pattern $folder/a" "--dot complement $folder/a" \
-    "--tray $folder/lassos $folder/a"; do
+    "--tray $folder/lassos $folder/a" "--merge $folder/a $folder/a"; do
     # shellcheck disable=SC2086 # words
     expect "a closed output: $arguments" 2 '' 'tubochre-bench: standard output: Bad file descriptor' \
         sh -c "exec \"\$0\" \"\$@\" >&-" "$program" $arguments
@@ -631,6 +808,8 @@ expect 'a reader that is gone' 2 '' 'tubochre-bench: standard output: Broken pip
 for errors in '/dev/full' '&-'; do
     expect "a refusal that cannot be told: $errors" 2 '' '' \
         sh -c "exec \"\$0\" --dot complement \"\$1\" 2>$errors" "$program" "$folder/fork"
+    expect "a refused merge that cannot be told: $errors" 2 '' '' \
+        sh -c "exec \"\$0\" --merge \"\$1\" \"\$1\" 2>$errors" "$program" "$folder/fork"
     expect "nothing to be told: $errors" 0 "$passes" '' sh -c "exec \"\$0\" \"\$1\" 2>$errors" "$program" "$folder/a"
     expect "wrong use: $errors" 2 '' '' sh -c "exec \"\$0\" 2>$errors" "$program"
 done

@@ -1,4 +1,5 @@
-/* Compares the library's four calls with the reference, on random patterns, lassos, trays and damaged tables.
+/* Compares the library's five calls with the reference, on random patterns, lassos, trays, pairs of patterns and
+ * damaged tables.
  *
  *     compare [--seed N] [--trials N]
  *
@@ -9,6 +10,7 @@
 #include "draw.h"
 #include "fence.h"
 #include "reference.h"
+#include "rings.h"
 #include "room.h"
 #include "tubochre.h"
 
@@ -23,11 +25,13 @@ enum {
     LASSOS = 5,      /* for each pattern, on it and on its complement */
     WIDE_LASSOS = 2, /* for each table that is no pattern */
     DAMAGES = 2,     /* for each pattern */
+    PAIR_LASSOS = 2, /* for each two patterns that are merged */
     WORDS_ROOM = 700000,
     SETS_ROOM = TUBOCHRE_RECORD_WORDS * TUBOCHRE_WIDE_STATES_MOST + 100,
     WORK_ROOM = 40 * 1000 * 1000,
     TRAY_WORK = 1000 * 1000, /* lassos of a tray that need more are refused by 16 */
-    BYTES_ROOM = DRAWN_LIST / 2 + 16
+    BYTES_ROOM = DRAWN_LIST / 2 + 16,
+    PAIR_STATES = 400 /* complements of merged patterns are built where they have no more states */
 };
 
 static const uint64_t default_seed = 20160404;
@@ -43,7 +47,7 @@ static struct {
     uint64_t patterns, passed, built, lassos, decisions, damaged, taken, states, edges, runs_checked;
     uint64_t at_zero, elsewhere; /* forks: at state 0 and letter 0, and at any other place */
     uint64_t largest;
-    uint64_t refused[19];
+    uint64_t refused[23];
 } tally;
 
 /* What was met of trays. */
@@ -55,6 +59,19 @@ static struct {
     uint64_t opposite;     /* lassos that pattern and complement both decided */
     uint64_t bytes[17];    /* of accepted trays */
 } trays;
+
+/* What was met of merges. */
+static struct {
+    uint64_t tried, of_first, of_second;
+    uint64_t of_both;            /* both tables are refused, by different numbers */
+    uint64_t second_before_pair; /* the second table is refused, and the two together would be too */
+    uint64_t several;            /* the two together are refused in more than one way */
+    uint64_t exact, word_short, more;
+    uint64_t no_records_first, no_records_second, zero_heads, same_memory;
+    uint64_t states_most, states_over, records_most, records_over;
+    uint64_t taken_by[4]; /* lassos: by neither, by the first, by the second, by both */
+    uint64_t by_complement;
+} merges;
 
 static void differ(const char *format, ...)
 {
@@ -81,7 +98,7 @@ static void print_table(const char *name, const uint16_t *words, size_t len)
 /* ---- Lent memory. */
 
 static struct {
-    struct fence table, prefix, loop, words, sets, work, list, bytes;
+    struct fence table, second, prefix, loop, words, sets, work, list, bytes;
     uint16_t *expected_words;
     uint32_t *expected_sets, *expected_work;
     uint8_t *expected_bytes;
@@ -90,6 +107,7 @@ static struct {
 static void make_rooms(void)
 {
     lent.table = fence_make(WORDS_ROOM * sizeof(uint16_t));
+    lent.second = fence_make(DRAWN_WORDS * sizeof(uint16_t));
     lent.prefix = fence_make(DRAWN_LETTERS);
     lent.loop = fence_make(DRAWN_LETTERS);
     lent.words = fence_make(WORDS_ROOM * sizeof(uint16_t));
@@ -328,6 +346,110 @@ static void compare_tray(struct random *r, const uint16_t *table, size_t len, co
     if (memcmp(work, lent.expected_work, work_len * sizeof *work) != 0)
         differ("%s: a tray with %zu work words leaves some that are not zero", trial.text, work_len);
     tally_tray(table, l, bytes, expected.number);
+}
+
+/* ---- Merges beside the reference. */
+
+/* How many words a merge of two tables needs; of words that are no table it is none. */
+static size_t pair_need(const struct drawn_table *first, const struct drawn_table *second)
+{
+    if (first->len < 3 || second->len < 3)
+        return 0;
+    return tubochre_table_words((uint32_t)first->words[0] + second->words[0],
+                                (uint32_t)first->words[2] + second->words[2]);
+}
+
+/* In how many of the ways 19 to 22 two tables would be refused together. */
+static int pair_faults(const struct drawn_table *first, const struct drawn_table *second, size_t words_len)
+{
+    if (first->len < 3 || second->len < 3)
+        return 0;
+    return (first->words[1] != second->words[1]) +
+           (first->words[0] + second->words[0] > TUBOCHRE_PATTERN_STATES_MOST) +
+           (first->words[2] + second->words[2] > TUBOCHRE_PATTERN_RECORDS_MOST) +
+           (words_len < pair_need(first, second));
+}
+
+static void tally_refused_table(const struct drawn_table *first, const struct drawn_table *second, size_t words_len,
+                                uint32_t number)
+{
+    const uint32_t by_second = reference_check(second->words, second->len).number;
+    if (reference_check(first->words, first->len).number == 0) {
+        merges.of_second++;
+        merges.second_before_pair += pair_faults(first, second, words_len) > 0;
+    } else {
+        merges.of_first++;
+        merges.of_both += by_second != 0 && by_second != number;
+    }
+}
+
+static void tally_merged(const struct drawn_table *first, const struct drawn_table *second, size_t words_len)
+{
+    const size_t need = pair_need(first, second);
+    uint32_t q;
+    merges.exact += words_len == need;
+    merges.more += words_len > need;
+    merges.no_records_first += first->words[2] == 0 && second->words[2] > 0;
+    merges.no_records_second += second->words[2] == 0 && first->words[2] > 0;
+    merges.states_most += first->words[0] + second->words[0] == TUBOCHRE_PATTERN_STATES_MOST;
+    merges.records_most += first->words[2] + second->words[2] == TUBOCHRE_PATTERN_RECORDS_MOST;
+    for (q = 0; q < second->words[0]; q++)
+        merges.zero_heads += first->words[2] > 0 && second->words[4 + 2 * q] == 0;
+}
+
+static void tally_merge(const struct drawn_table *first, const struct drawn_table *second, size_t words_len,
+                        uint32_t number)
+{
+    merges.tried++;
+    merges.same_memory += first == second;
+    tally.refused[number]++;
+    merges.several += number >= TUBOCHRE_MERGE_LETTERS && pair_faults(first, second, words_len) > 1;
+    switch (number) {
+    case TUBOCHRE_OK: tally_merged(first, second, words_len); break;
+    case TUBOCHRE_MERGE_LETTERS: break;
+    case TUBOCHRE_MERGE_STATES:
+        merges.states_over += first->words[0] + second->words[0] == TUBOCHRE_PATTERN_STATES_MOST + 1;
+        break;
+    case TUBOCHRE_MERGE_RECORDS:
+        merges.records_over += first->words[2] + second->words[2] == TUBOCHRE_PATTERN_RECORDS_MOST + 1;
+        break;
+    case TUBOCHRE_MERGE_WORDS: merges.word_short += words_len + 1 == pair_need(first, second); break;
+    default: tally_refused_table(first, second, words_len, number); break;
+    }
+}
+
+static void pair_differs(const struct drawn_table *first, const struct drawn_table *second)
+{
+    print_table("first", first->words, first->len);
+    print_table("second", second->words, second->len);
+}
+
+/* The words are left in lent.expected_words. Where both tables are one, they are lent as one. */
+static struct reference_written compare_merge(struct random *r, const struct drawn_table *first,
+                                              const struct drawn_table *second, size_t words_len)
+{
+    const size_t first_bytes = first->len * sizeof(uint16_t), second_bytes = second->len * sizeof(uint16_t);
+    const uint16_t *const copy = lend_copy(r, &lent.table, first->words, first_bytes);
+    const uint16_t *const other = first == second ? copy : lend_copy(r, &lent.second, second->words, second_bytes);
+    uint16_t *const words = lend_garbage(r, &lent.words, words_len * sizeof *words);
+    const struct reference_written expected = reference_merge(first->words, first->len, second->words, second->len,
+                                                              lent.expected_words, words_len);
+    const struct tubochre_written w = tubochre_merge(copy, first->len, other, second->len, words, words_len);
+    size_t i = 0;
+    must_be_unchanged("first table", copy, first->words, first_bytes);
+    must_be_unchanged("second table", other, second->words, second_bytes);
+    while (i < words_len && words[i] == lent.expected_words[i])
+        i++;
+    if (w.number != expected.number || w.count != expected.count || i < words_len)
+        pair_differs(first, second);
+    if (w.number != expected.number || w.count != expected.count)
+        differ("%s: a merge in %zu words is answered %" PRIu32 " %" PRIu64 " instead of %" PRIu32 " %" PRIu64,
+               trial.text, words_len, w.number, w.count, expected.number, expected.count);
+    if (i < words_len)
+        differ("%s: word %zu of %zu of a merge is %u instead of %u", trial.text, i, words_len, (unsigned)words[i],
+               (unsigned)lent.expected_words[i]);
+    tally_merge(first, second, words_len, expected.number);
+    return expected;
 }
 
 /* ---- Rooms. */
@@ -572,6 +694,123 @@ static void try_damaged(struct random *r, struct drawn_table *t)
     some_tray(r, t->words, t->len);
 }
 
+/* ---- Two patterns, what they are made into, and lassos over all three. */
+
+/* Mostly over the same letters: a pattern stays one where it gets more of them. */
+static void draw_second(struct random *r, struct drawn_table *first, struct drawn_table *second)
+{
+    draw_pattern(r, second);
+    if (random_chance(r, 85)) {
+        const uint16_t letters = first->words[1] > second->words[1] ? first->words[1] : second->words[1];
+        first->words[1] = second->words[1] = letters;
+    }
+}
+
+/* Patterns of which one has what the other leaves of 32 states and of 4,096 records, or one more. */
+static void draw_full_pair(struct random *r, struct drawn_table *first, struct drawn_table *second)
+{
+    const uint32_t states = random_between(r, 1, TUBOCHRE_PATTERN_STATES_MOST - 1);
+    const uint32_t records = random_below(r, TUBOCHRE_PATTERN_RECORDS_MOST + 1), letters = random_between(r, 1, 16);
+    const uint32_t more_states = TUBOCHRE_PATTERN_STATES_MOST - states + random_chance(r, 30);
+    const uint32_t more_records = TUBOCHRE_PATTERN_RECORDS_MOST - records + (records > 0 && random_chance(r, 30));
+    full_table(first->words, states, letters, records);
+    full_table(second->words, more_states, letters, more_records);
+    first->len = tubochre_table_words(states, records);
+    second->len = tubochre_table_words(more_states, more_records);
+}
+
+/* As many words as a merge needs; or some more, one fewer, or any below. */
+static size_t some_words(struct random *r, size_t need)
+{
+    switch (random_below(r, 6)) {
+    case 0: return random_below(r, (uint32_t)need + 1);
+    case 1: return need - (need > 0);
+    case 2: return need + random_between(r, 1, 9);
+    default: return need;
+    }
+}
+
+static struct reference_written some_merge(struct random *r, const struct drawn_table *first,
+                                           const struct drawn_table *second)
+{
+    return compare_merge(r, first, second, some_words(r, pair_need(first, second)));
+}
+
+static uint32_t taken_by(struct random *r, const uint16_t *table, size_t len, const struct drawn_lasso *l)
+{
+    const struct tubochre_decision d = compare_lasso(r, table, len, l, enough_work(r, table[0], l));
+    if (d.number != 0)
+        differ("%s: a lasso over the letters of two patterns is refused by %" PRIu32, trial.text, d.number);
+    return d.taken;
+}
+
+/* The merged pattern takes what at least one of the two takes, and its complement, where there is one, the rest. */
+static void either_takes(struct random *r, const struct drawn_table *first, const struct drawn_table *second,
+                         const struct drawn_table *merged, const struct drawn_table *complement)
+{
+    static struct drawn_lasso l;
+    uint32_t by_first, by_second, by_merged;
+    draw_lasso(r, &l, merged->words[1]);
+    fit_lasso(&l, PAIR_STATES);
+    by_first = taken_by(r, first->words, first->len, &l);
+    by_second = taken_by(r, second->words, second->len, &l);
+    by_merged = taken_by(r, merged->words, merged->len, &l);
+    if (by_merged != (by_first || by_second))
+        differ("%s: of a lasso two patterns say %" PRIu32 " and %" PRIu32 ", and both merged %" PRIu32, trial.text,
+               by_first, by_second, by_merged);
+    merges.taken_by[by_first + 2 * by_second]++;
+    if (complement->len == 0)
+        return;
+    if (taken_by(r, complement->words, complement->len, &l) == by_merged)
+        differ("%s: a merged pattern and its complement both say %" PRIu32, trial.text, by_merged);
+    merges.by_complement++;
+}
+
+/* The complement of a pattern as a table, or no words where it has too many states or edges. */
+static void small_complement(const struct drawn_table *t, struct drawn_table *complement)
+{
+    static uint32_t sets[TUBOCHRE_RECORD_WORDS * PAIR_STATES];
+    const struct tubochre_counts counts =
+        tubochre_build(t->words, t->len, complement->words, DRAWN_WORDS, sets, tubochre_sets_words(PAIR_STATES));
+    complement->len = counts.number == 0 ? tubochre_table_words(counts.states, counts.edges) : 0;
+}
+
+static void try_pair(struct random *r, const struct drawn_table *first, const struct drawn_table *second)
+{
+    static struct drawn_table merged, complement;
+    const struct reference_written w = some_merge(r, first, second);
+    int i;
+    if (w.number != 0)
+        return;
+    merged.len = (size_t)w.count;
+    memcpy(merged.words, lent.expected_words, merged.len * sizeof merged.words[0]);
+    if (compare_check(r, merged.words, merged.len) != 0)
+        differ("%s: a merged pattern does not pass the check", trial.text);
+    small_complement(&merged, &complement);
+    for (i = 0; i < PAIR_LASSOS; i++)
+        either_takes(r, first, second, &merged, &complement);
+}
+
+/* A pattern with another, and with a damaged table, before it and behind it. */
+static void try_merges(struct random *r, const struct drawn_table *pattern, const struct drawn_table *damaged)
+{
+    static struct drawn_table first, second;
+    first = *pattern;
+    if (random_below(r, 200) == 0)
+        draw_full_pair(r, &first, &second);
+    else
+        draw_second(r, &first, &second);
+    try_pair(r, &first, &second);
+    switch (random_below(r, 4)) {
+    case 0: some_merge(r, damaged, damaged); break;
+    case 1: some_merge(r, &first, damaged); break;
+    case 2: some_merge(r, damaged, &second); break;
+    default: try_pair(r, &first, &first); break;
+    }
+    draw_damage(r, &second);
+    some_merge(r, damaged, &second);
+}
+
 static void run_trial(uint64_t seed)
 {
     static struct drawn_table pattern, other;
@@ -588,13 +827,15 @@ static void run_trial(uint64_t seed)
         other = pattern;
         try_damaged(&r, &other);
     }
+    snprintf(trial.text, sizeof trial.text, "merge (seed %" PRIu64 ")", seed);
+    try_merges(&r, &pattern, &other);
 }
 
 static void print_summary(uint64_t seed, uint64_t trials)
 {
     int i;
     printf("answers by refusal:");
-    for (i = 0; i <= 18; i++)
+    for (i = 0; i <= 22; i++)
         printf(" %d:%" PRIu64, i, tally.refused[i]);
     printf("\nbytes of trays:");
     for (i = 0; i <= 16; i++)
@@ -604,19 +845,34 @@ static void print_summary(uint64_t seed, uint64_t trials)
            " built: %" PRIu64 " states, %" PRIu64 " edges, largest %" PRIu64 "), %" PRIu64 " lassos (%" PRIu64
            " decisions, %" PRIu64 " taken, the third demand on %" PRIu64 "), %" PRIu64 " damaged tables, %" PRIu64
            " forks (%" PRIu64 " at state 0 and letter 0), %" PRIu64 " trays (%" PRIu64
-           " lassos decided on pattern and complement), 0 differences\n",
+           " lassos decided on pattern and complement), %" PRIu64 " merges (%" PRIu64
+           " lassos decided on a complement too), 0 differences\n",
            seed, seed + trials - 1, tally.patterns, tally.passed, tally.built, tally.states, tally.edges, tally.largest,
            tally.lassos, tally.decisions, tally.taken, tally.runs_checked, tally.damaged,
-           tally.at_zero + tally.elsewhere, tally.at_zero, trays.tried, trays.opposite);
+           tally.at_zero + tally.elsewhere, tally.at_zero, trays.tried, trays.opposite, merges.tried,
+           merges.by_complement);
 }
 
-/* Every case of a tray that is easily got wrong has occurred. */
+/* A case that is easily got wrong, and how often it occurred. */
+struct kind {
+    const char *name;
+    uint64_t count;
+};
+
+static int all_met(const char *of, const struct kind *kinds, size_t count)
+{
+    size_t i;
+    for (i = 0; i < count; i++)
+        if (kinds[i].count == 0) {
+            printf("compare: FAILED: of %s this did not occur: %s\n", of, kinds[i].name);
+            return 0;
+        }
+    return 1;
+}
+
 static int all_trays_met(void)
 {
-    const struct {
-        const char *name;
-        uint64_t count;
-    } kinds[] = {
+    const struct kind kinds[] = {
         {"taken", trays.bytes[TUBOCHRE_TAKEN]},
         {"not taken", trays.bytes[TUBOCHRE_NOT_TAKEN]},
         {"an empty loop", trays.bytes[TUBOCHRE_LOOP_EMPTY]},
@@ -634,20 +890,42 @@ static int all_trays_met(void)
         {"one byte too many", trays.byte_many},
         {"lassos on a refused table", trays.of_table},
     };
-    size_t i;
-    for (i = 0; i < sizeof kinds / sizeof kinds[0]; i++)
-        if (kinds[i].count == 0) {
-            printf("compare: FAILED: of trays this did not occur: %s\n", kinds[i].name);
-            return 0;
-        }
-    return 1;
+    return all_met("trays", kinds, sizeof kinds / sizeof kinds[0]);
+}
+
+static int all_merges_met(void)
+{
+    const struct kind kinds[] = {
+        {"a refused first table", merges.of_first},
+        {"a refused second table", merges.of_second},
+        {"tables refused by different numbers", merges.of_both},
+        {"a refused second table that does not fit the first", merges.second_before_pair},
+        {"two refusals of both together", merges.several},
+        {"exactly the words that it needs", merges.exact},
+        {"one word too few", merges.word_short},
+        {"words to spare", merges.more},
+        {"no records in the first alone", merges.no_records_first},
+        {"no records in the second alone", merges.no_records_second},
+        {"a head of the second that stays zero", merges.zero_heads},
+        {"one table for both", merges.same_memory},
+        {"32 states", merges.states_most},
+        {"33 states", merges.states_over},
+        {"4,096 records", merges.records_most},
+        {"4,097 records", merges.records_over},
+        {"a lasso that neither takes", merges.taken_by[0]},
+        {"a lasso that the first takes alone", merges.taken_by[1]},
+        {"a lasso that the second takes alone", merges.taken_by[2]},
+        {"a lasso that both take", merges.taken_by[3]},
+        {"a lasso on the complement of a merged pattern", merges.by_complement},
+    };
+    return all_met("merges", kinds, sizeof kinds / sizeof kinds[0]);
 }
 
 /* A whole run has met every refusal of the calls and every kind of answer: one that compares nothing is no success. */
 static int all_kinds_met(void)
 {
     int number;
-    for (number = 2; number <= 18; number++)
+    for (number = 2; number <= 22; number++)
         if (tally.refused[number] == 0) {
             printf("compare: FAILED: no call was refused by %d\n", number);
             return 0;
@@ -657,7 +935,7 @@ static int all_kinds_met(void)
         printf("compare: FAILED: a kind of answer did not occur\n");
         return 0;
     }
-    return all_trays_met();
+    return all_trays_met() && all_merges_met();
 }
 
 int main(int argc, char **argv)

@@ -1,10 +1,12 @@
-/* An independent implementation of the check, the build, the lasso decision, the tray and the listing, to compare with.
+/* An independent implementation of the check, the build, the lasso decision, the tray, the merge and the listing, to
+ * compare with.
  *
  * It follows the rules by their words and not by a clever way: chains are proved sound by sorting all links, the states
  * behind an accepting one come from a transitive closure, forks from comparing each two records, a successor is any
  * quadruple that meets all conditions, found by trying every candidate, a lasso is decided by powers of its loop's
- * relation, and what a list holds is found from its end. It shares no code, no algorithm and no header with the
- * library. It is slow, and right only as far as reading it shows. It ends the program where memory runs out. */
+ * relation, what a list holds is found from its end, and the number of a state or record in a merged pattern is found
+ * by looking for it in a line of all. It shares no code, no algorithm and no header with the library. It is slow, and
+ * right only as far as reading it shows. It ends the program where memory runs out. */
 #ifndef REFERENCE_H
 #define REFERENCE_H
 
@@ -57,6 +59,10 @@ struct reference_decision reference_lasso(const uint16_t *table, size_t len, con
 /* What a tray answers, and leaves in bytes and work words. */
 struct reference_written reference_tray(const uint16_t *table, size_t len, const uint16_t *list, size_t list_len,
                                         uint8_t *answers, size_t answers_len, uint32_t *work, size_t work_len);
+
+/* What a merge answers, and leaves in the words. */
+struct reference_written reference_merge(const uint16_t *first, size_t first_len, const uint16_t *second,
+                                         size_t second_len, uint16_t *words, size_t words_len);
 
 /* How many accepting runs a valid wide table has over a lasso over its letters: 0, 1, or 2 for more than one. */
 unsigned reference_runs(const uint16_t *table, const uint8_t *prefix, size_t prefix_len, const uint8_t *loop,

@@ -66,6 +66,23 @@ void ring_table(uint16_t *words, uint32_t n, uint32_t k, uint32_t m)
     }
 }
 
+void full_table(uint16_t *words, uint32_t n, uint32_t k, uint32_t m)
+{
+    uint32_t q, r;
+    begin(words, n, k, m);
+    for (q = 0; q < n; q++) {
+        words[3 + 2 * q] = (uint16_t)(q % 4);
+        words[4 + 2 * q] = (uint16_t)(q < m ? q + 1 : 0);
+    }
+    for (r = 1; r <= m; r++) {
+        uint16_t *const record = record_of(words, r);
+        const uint32_t source = (r - 1) % n, letter = (r - 1) / n % k;
+        record[0] = (uint16_t)letter;
+        record[1] = (uint16_t)((7 * source + letter) % n);
+        record[2] = (uint16_t)(r + n <= m ? r + n : 0);
+    }
+}
+
 /* A state of a ring of so many states from `first` on, at most `reach` places on from where q stands in its own. */
 static uint32_t near_state(struct random *r, uint32_t q, uint32_t first, uint32_t count, uint32_t reach)
 {

@@ -13,6 +13,11 @@ void ring_pattern(uint16_t *words, uint32_t p, uint32_t r, uint32_t k);
  * state 0. State 0 is initial, the last accepting. m is n at least. */
 void ring_table(uint16_t *words, uint32_t n, uint32_t k, uint32_t m);
 
+/* n states with m records in all: record 1 is state 0's, record 2 state 1's, and so on, round and round. The records of
+ * a state go through the k letters in turn, and each letter has one target, so that a pattern of these sizes passes the
+ * check. Flags are 0 to 3 in turn. */
+void full_table(uint16_t *words, uint32_t n, uint32_t k, uint32_t m);
+
 /* n states, all initial, with three edges each on the only letter, of which no accepting state lies on a cycle, while
  * every state is reached at every place: the table takes no lasso, and no search can stop early. One edge of three or
  * two leads anywhere up to `reach` states on. n is 8 at least. */
