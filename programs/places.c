@@ -180,6 +180,27 @@ struct place place_in_complement(uint32_t number)
     }
 }
 
+/* More of something than a pattern may have: so many in the first, and so many in the second. */
+static struct place too_many(const char *what, unsigned first, unsigned second, int most)
+{
+    return place(NO_WORD,
+                 "the number of %s is %u in the first pattern and %u in the second, and a pattern has at most %d", what,
+                 first, second, most);
+}
+
+struct place place_in_merge(uint32_t number, const uint16_t *first, const uint16_t *second)
+{
+    switch (number) {
+    case TUBOCHRE_MERGE_LETTERS:
+        return place(NO_WORD,
+                     "the number of letters is %u in the first pattern and %u in the second, and has to be the same",
+                     first[1], second[1]);
+    case TUBOCHRE_MERGE_STATES: return too_many("states", first[0], second[0], TUBOCHRE_PATTERN_STATES_MOST);
+    case TUBOCHRE_MERGE_RECORDS: return too_many("records", first[2], second[2], TUBOCHRE_PATTERN_RECORDS_MOST);
+    default: return nowhere(number);
+    }
+}
+
 /* Where the first letter stands that is none of the table's; the length where there is none. */
 static size_t bad_letter(const uint16_t *words, const struct letters *l)
 {

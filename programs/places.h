@@ -25,6 +25,9 @@ struct place place_in_pattern(struct tubochre_checked checked, const uint16_t *w
 /* Of a complement that a build refuses by 11 or 12 though it was lent all the room that there can be. */
 struct place place_in_complement(uint32_t number);
 
+/* Of two patterns that pass the check, and that a merge refuses by 19 to 21; it names the numbers of both. */
+struct place place_in_merge(uint32_t number, const uint16_t *first, const uint16_t *second);
+
 /* Of a lasso that is refused by 13 to 15: word 0 is the prefix, 1 the loop. */
 enum lasso_word { PREFIX_WORD, LOOP_WORD };
 struct place place_in_lasso(uint32_t number, const uint16_t *words, const struct lasso *l);

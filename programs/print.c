@@ -7,6 +7,22 @@
 #include <stdio.h>
 #include <stdlib.h>
 
+/* Words from one on up to another, as lines of so many. */
+static void print_lines(const uint16_t *words, size_t from, size_t to, size_t in_a_line)
+{
+    size_t i;
+    for (i = from; i < to; i++)
+        printf("%u%c", words[i], (i + 1 - from) % in_a_line == 0 ? '\n' : ' ');
+}
+
+void print_words(const uint16_t *words)
+{
+    const size_t states = tubochre_table_words(0, 0), records = tubochre_table_words(words[0], 0);
+    print_lines(words, 0, states, 3);
+    print_lines(words, states, records, 2);
+    print_lines(words, records, tubochre_table_words(words[0], words[2]), 3);
+}
+
 static void print_numbers(const uint32_t *sets)
 {
     int i;

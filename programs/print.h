@@ -1,8 +1,12 @@
-/* Complements and graphs on standard output. */
+/* Tables, complements and graphs on standard output. */
 #ifndef PRINT_H
 #define PRINT_H
 
 #include "complement.h"
+
+/* The words of a table that passes 2 to 9, as a pattern file has them: a line for n, k and m, then one for each state
+ * and one for each record. */
+void print_words(const uint16_t *words);
 
 /* A line for each state, as the listing has it: number, N, C, S, B, flags. */
 void print_states(const struct complement *c);

@@ -1,11 +1,14 @@
-/* tubochre-bench: checks a pattern, builds its complement, and says which of the two takes each lasso.
+/* tubochre-bench: checks a pattern, builds its complement, and says which of the two takes each lasso; or makes two
+ * patterns into one.
  *
  * It uses the header's calls only. The options stand in a table below; `usage` says what it takes and answers. */
 #include "common.h"
 #include "complement.h"
 #include "lassos.h"
+#include "merge.h"
 #include "places.h"
 #include "print.h"
+#include "refusals.h"
 #include "tray.h"
 #include "tubochre.h"
 #include "words.h"
@@ -20,9 +23,10 @@ const char program_name[] = "tubochre-bench";
 
 enum graph { NO_GRAPH, PATTERN_GRAPH, COMPLEMENT_GRAPH };
 
-/* What the command line asks for. Words are the pattern's name, then two for each lasso. */
+/* What the command line asks for. Words are the pattern's name, then two for each lasso; or the names of two patterns
+ * that are to be merged. */
 struct request {
-    int help, version, states;
+    int help, version, states, merge;
     enum graph graph;
     const char *tray; /* the name of a file of lassos, or NULL */
     int count;
@@ -30,14 +34,15 @@ struct request {
 };
 
 static const char synopsis[] = "usage: tubochre-bench [OPTION]... PATTERN [PREFIX LOOP]...\n"
-                               "       tubochre-bench [OPTION]... PATTERN --tray FILE\n";
+                               "       tubochre-bench [OPTION]... PATTERN --tray FILE\n"
+                               "       tubochre-bench --merge FIRST SECOND\n";
 
 static const char description[] =
     "\n"
     "Checks a pattern, builds its complement, and says of each lasso which of the two takes it.\n"
     "\n"
     "PATTERN is a file that holds a pattern's words as decimal numbers divided by spaces and newlines,\n"
-    "or - for standard input.\n"
+    "or - for standard input. So are FIRST and SECOND.\n"
     "\n"
     "Each PREFIX and LOOP is a lasso: the word that reads PREFIX once and then LOOP for ever. Either is\n"
     "written as digits, one for each letter (0110), or as numbers divided by commas (10,3,15; a single\n"
@@ -46,9 +51,9 @@ static const char description[] =
     "Options:\n";
 
 static const char statuses[] =
-    "  --               ends the options: all words behind it are PATTERN, PREFIX and LOOP\n"
+    "  --               ends the options: all words behind it are PATTERN, PREFIX and LOOP, or FIRST and SECOND\n"
     "\n"
-    "Exit status: 0 all was answered; 1 the pattern, its complement or a lasso was refused;\n"
+    "Exit status: 0 all was answered; 1 a pattern, its complement, a merge or a lasso was refused;\n"
     "2 wrong use, a lasso that cannot be read, or a file, memory or output that failed.\n";
 
 /* Prints why a command line is wrong, with the word at fault if there is one, and how one looks. */
@@ -88,6 +93,12 @@ static void ask_tray(struct request *r, const char *value)
     r->tray = value;
 }
 
+static void ask_merge(struct request *r, const char *value)
+{
+    (void)value;
+    r->merge = 1;
+}
+
 static void ask_help(struct request *r, const char *value)
 {
     (void)value;
@@ -114,6 +125,9 @@ static const struct option {
      "  --tray FILE      takes the lassos from a file, or - for standard input, and counts the answers; a line\n"
      "                   has a PREFIX, blanks, and a LOOP, and the empty prefix is -; blank lines and lines that\n"
      "                   begin with # are skipped\n"},
+    {"--merge", NULL, NULL, ask_merge,
+     "  --merge          makes FIRST and SECOND into one pattern, which takes a lasso if at least one of them does,\n"
+     "                   and writes its words, and nothing else\n"},
     {"--help", "-h", NULL, ask_help, "  -h, --help       prints this, and ends\n"},
     {"--version", NULL, NULL, ask_version, "  --version        prints the version, and ends\n"},
 };
@@ -163,7 +177,7 @@ static int read_option(struct request *r, int argc, char **argv, int i)
 /* Options may stand anywhere before "--"; the other words are moved to the front. A lone - is a word. */
 static struct request read_command_line(int argc, char **argv)
 {
-    struct request r = {0, 0, 0, NO_GRAPH, NULL, 0, argv + 1};
+    struct request r = {0, 0, 0, 0, NO_GRAPH, NULL, 0, argv + 1};
     int i, ended = 0;
     for (i = 1; i < argc; i++)
         if (!ended && strcmp(argv[i], "--") == 0)
@@ -175,10 +189,26 @@ static struct request read_command_line(int argc, char **argv)
     return r;
 }
 
+static void check_merge(const struct request *r)
+{
+    if (r->states || r->graph != NO_GRAPH || r->tray != NULL)
+        wrong_use("--merge writes a pattern alone, without states, graphs and lassos", NULL);
+    if (r->count == 1)
+        wrong_use("--merge takes two patterns, and this is the only one", r->words[0]);
+    if (r->count > 2)
+        wrong_use("--merge takes two patterns, and this is a third", r->words[2]);
+    if (strcmp(r->words[0], "-") == 0 && strcmp(r->words[1], "-") == 0)
+        wrong_use("two patterns cannot both be read from standard input", NULL);
+}
+
 static void check_request(const struct request *r)
 {
     if (r->count == 0)
         wrong_use("no pattern is named", NULL);
+    if (r->merge) {
+        check_merge(r);
+        return;
+    }
     if (r->graph != NO_GRAPH && (r->count > 1 || r->states || r->tray != NULL))
         wrong_use("--dot writes a graph alone, without lassos and states", NULL);
     if (r->tray != NULL && r->count > 1)
@@ -189,29 +219,6 @@ static void check_request(const struct request *r)
         wrong_use("a prefix has no loop beside it", r->words[r->count - 1]);
 }
 
-/* ---- Refusals. */
-
-/* Says that something is refused, where in the text its word stands, if it is a word, and why. */
-static int say_refused(FILE *out, const char *what, uint32_t number, const struct spot *at, const char *why)
-{
-    fprintf(out, "%s: refused (%u)", what, (unsigned)number);
-    if (at != NULL)
-        fprintf(out, " in line %zu, column %zu", at->line, at->column);
-    fprintf(out, ": %s\n", why);
-    return REFUSED;
-}
-
-static int pattern_refused(FILE *out, struct tubochre_checked checked, const struct words *w)
-{
-    const struct place p = place_in_pattern(checked, w->word, w->len);
-    return say_refused(out, "pattern", checked.number, p.word != NO_WORD ? &w->at[p.word] : NULL, p.sentence);
-}
-
-static int complement_refused(FILE *out, uint32_t number)
-{
-    return say_refused(out, "complement", number, NULL, place_in_complement(number).sentence);
-}
-
 /* ---- Graphs. */
 
 /* A pattern that forks can still be drawn: its table is sound, and the drawing shows where. */
@@ -220,7 +227,7 @@ static int draw_pattern(const struct words *w)
     const struct tubochre_checked checked = tubochre_check(w->word, w->len);
     if (checked.number == TUBOCHRE_OK || checked.number == TUBOCHRE_FORK)
         print_pattern_graph(w->word, checked.number == TUBOCHRE_FORK ? &checked.place : NULL);
-    return checked.number == TUBOCHRE_OK ? FINE : pattern_refused(stderr, checked, w);
+    return checked.number == TUBOCHRE_OK ? FINE : pattern_refused(stderr, "pattern", checked, w);
 }
 
 static int draw_complement(const struct words *w)
@@ -229,7 +236,7 @@ static int draw_complement(const struct words *w)
     struct complement c;
     int status = FINE;
     if (checked.number != TUBOCHRE_OK)
-        return pattern_refused(stderr, checked, w);
+        return pattern_refused(stderr, "pattern", checked, w);
     c = build(w->word, w->len);
     if (c.counts.number == TUBOCHRE_OK)
         print_complement_graph(&c);
@@ -363,7 +370,7 @@ static int answer(const struct request *r, const struct words *w, const struct a
 {
     const struct tubochre_checked checked = tubochre_check(w->word, w->len);
     if (checked.number != TUBOCHRE_OK)
-        return pattern_refused(stdout, checked, w);
+        return pattern_refused(stdout, "pattern", checked, w);
     printf("pattern: passes the check (states %u, letters %u, records %u)\n", (unsigned)w->word[0],
            (unsigned)w->word[1], (unsigned)w->word[2]);
     fflush(stdout); /* before the build, which may take long */
@@ -416,7 +423,7 @@ int main(int argc, char **argv)
         printf("%s %s\n", program_name, TUBOCHRE_VERSION);
     } else {
         check_request(&r);
-        status = run(&r);
+        status = r.merge ? merge_files(r.words[0], r.words[1]) : run(&r);
     }
     return finish(status);
 }
