@@ -1,5 +1,5 @@
 -- What a merge says, of a refusal and of the merged words; and what follows of what it says. Assumes nothing.
-use mathlib.Core.Path.{_≡_, refl, sym, ap, _∙_}
+use mathlib.Core.Path.{_≡_, sym, ap, _∙_}
 use mathlib.Core.List.{List}
 use Prim.Native.Nat.{ℕ, _-_}
 use borrow.Rule.Slice.PartMut.{midOf, putMid}

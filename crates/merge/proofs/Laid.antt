@@ -1,12 +1,11 @@
 -- Laying out the merged table, part by part: what each part asks, and that the parts one behind the other are the merged words. Assumes nothing.
 use mathlib.Core.Path.{_≡_, refl, sym, ap, _∙_}
 use mathlib.Core.List.{List, [], _∷_, _++_, append-assoc}
-use Prim.Native.Nat.{ℕ, _+_, _*_, _≤_, _<_, _^_}
+use Prim.Native.Nat.{ℕ, _+_, _≤_, _<_, _^_}
 use native.Mathlib.Omega.{arith}
 use lib.ListN.{length, length-append}
 use lib.Seq.{sets}
-use Rattle.basics.specs.Buffers.{filled, zeros, overwritten}
-use Rattle.basics.specs.Joined.{numbered-on}
+use Rattle.basics.specs.Buffers.{overwritten}
 use Rattle.basics.specs.Rows.{rows}
 use Rattle.basics.specs.Words.{word-bits}
 use Rattle.basics.proofs.Overwriting.{overwritten-words}

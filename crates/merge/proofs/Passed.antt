@@ -9,7 +9,7 @@ use Rattle.automata.specs.Automaton.{Takes, Same}
 use Rattle.automata.specs.Union.{disjoint-union}
 use Rattle.automata.proofs.Same.{same-eq}
 use Rattle.automata.proofs.Union.{union-takes}
-use Rattle.tables.specs.Table.{pattern-range, k-of, meaning, table-refusal}
+use Rattle.tables.specs.Table.{pattern-range, meaning, table-refusal}
 use Rattle.tables.proofs.Laws.{valid}
 use Rattle.patterns.specs.Check.{check-refusal}
 use Rattle.patterns.specs.Pattern.{semi-deterministic}

@@ -1,7 +1,7 @@
 -- The disjoint union of two automata reaches what each of them reaches, its Q2 is that of the two, and it is semi-deterministic exactly if
 -- both are. Assumes nothing.
 use mathlib.Core.Path.{_≡_, refl, sym, _∙_, ap, subst}
-use mathlib.Core.Bool.{true, _&&_}
+use mathlib.Core.Bool.{_&&_}
 use mathlib.Core.Logic.{_⊎_, inl, inr, _↔_}
 use Prim.Native.Nat.{ℕ, _+_, _-_, _≤_, _<_}
 use native.Mathlib.Omega.{arith}

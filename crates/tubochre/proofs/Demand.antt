@@ -6,12 +6,11 @@ use mathlib.Core.Logic.{_⊎_, inl, inr}
 use Prim.Native.Nat.{ℕ}
 use native.Mathlib.Omega.{arith}
 use lib.ListN.{length}
-use Rattle.basics.specs.Words.{word-bits}
 use Rattle.basics.proofs.Booleans.{eqb-eq, eq-eqb}
 use Rattle.automata.specs.Automaton.{Accepting-run, Takes, Single-run}
 use Rattle.automata.specs.Lasso.{letter-at, Lasso}
-use Rattle.tables.specs.Table.{Limits, Wider, Range-fits, pattern-range, wide-range, k-of, meaning}
-use Rattle.tables.proofs.Laws.{valid, words-fit, wide-fits, wide-patterns}
+use Rattle.tables.specs.Table.{Limits, Wider, Range-fits, pattern-range, k-of, meaning}
+use Rattle.tables.proofs.Laws.{valid, words-fit}
 use Rattle.ncsb.specs.Successors.{ncsb, accepting}
 use Rattle.ncsb.proofs.Initials.{initials-right, initials-rising}
 use Rattle.ncsb.proofs.Reached.{reached-fine}

@@ -9,7 +9,7 @@ use lib.ListN.{length}
 use Rattle.automata.specs.Automaton.{Takes}
 use Rattle.automata.specs.Lasso.{letter-at, Lasso}
 use Rattle.tables.specs.Table.{Limits, Wider, pattern-range, k-of, meaning}
-use Rattle.patterns.specs.Check.{check-refusal, as-checked, checked}
+use Rattle.patterns.specs.Check.{as-checked, checked}
 use Rattle.patterns.specs.declared.Checked.the-variants.{Passed}
 use Rattle.complement.specs.Build.{Lent, Build-says, used}
 use Rattle.complement.specs.declared.Counts.{Counts}

@@ -8,7 +8,7 @@ use lib.ListN.{length, length-set}
 use Rattle.basics.specs.Words.{word-bits, largest-word}
 use Rattle.basics.proofs.Laying.{Laying, laying-start, laying-end}
 use Rattle.tables.specs.Access.{Record-asks}
-use Rattle.tables.specs.Table.{n-of, m-of, target-of, next-of}
+use Rattle.tables.specs.Table.{m-of, target-of, next-of}
 use Rattle.merge.specs.Merged.{link-on, record-row}
 use Rattle.merge.proofs.Links.{link-most}
 use Rattle.merge.proofs.Turns.{record-reads, record-room, record-target, record-link, record-turn}

@@ -1,5 +1,4 @@
 -- `link_on` meets its contract. Assumes nothing.
-use mathlib.Core.Path.{sym}
 use borrow.Author.Needs.{needs}
 use Rattle.basics.proofs.Booleans.{eq-eqb, ne-eqb}
 use Rattle.merge.specs.Merged.{link-on}

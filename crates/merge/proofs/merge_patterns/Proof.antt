@@ -1,6 +1,6 @@
 -- `merge_patterns` meets its contract: a refusal clears the words; else they are laid out, and those behind them are cleared (Answers). Assumes
 -- nothing.
-use mathlib.Core.Path.{_≡_, sym, _∙_}
+use mathlib.Core.Path.{sym, _∙_}
 use Prim.Native.Nat.{_≤_}
 use native.Mathlib.Omega.{arith}
 use denote.Ref.{now}
