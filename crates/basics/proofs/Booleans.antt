@@ -59,14 +59,14 @@ pub or_false_r : (b c : Bool) → (b || c) ≡ false → c ≡ false
 or_false_r true c p = absurd (true≢false p)
 or_false_r false c p = p
 
-pub or-false : {b c : Bool} → b ≡ false → c ≡ false → (b || c) ≡ false
-or-false p q = cc
+pub or_false : {b c : Bool} → b ≡ false → c ≡ false → (b || c) ≡ false
+or_false p q = cc
 
-pub not-true : {b : Bool} → b ≡ true → not b ≡ false
-not-true p = cc
+pub not_true : {b : Bool} → b ≡ true → not b ≡ false
+not_true p = cc
 
-pub not-false : {b : Bool} → b ≡ false → not b ≡ true
-not-false p = cc
+pub not_false : {b : Bool} → b ≡ false → not b ≡ true
+not_false p = cc
 
 -- two Booleans that are true together are equal
 pub same_truth : (b c : Bool) → (b ≡ true → c ≡ true) → (c ≡ true → b ≡ true) → b ≡ c

@@ -1,4 +1,6 @@
 // What every layer counts, searches, clears and answers with. Definitions stand in specs/, laws in proofs/.
+#![tactic(auto)]
+
 ghost use Rattle.std.specs.Prelude.{◌≡◌, length, replicate};
 ghost use Rattle.basics.specs.Buffers.{zeros};
 

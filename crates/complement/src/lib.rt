@@ -1,4 +1,6 @@
 // The complement build: the reachable NCSB complement of a pattern, in lent buffers.
+#![tactic(auto)]
+
 ghost use Rattle.std.specs.Prelude.{◌≤◌, ◌≡◌};
 ghost use Rattle.tables.specs.Table.{wide_range};
 ghost use Rattle.complement.specs.Build.{lent, too_long, BuildSays, RefusedWith};

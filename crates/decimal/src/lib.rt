@@ -1,4 +1,6 @@
 // Decimal numbers as text: reading them from bytes, and writing them as lines of fields.
+#![tactic(auto)]
+
 mod lines;
 mod reading;
 

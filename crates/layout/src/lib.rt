@@ -1,5 +1,7 @@
 // From numbered states and edges to the words of a chained table. While a system is explored its edges stand in the words as triples (letter,
 // target, source); once the number of states is known they become records, in place.
+#![tactic(auto)]
+
 ghost use Rattle.std.specs.Prelude.{◌≡◌, ◌≤◌, ◌<◌, length};
 ghost use Rattle.basics.specs.Buffers.{filled};
 ghost use Rattle.basics.specs.Words.{word_bits, largest_word};

@@ -1,6 +1,8 @@
 // Lists the complement of a pattern: reads the pattern's words as decimal numbers from standard input, and writes the listing of what
 // it read. What is written is proved in `listing_text`. The language gives a program no exit status: a refusal is told on standard
 // output, as docs/RULES.md has it, and a read or write that failed on standard error.
+#![tactic(auto)]
+
 ghost use Rattle.decimal.specs.Reading.{Ready};
 
 use decimal::Reading;

@@ -1,4 +1,6 @@
 // The whole output of the listing program, from what was read of its input.
+#![tactic(auto)]
+
 ghost use Rattle.std.specs.Prelude.{◌≤◌, length};
 ghost use Rattle.tables.specs.Table.{wide_range};
 ghost use Rattle.complement.specs.Build.{build_refusal};

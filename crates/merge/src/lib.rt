@@ -1,4 +1,6 @@
 // Two patterns made into one: the second's states and records are numbered on from the first's.
+#![tactic(auto)]
+
 ghost use Rattle.std.specs.Prelude.{◌≡◌, ◌+◌, ◌^◌, ◌<◌, length};
 ghost use Rattle.std.proofs.lemmas.List.Edits.{sets};
 ghost use Rattle.basics.specs.Buffers.{overwritten};

@@ -1,4 +1,6 @@
 // The complement's states: quadruples (N, C, S, B) of sets of pattern states, and their step (docs/RULES.md, "The quadruple and its step").
+#![tactic(auto)]
+
 ghost use Rattle.std.specs.Prelude.{◌≡◌, [], ◌^◌};
 ghost use Rattle.sets.specs.Sets.{set_states, size, Narrow};
 ghost use Rattle.ncsb.specs.Array.{from_array, nth_initial, nth_successor};

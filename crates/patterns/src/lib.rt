@@ -1,4 +1,6 @@
 // The pattern check: refusals 2 to 10, and what the construction reads of a pattern, spread out by state and by letter.
+#![tactic(auto)]
+
 ghost use Rattle.std.specs.Prelude.{◌≡◌};
 ghost use Rattle.sets.specs.Sets.{Narrow};
 ghost use Rattle.tables.specs.Table.{pattern_range, table_refusal, meaning};

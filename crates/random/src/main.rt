@@ -1,5 +1,7 @@
 // Many random patterns with lassos, drawn anew in the same way at each run. The library's own calls are held to the third
 // demand on each; the summary is held to a stored output.
+#![tactic(auto)]
+
 mod demand;
 mod draw;
 mod pattern;

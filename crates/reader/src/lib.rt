@@ -2,6 +2,8 @@
 // The checker proves no function over such a struct by itself, so `new`, `edge`, `next` and `count_records` are proved by hand.
 // The first three are thin: the work is done on the slice and the number, by `head_record`, `edge_at` and `record_after`.
 // Every function answers on every slice: damaged links lead to the end.
+#![tactic(auto)]
+
 ghost use Rattle.std.specs.Prelude.{◌≡◌, ◌*◌, ◌≤◌};
 ghost use Rattle.basics.specs.Words.{word_bits, largest_word};
 ghost use Rattle.tables.specs.Table.{record_at};

@@ -1,4 +1,6 @@
 // What is stored for a state of the complement: a record of words in a lent run of them (docs/RULES.md, "Numbering and result").
+#![tactic(auto)]
+
 ghost use Rattle.std.specs.Prelude.{◌≡◌, ◌<◌};
 ghost use Rattle.record_words.specs.Record.{full_records, quadruple_at, with_quadruple};
 

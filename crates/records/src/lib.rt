@@ -1,4 +1,6 @@
 // A lent run of records, a quadruple each, and thin functions over it (docs/RULES.md, "Numbering and result").
+#![tactic(auto)]
+
 ghost use Rattle.std.specs.Prelude.{◌≡◌, ◌<◌, length, get_or, set, take};
 ghost use Rattle.automata.specs.System.{number_of};
 ghost use Rattle.ncsb.specs.Successors.{same};

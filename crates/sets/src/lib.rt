@@ -1,5 +1,7 @@
 // Sets of pattern states as 32-bit numbers: state q adds 2^q.
 
+#![tactic(auto)]
+
 ghost use Rattle.std.specs.Prelude.{◌≡◌, [], ◌^◌, length, get_or};
 ghost use Rattle.sets.specs.Sets.{set_states, size, subsets, nth_subset, union, without, Narrow};
 

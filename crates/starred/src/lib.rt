@@ -1,1 +1,3 @@
 // The starred trial pieces of docs/RULES.md, "Trial pieces".
+#![tactic(auto)]
+

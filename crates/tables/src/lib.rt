@@ -1,4 +1,6 @@
 // The chained table of docs/RULES.md, "The chained table": a lent slice of 16-bit words.
+#![tactic(auto)]
+
 ghost use Rattle.std.specs.Prelude.{◌≡◌, ◌^◌, ◌≤◌, ◌<◌, get_or, length};
 ghost use Rattle.basics.specs.Words.{word_bits};
 ghost use Rattle.tables.specs.Access.{Word, Sized, StateAsks, RecordAsks, limits};

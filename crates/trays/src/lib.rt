@@ -1,4 +1,6 @@
 // A tray of lassos: one table is asked for each lasso of a list of words.
+#![tactic(auto)]
+
 ghost use Rattle.std.specs.Prelude.{◌≡◌, map, ◌+◌, ◌^◌, ◌<◌, length};
 ghost use Rattle.basics.specs.Buffers.{zeros};
 ghost use Rattle.basics.specs.Words.{byte_bits};

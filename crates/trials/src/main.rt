@@ -1,5 +1,7 @@
 // Runs the trials that stand on standard input, line by line, by the library's own calls. What it prints is held to a stored
 // output that was worked out apart (docs/TRIALS.md).
+#![tactic(auto)]
+
 mod answers;
 mod filling;
 mod lasso;

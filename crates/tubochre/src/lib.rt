@@ -1,4 +1,6 @@
 // The calls for C, and one call that tries a lasso on a pattern and on its complement.
+#![tactic(auto)]
+
 ghost use Rattle.std.specs.Prelude.{◌≡◌};
 ghost use Rattle.patterns.specs.Check.{checked};
 ghost use Rattle.tables.specs.Table.{wide_range};

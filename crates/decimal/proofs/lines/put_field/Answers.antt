@@ -1,0 +1,7 @@
+-- `put_field` writes one byte behind a number. Assumes nothing.
+use Rattle.decimal.proofs.Placing.{field_put}
+use borrow.Author.Rules.{rules}
+use Rattle.decimal.proofs.lines.put_field.Goals as goal
+
+pub returns : goal.returns
+returns c = field_put c.args.n c.args.behind c.requires c.put-number.ensures

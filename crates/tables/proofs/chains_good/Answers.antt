@@ -1,0 +1,19 @@
+-- `tables::chains_good` meets its contract: clear bits, then the heads, then the nexts. Assumes nothing.
+use borrow.Author.Rules.{rules}
+use native.Mathlib.Omega.{arith}
+use Rattle.tables.specs.Marks.{mark_words}
+use Rattle.tables.proofs.Marking.{names_few, heads_fail, chains_answer}
+use Rattle.tables.proofs.chains_good.Goals as goal
+
+pub returns-then-heads-m : goal.returns-then-heads-m
+returns-then-heads-m c = heads_fail c.args.table.now mark_words mark_words c.name-heads.ensures (omega arith)
+
+pub overflow_add-result : goal.overflow_add-result
+overflow_add-result c = let few = names_few c.name-nexts.ensures in omega arith
+
+pub returns : goal.returns
+returns c =
+    chains_answer c.args.table.now mark_words mark_words c.records_of.ensures.is
+    c.name-heads.ensures
+    c.if-heads-m.false
+    c.name-nexts.ensures

@@ -1,0 +1,11 @@
+-- `tables::letter_of` meets its contract: it reads the first of a record's three words. Assumes nothing.
+use borrow.Author.Rules.{rules}
+use native.Mathlib.Omega.{arith}
+use Prim.Native.Nat.{◌+◌, ◌*◌, ◌-◌}
+use Rattle.tables.specs.Table.{letter_of, record_at}
+use Rattle.tables.proofs.letter_of.Goals as goal
+
+pub returns : goal.returns
+unfolding letter_of record_at
+returns c =
+    record { is = rw (← c.requires.counted); small = omega (arith, c.shared-slice-known.given (3 + 2 * c.args.states + 3 * (c.args.number - 1))) }
