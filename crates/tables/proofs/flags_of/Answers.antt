@@ -8,5 +8,4 @@ use Rattle.tables.proofs.flags_of.Goals as goal
 
 pub returns : goal.returns
 unfolding flags_of
-returns c =
-    record { is = refl; small = omega (arith, c.shared-slice-known.given (3 + 2 * c.args.state)) }
+returns c = record { is = refl; small = omega (arith, c.type_inv.table (3 + 2 * c.args.state)) }

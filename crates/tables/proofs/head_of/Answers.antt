@@ -8,5 +8,4 @@ use Rattle.tables.proofs.head_of.Goals as goal
 
 pub returns : goal.returns
 unfolding head_of
-returns c =
-    record { is = refl; small = omega (arith, c.shared-slice-known.given (4 + 2 * c.args.state)) }
+returns c = record { is = refl; small = omega (arith, c.type_inv.table (4 + 2 * c.args.state)) }

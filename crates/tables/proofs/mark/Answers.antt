@@ -17,7 +17,7 @@ returns-then-word-link-ne0 c = again (omega arith) (bit_set c.requires c.if-word
 
 pub overflow_add-seen : goal.overflow_add-seen
 overflow_add-seen c =
-    record { fits = bit_fits c.requires (c.slice-known.given (c.args.link % mark_words)).fits c.if-word-link-ne0.false }
+    record { fits = bit_fits c.requires (c.type_inv.seen (c.args.link % mark_words)).fits c.if-word-link-ne0.false }
 
 pub returns : goal.returns
 returns c =

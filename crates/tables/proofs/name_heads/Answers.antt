@@ -9,19 +9,11 @@ use Rattle.tables.specs.Table.{n_of, m_of, head_of, head_good}
 use Rattle.tables.proofs.Marking.{markable, marked_start, marked_few, marked_more, marked_twice, names_wrong, names_all}
 use Rattle.tables.proofs.name_heads.Goals as goal
 
--- CONV: as it was
-abbrev start : tie.At-loop invariant-loop decreases-loop → tie.Start invariant-loop decreases-loop
-start c = search
-
--- CONV: as it was
-abbrev turn : tie.After-head-of invariant-loop decreases-loop → tie.At-loop invariant-loop decreases-loop
-turn c = search
-
 -- a head has its bit among the words of marks
 
 -- CONV: as it was
-asks-mark : (c : tie.After-head-of invariant-loop decreases-loop) → MarkAsks mark_words c.head_of.result (turn c).loop.seen
-asks-mark c = markable c.head_of.ensures (start (turn c)).pre.1 (turn c).loop.invariant.1.kept
+asks-mark : (c : tie.After-head-of invariant-loop decreases-loop) → MarkAsks mark_words c.head_of.result c.loop-q.seen
+asks-mark c = markable c.head_of.ensures (start (turn-BARE c)).pre.1 c.loop-q.invariant.1.kept
 
 pub loop-q-init : goal.loop-q-init
 loop-q-init c = (scan_start, marked_start _ _ _ _)
@@ -35,17 +27,17 @@ shape_of-seen-then-head-m c = c.loop-q.invariant.1.kept
 pub returns-then-head-m : goal.returns-then-head-m
 returns-then-head-m c =
     names_wrong (head_good c.args.table.now) c.loop-q.q (omega arith)
-    (read_gt c.head_of.ensures.is c.records_of.ensures.is c.if-head-m.true) (omega arith)
+    (read_gt c.head_of-head.ensures.is c.records_of-m.ensures.is c.if-head-m.true) (omega arith)
 
 pub mark-more-requires : goal.mark-more-requires
-mark-more-requires c = asks-mark (goal.at.mark-more-requires c).After-head-of
+mark-more-requires c = asks-mark (goal.at.mark-more-requires c).After-head_of-head
 
 pub shape_of-seen-then-more-gt1 : goal.shape_of-seen-then-more-gt1
 shape_of-seen-then-more-gt1 c = c.mark-more.auto.seen ∙ c.loop-q.invariant.1.kept
 
 pub returns-then-more-gt1 : goal.returns-then-more-gt1
 returns-then-more-gt1 c =
-    marked_twice c.loop-q.invariant.1 c.head_of.ensures.is c.mark-more.ensures
+    marked_twice c.loop-q.invariant.1 c.head_of-head.ensures.is c.mark-more.ensures
     (head_good c.args.table.now)
     _
     (omega arith)
@@ -58,11 +50,11 @@ overflow_add-names c = let few = marked_few c.loop-q.invariant.1 in omega arith
 
 pub loop-q-preserved : goal.loop-q-preserved
 loop-q-preserved c =
-    let few = c.records_of.ensures.small in (
+    let few = c.records_of-m.ensures.small in (
       scan_more c.loop-q.invariant.0 (omega arith)
-          (read_le c.head_of.ensures.is c.records_of.ensures.is c.if-head-m.false),
-      marked_more c.loop-q.invariant.1 c.head_of.ensures.is c.mark-more.ensures
-          (asks-mark (goal.at.loop-q-preserved c).After-head-of)
+          (read_le c.head_of-head.ensures.is c.records_of-m.ensures.is c.if-head-m.false),
+      marked_more c.loop-q.invariant.1 c.head_of-head.ensures.is c.mark-more.ensures
+          (asks-mark (goal.at.loop-q-preserved c).After-head_of-head)
           (omega arith)
           (omega arith)
           c.if-more-gt1.false,

@@ -11,22 +11,22 @@ use Rattle.tables.proofs.Checks.{next_fails, next_passes, next_small}
 use Rattle.tables.proofs.Laws.{record_inside}
 use Rattle.tables.proofs.Marking.{markable, marked_start, marked_few, marked_more, marked_twice, names_wrong, names_all}
 use Rattle.tables.proofs.name_nexts.Goals as goal
--- CONV: import After-next-of from Goals
--- CONV: import Else-not-next_good from Goals
+use Rattle.tables.proofs.name_nexts.Goals.{After-next_of-next}
+use Rattle.tables.proofs.name_nexts.Goals.{Else-not-next_good}
 
 -- a next was read: it has its bit among the words of marks
 
-module _ (c : After-next-of) where
-  asks-mark : MarkAsks mark_words c.next_of.result c.loop-i.seen
-  asks-mark = markable c.next_of.ensures c.requires.1 c.loop-i.invariant.1.kept
+module _ (c : After-next_of-next) where
+  asks-mark : MarkAsks mark_words c.next_of-next.result c.loop-i.seen
+  asks-mark = markable c.next_of-next.ensures c.requires.1 c.loop-i.invariant.1.kept
 
 -- it passed: it is in range
 
 module _ (c : Else-not-next_good) where
-  inside : c.next_of.result ≤ m_of (start reading-BARE).args.table.now
+  inside : c.next_of-next.result ≤ m_of (start reading-BARE).args.table.now
   inside =
-      next_small (start reading-BARE).args.table.now (turn reading-BARE).loop.i c.records_of.ensures.is
-      c.next_of.ensures.is
+      next_small (start reading-BARE).args.table.now (turn reading-BARE).loop.i c.records_of-m.ensures.is
+      c.next_of-next.ensures.is
       c.next_good.ensures
       c.if-not-next_good.false
 
@@ -34,7 +34,7 @@ pub loop-i-init : goal.loop-i-init
 loop-i-init c = (scan_start, marked_start _ _ _ _)
 
 pub next_of-next-requires : goal.next_of-next-requires
-next_of-next-requires c = record_inside c.states-of.ensures.is c.requires.0 (omega arith)
+next_of-next-requires c = record_inside c.states_of-n.ensures.is c.requires.0 (omega arith)
 
 pub shape_of-seen-then-not-next_good : goal.shape_of-seen-then-not-next_good
 shape_of-seen-then-not-next_good c = c.loop-i.invariant.1.kept
@@ -43,18 +43,18 @@ pub returns-then-not-next_good : goal.returns-then-not-next_good
 returns-then-not-next_good c =
     let t = c.args.table.now in
     names_wrong (next_good t) c.loop-i.i (omega arith)
-    (next_fails t c.loop-i.i c.records_of.ensures.is c.next_of.ensures.is c.next_good.ensures c.if-not-next_good.true)
+    (next_fails t c.loop-i.i c.records_of-m.ensures.is c.next_of-next.ensures.is c.next_good.ensures c.if-not-next_good.true)
     (omega arith)
 
 pub mark-more-requires : goal.mark-more-requires
-mark-more-requires c = asks-mark (goal.at.mark-more-requires c).After-next-of
+mark-more-requires c = asks-mark (goal.at.mark-more-requires c).After-next_of-next
 
 pub shape_of-seen-then-more-gt1 : goal.shape_of-seen-then-more-gt1
 shape_of-seen-then-more-gt1 c = c.mark-more.auto.seen ∙ c.loop-i.invariant.1.kept
 
 pub returns-then-more-gt1 : goal.returns-then-more-gt1
 returns-then-more-gt1 c =
-    marked_twice c.loop-i.invariant.1 (rw add-one at c.next_of.ensures.is) c.mark-more.ensures
+    marked_twice c.loop-i.invariant.1 (rw add-one at c.next_of-next.ensures.is) c.mark-more.ensures
     (next_good c.args.table.now)
     _
     (omega arith)
@@ -67,13 +67,13 @@ overflow_add-names c = let few = marked_few c.loop-i.invariant.1 in omega arith
 
 pub loop-i-preserved : goal.loop-i-preserved
 loop-i-preserved c =
-    let counted = c.records_of.ensures.is in
-    let few = c.records_of.ensures.small in (
+    let counted = c.records_of-m.ensures.is in
+    let few = c.records_of-m.ensures.small in (
       scan_more c.loop-i.invariant.0 (omega arith)
-          (next_passes c.args.table.now c.loop-i.i counted c.next_of.ensures.is
+          (next_passes c.args.table.now c.loop-i.i counted c.next_of-next.ensures.is
           c.next_good.ensures
           c.if-not-next_good.false),
-      marked_more c.loop-i.invariant.1 (rw add-one at c.next_of.ensures.is) c.mark-more.ensures (asks-mark (goal.at.loop-i-preserved c).After-next-of)
+      marked_more c.loop-i.invariant.1 (rw add-one at c.next_of-next.ensures.is) c.mark-more.ensures (asks-mark (goal.at.loop-i-preserved c).After-next_of-next)
           (omega arith)
           (inside (goal.at.loop-i-preserved c).Else-not-next_good)
           c.if-more-gt1.false,

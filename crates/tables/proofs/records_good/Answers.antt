@@ -12,21 +12,21 @@ pub loop-i-init : goal.loop-i-init
 loop-i-init c = scan_start
 
 pub letter_of-requires : goal.letter_of-requires
-letter_of-requires c = record_inside c.states-of.ensures.is c.requires (omega arith)
+letter_of-requires c = record_inside c.states_of-n.ensures.is c.requires (omega arith)
 
 pub returns-then-letter_of-k : goal.returns-then-letter_of-k
 returns-then-letter_of-k c =
-    letter_bad c.args.table.now c.loop-i.i c.states-of.ensures.is c.letters-of.ensures.is
+    letter_bad c.args.table.now c.loop-i.i c.states_of-n.ensures.is c.letters_of-k.ensures.is
     c.letter_of.ensures.is
     (omega arith)
     c.if-letter_of-k.true
 
 pub target_of-requires : goal.target_of-requires
-target_of-requires c = record_inside c.states-of.ensures.is c.requires (omega arith)
+target_of-requires c = record_inside c.states_of-n.ensures.is c.requires (omega arith)
 
 pub returns-then-target_of-n : goal.returns-then-target_of-n
 returns-then-target_of-n c =
-    target_bad c.args.table.now c.loop-i.i c.states-of.ensures.is c.letters-of.ensures.is
+    target_bad c.args.table.now c.loop-i.i c.states_of-n.ensures.is c.letters_of-k.ensures.is
     c.letter_of.ensures.is
     (omega arith)
     c.target_of.ensures.is
@@ -35,7 +35,7 @@ returns-then-target_of-n c =
 pub loop-i-preserved : goal.loop-i-preserved
 loop-i-preserved c =
     scan_more c.loop-i.invariant (omega arith)
-    (record_passes c.args.table.now c.loop-i.i c.states-of.ensures.is c.letters-of.ensures.is
+    (record_passes c.args.table.now c.loop-i.i c.states_of-n.ensures.is c.letters_of-k.ensures.is
     c.letter_of.ensures.is
     c.if-letter_of-k.false
     c.target_of.ensures.is

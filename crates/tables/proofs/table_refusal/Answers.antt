@@ -8,10 +8,6 @@ use Rattle.tables.specs.Table.{Limits}
 use Rattle.tables.proofs.Refusals.{sizes_bad, flags_bad, records_bad, chains_bad, table_good, sizes_sized}
 use Rattle.tables.proofs.table_refusal.Goals as goal
 
--- CONV: as it was
-abbrev sizes-known : tie.Else1 → tie.After-sizes-refusal
-sizes-known c = search
-
 -- what the function is handed
 
 -- CONV: as it was
@@ -27,25 +23,25 @@ table c = c.args.table.now
 -- CONV: as it was
 sized : (c : tie.Else1) → Sized (table (sizes-known c))
 sized c =
-    let s = sizes-known c in sizes_sized (range s) (table s) (sym s.sizes_refusal.ensures ∙ c.if1.false)
+    sizes_sized (range s-BARE) (table s-BARE) (sym c.sizes_refusal-sizes.ensures ∙ c.if1.false)
 
 pub returns-then-sizes-ne0 : goal.returns-then-sizes-ne0
 returns-then-sizes-ne0 c =
-    sizes_bad (range (goal.at.returns-then-sizes-ne0 c).After-sizes-refusal) (table (goal.at.returns-then-sizes-ne0 c).After-sizes-refusal) c.sizes_refusal.ensures c.if-sizes-ne0.true
+    sizes_bad (range (goal.at.returns-then-sizes-ne0 c).After-sizes_refusal-sizes) (table (goal.at.returns-then-sizes-ne0 c).After-sizes_refusal-sizes) c.sizes_refusal-sizes.ensures c.if-sizes-ne0.true
 
 pub flags_good-requires : goal.flags_good-requires
 flags_good-requires c = sized c
 
 pub returns-then-not-flags_good : goal.returns-then-not-flags_good
 returns-then-not-flags_good c =
-    flags_bad (range (goal.at.returns-then-not-flags_good c).After-sizes-refusal) (table (goal.at.returns-then-not-flags_good c).After-sizes-refusal) c.sizes_refusal.ensures c.if-sizes-ne0.false c.flags_good.ensures c.if-not-flags_good.true
+    flags_bad (range (goal.at.returns-then-not-flags_good c).After-sizes_refusal-sizes) (table (goal.at.returns-then-not-flags_good c).After-sizes_refusal-sizes) c.sizes_refusal-sizes.ensures c.if-sizes-ne0.false c.flags_good.ensures c.if-not-flags_good.true
 
 pub records_good-requires : goal.records_good-requires
 records_good-requires c = sized (goal.at.records_good-requires c).Else-sizes-ne0
 
 pub returns-then-not-records_good : goal.returns-then-not-records_good
 returns-then-not-records_good c =
-    records_bad (range (goal.at.returns-then-not-records_good c).After-sizes-refusal) (table (goal.at.returns-then-not-records_good c).After-sizes-refusal) c.sizes_refusal.ensures c.if-sizes-ne0.false c.flags_good.ensures c.if-not-flags_good.false
+    records_bad (range (goal.at.returns-then-not-records_good c).After-sizes_refusal-sizes) (table (goal.at.returns-then-not-records_good c).After-sizes_refusal-sizes) c.sizes_refusal-sizes.ensures c.if-sizes-ne0.false c.flags_good.ensures c.if-not-flags_good.false
     c.records_good.ensures
     c.if-not-records_good.true
 
@@ -54,7 +50,7 @@ chains_good-requires c = sized (goal.at.chains_good-requires c).Else-sizes-ne0
 
 pub returns-then-not-chains_good : goal.returns-then-not-chains_good
 returns-then-not-chains_good c =
-    chains_bad (range (goal.at.returns-then-not-chains_good c).After-sizes-refusal) (table (goal.at.returns-then-not-chains_good c).After-sizes-refusal) c.sizes_refusal.ensures c.if-sizes-ne0.false c.flags_good.ensures c.if-not-flags_good.false
+    chains_bad (range (goal.at.returns-then-not-chains_good c).After-sizes_refusal-sizes) (table (goal.at.returns-then-not-chains_good c).After-sizes_refusal-sizes) c.sizes_refusal-sizes.ensures c.if-sizes-ne0.false c.flags_good.ensures c.if-not-flags_good.false
     c.records_good.ensures
     c.if-not-records_good.false
     c.chains_good.ensures
@@ -62,7 +58,7 @@ returns-then-not-chains_good c =
 
 pub returns : goal.returns
 returns c =
-    table_good (range (goal.at.returns c).After-sizes-refusal) (table (goal.at.returns c).After-sizes-refusal) c.sizes_refusal.ensures c.if-sizes-ne0.false c.flags_good.ensures c.if-not-flags_good.false
+    table_good (range (goal.at.returns c).After-sizes_refusal-sizes) (table (goal.at.returns c).After-sizes_refusal-sizes) c.sizes_refusal-sizes.ensures c.if-sizes-ne0.false c.flags_good.ensures c.if-not-flags_good.false
     c.records_good.ensures
     c.if-not-records_good.false
     c.chains_good.ensures

@@ -6,7 +6,7 @@ use lib.ListN.{get_or-eq_default}
 use Rattle.tables.proofs.word.Goals as goal
 
 pub returns-then-i-table : goal.returns-then-i-table
-returns-then-i-table c = record { is = refl; small = omega (arith, c.shared-slice-known.given c.args.i) }
+returns-then-i-table c = record { is = refl; small = omega (arith, c.type_inv.table c.args.i) }
 
 pub returns-else-i-table : goal.returns-else-i-table
 returns-else-i-table c =

@@ -4,4 +4,4 @@ use borrow.Author.Rules.{rules}
 use Rattle.decimal.proofs.lines.put_field.Goals as goal
 
 pub returns : goal.returns
-returns c = field_put c.args.n c.args.behind c.requires c.put-number.ensures
+returns c = field_put c.args.n c.args.behind c.requires c.put_number-end.ensures

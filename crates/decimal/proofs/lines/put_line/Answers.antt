@@ -26,7 +26,7 @@ pub loop-i-smaller : goal.loop-i-smaller
 loop-i-smaller c = omega (arith, c.loop-i-test.true)
 
 pub loop-i-preserved : goal.loop-i-preserved
-loop-i-preserved c = lining_turn c.loop-i-test.true c.loop-i.invariant c.put-field.ensures
+loop-i-preserved c = lining_turn c.loop-i-test.true c.loop-i.invariant c.put_field-place.ensures
 
 pub offset_bounds-fields-last : goal.offset_bounds-fields-last
 offset_bounds-fields-last c = record { fits = omega (arith, c.ranges.0.1) }
@@ -38,7 +38,7 @@ pub put_field-requires : goal.put_field-requires
 put_field-requires c = lining_room c.requires.1 c.loop-i.invariant
 
 pub shape_of-buffer : goal.shape_of-buffer
-shape_of-buffer c = same-length-of c.put-field2.ensures ∙ c.loop-i.invariant.same
+shape_of-buffer c = same-length-of c.put_field.ensures ∙ c.loop-i.invariant.same
 
 pub returns : goal.returns
-returns c = lining_end c.requires.1 c.loop-i-test.false c.loop-i.invariant c.put-field2.ensures
+returns c = lining_end c.requires.1 c.loop-i-test.false c.loop-i.invariant c.put_field.ensures

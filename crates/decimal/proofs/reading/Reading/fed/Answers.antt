@@ -20,7 +20,7 @@ pub loop-i-smaller : goal.loop-i-smaller
 loop-i-smaller c = omega (arith, c.loop-i-test.true)
 
 pub loop-i-preserved : goal.loop-i-preserved
-loop-i-preserved c = feeding_turn c.loop-i-test.true c.loop-i.invariant c.with_byte.ensures
+loop-i-preserved c = feeding_turn c.loop-i-test.true c.loop-i.invariant c.with_byte-reading.ensures
 
 pub shape_of-words : goal.shape_of-words
 shape_of-words c = c.loop-i.invariant.became.same

@@ -6,8 +6,8 @@ use Rattle.decimal.specs.Reading.{is_blank, is_digit}
 use Rattle.decimal.proofs.Scanning.{byte_nothing, byte_blank, byte_other, byte_many, byte_large, byte_digit, digit_from, digit_fits, digit_fits_first}
 use borrow.Author.Rules.{rules}
 use Rattle.decimal.proofs.reading.Reading.with_byte.Goals as goal
--- CONV: import Else-self from Goals
--- CONV: import Else-not-is_digit from Goals
+use Rattle.decimal.proofs.reading.Reading.with_byte.Goals.{Else-self}
+use Rattle.decimal.proofs.reading.Reading.with_byte.Goals.{Else-not-is_digit}
 
 -- behind the first test
 
@@ -49,11 +49,11 @@ overflow_add-value c =
 
 pub returns-then-self-words : goal.returns-then-self-words
 returns-then-self-words c =
-    rw c.failed-after2.ensures (byte_many c.requires c.args.byte c.if-self.false (no_blank (goal.at.returns-then-self-words c).Else-not-is_digit) (a_digit (goal.at.returns-then-self-words c).Else-not-is_digit) c.if-self-words.true)
+    rw c.failed_after-then-self-words.ensures (byte_many c.requires c.args.byte c.if-self.false (no_blank (goal.at.returns-then-self-words c).Else-not-is_digit) (a_digit (goal.at.returns-then-self-words c).Else-not-is_digit) c.if-self-words.true)
 
 pub returns-then-value-gt-LARGEST : goal.returns-then-value-gt-LARGEST
 returns-then-value-gt-LARGEST c =
-    rw c.failed-after3.ensures (byte_large c.requires c.args.byte c.if-self.false (no_blank (goal.at.returns-then-value-gt-LARGEST c).Else-not-is_digit) (a_digit (goal.at.returns-then-value-gt-LARGEST c).Else-not-is_digit) c.if-value-gt-LARGEST.true)
+    rw c.failed_after-then-value-gt-LARGEST.ensures (byte_large c.requires c.args.byte c.if-self.false (no_blank (goal.at.returns-then-value-gt-LARGEST c).Else-not-is_digit) (a_digit (goal.at.returns-then-value-gt-LARGEST c).Else-not-is_digit) c.if-value-gt-LARGEST.true)
 
 pub returns : goal.returns
 returns c =
