@@ -6,7 +6,7 @@ ghost use Rattle.basics.specs.Buffers.{zeros};
 
 // What a call answers that writes items and is no build: number 0 and how many it wrote, or the refusal's number and count 0.
 #[repr(C)]
-#[derive(Drop)]
+#[derive(Clone, Copy)]
 pub struct Written {
     pub number: u32,
     pub count: usize,

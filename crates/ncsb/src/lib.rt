@@ -3,16 +3,14 @@
 
 ghost use Rattle.std.specs.Prelude.{◌≡◌, [], ◌^◌};
 ghost use Rattle.sets.specs.Sets.{set_states, size, Narrow};
-ghost use Rattle.ncsb.specs.Array.{from_array, nth_initial, nth_successor};
-ghost use Rattle.ncsb.specs.Successors.{same, accepting, asks, blocked_by};
+ghost use Rattle.ncsb.specs.Array.{from_array, nth_initial, asks, blocked_by, nth_successor};
+ghost use Rattle.ncsb.specs.Successors.{same, accepting, dead_end};
 
-use sets::TargetSets;
-
-mod lines;
+use sets::{ROW_LETTERS, TargetSets};
 
 // Four sets of pattern states: N tracks Q1, C the runs that may still accept, S the safe ones, B those of C since the last breakpoint.
 #[repr(C)]
-#[derive(Drop)]
+#[derive(Clone, Copy)]
 pub struct Quadruple {
     pub N: u32,
     pub C: u32,
@@ -20,20 +18,20 @@ pub struct Quadruple {
     pub B: u32,
 }
 
-// What the lines of section 3.2 ask of all that follows a quadruple on a letter, worked out once for all choices.
-#[derive(Drop)]
+// What a letter asks of a quadruple, worked out once for all choices.
+#[derive(Clone, Copy)]
 pub struct Asked {
-    // 1. N', which is d1 of N
+    // N', which is d1 of N
     pub outer: u32,
-    // 1. C' and S' together, which are dt of N joined with d2 of C and S
+    // C' and S' together
     pub tracked: u32,
-    // 3. d2 of S, which S' contains
-    pub safe: u32,
-    // 4. d2 of C without F, which C' contains
+    // d2 of C without F, which stays in C'
     pub staying: u32,
-    // what these leave free: the targets that may go to C' or to S'
+    // d2 of S, which stays in S'
+    pub safe: u32,
+    // the targets that may go to either
     pub free: u32,
-    // 6. d2 of B, which B' is cut from unless B is empty
+    // d2 of B
     pub followed: u32,
 }
 
@@ -67,48 +65,79 @@ impl Quadruple {
         self.B == 0
     }
 
-    // What the letter asks, by lines 1, 3 and 4. They leave free what is tracked, and neither in F, nor in d2 of S, nor in d2 of C
-    // without F: these targets come from dt of N or d2 of C in F. Line 6 needs d2 of B.
+    // What the letter asks, in the order of the paper's conditions.
     pub fn on_letter(self, moves: &TargetSets, marks: u32, inner: u32, letter: usize) -> Asked
         requires { Narrow moves.now }
         ensures { result ≡ asks (from_array moves.now 0 marks inner) self letter }
     {
-        let reachable = lines::reachable(self, moves, inner, letter);
-        let safe = lines::safe_stays(self, moves, letter);
-        let staying = lines::not_leaving(self, moves, marks, letter);
+        // Tracing the reachable states: N' is d1 of N; C' and S' together are dt of N joined with d2 of C and S.
+        let reached = sets::targets(moves, letter, self.N);
+        let leaving = sets::targets(moves, letter, self.C & marks);
+        let staying = sets::targets(moves, letter, sets::without(self.C, marks));
+        let safe = sets::targets(moves, letter, self.S);
+        let moving = (reached & inner) | leaving;
+        // Safe runs stay safe, and only runs that leave an accepting state or enter Q2 can become safe.
+        let bound = marks | (safe | staying);
         Asked {
-            outer: reachable.outer,
-            tracked: reachable.tracked,
-            safe,
+            outer: sets::without(reached, inner),
+            tracked: moving | (staying | safe),
             staying,
-            free: sets::without(reachable.tracked, marks | (safe | staying)),
+            safe,
+            free: sets::without(moving, bound),
             followed: sets::targets(moves, letter, self.B),
         }
     }
 
-    // No quadruple follows: what has to be safe by line 3 lies in F or has to stay in C by line 4, and line 2 lets nothing be both; or
-    // line 5 does not hold.
+    // Some state of C without F has no target on the letter: the run that ends there was safe already.
+    fn dead_end(self, moves: &TargetSets, marks: u32, letter: usize) -> bool
+        requires { Narrow moves.now }
+        ensures { result ≡ dead_end (from_array moves.now 0 marks 0) self letter }
+    {
+        let mut left = sets::without(self.C, marks);
+        if ROW_LETTERS <= letter {
+            return left != 0;
+        }
+        while left != 0 {
+            let state = u32::trailing_zeros(left) as usize;
+            if moves[state][letter] == 0 {
+                return true;
+            }
+            left = left & (left - 1);
+        }
+        false
+    }
+
+    // No quadruple follows: a safe run would meet F or a run that has to stay in C, or one in C without F ends.
     pub fn blocked(self, moves: &TargetSets, marks: u32, letter: usize, asked: Asked) -> bool
         requires { Narrow moves.now }
         ensures { result ≡ blocked_by (from_array moves.now 0 marks 0) self letter asked }
     {
-        if asked.safe & (marks | asked.staying) != 0 {
+        if asked.safe & asked.staying != 0 {
             return true;
         }
-        !lines::no_dead_end(self, moves, marks, letter)
+        if asked.safe & marks != 0 {
+            return true;
+        }
+        self.dead_end(moves, marks, letter)
     }
 
-    // The successor for a choice of the free targets that become safe: S' is d2 of S and the choice, and lines 2 and 6 give C' and B'.
+    // The successor for a choice of the free targets that become safe.
     pub fn successor(self, asked: Asked, choice: u32) -> Quadruple
         ensures { result ≡ nth_successor self asked choice }
     {
         let safe = asked.safe | sets::nth_subset(asked.free, choice);
-        let rest = lines::disjoint(asked.tracked, safe);
+        let rest = sets::without(asked.tracked, safe);
+        // The breakpoint: once B is empty it starts anew from C', and else it follows its runs within C'.
+        let breakpoint = if self.B == 0 {
+            rest
+        } else {
+            asked.followed & rest
+        };
         Quadruple {
             N: asked.outer,
             C: rest,
             S: safe,
-            B: lines::breakpoint(self, asked.followed, rest),
+            B: breakpoint,
         }
     }
 }

@@ -17,7 +17,7 @@ use tables::{
 
 // A place in a pattern: a state and a letter together.
 #[repr(C)]
-#[derive(Drop)]
+#[derive(Clone, Copy)]
 pub struct Place {
     pub state: u32,
     pub letter: u32,
@@ -30,21 +30,21 @@ pub const NO_PLACE: Place = Place {
 };
 
 // Where a pattern forks first, if it does.
-#[derive(Drop)]
+#[derive(Clone, Copy)]
 pub(crate) enum Fork {
     Nowhere,
     At(Place),
 }
 
 // What the check answers: it passed, or the number of the refusal and its place.
-#[derive(Drop)]
+#[derive(Clone, Copy)]
 pub enum Checked {
     Passed,
     Refused(u32, Place),
 }
 
 // What the step reads of a pattern beside the table of target sets: I, F in Q2, and Q2, each as a set of states.
-#[derive(Drop)]
+#[derive(Clone, Copy)]
 pub struct Shape {
     pub states: usize,
     pub letters: usize,
@@ -54,7 +54,7 @@ pub struct Shape {
 }
 
 // What a reading of a table answers: the refusal as the check has it, or what the step reads of the pattern beside the masks.
-#[derive(Drop)]
+#[derive(Clone, Copy)]
 pub enum PatternReading {
     Refused(u32, Place),
     Pattern(Shape),
@@ -97,7 +97,7 @@ fn spread_out(table: &[u16], masks: &mut TargetSets)
 // THE SETS
 
 // I, the states whose flags are 1 or 3, and F, those whose flags are 2 or 3.
-#[derive(Drop)]
+#[derive(Clone, Copy)]
 struct Flagged {
     initial: u32,
     accepting: u32,

@@ -1,41 +1,36 @@
 use native.Mathlib.Omega.{arith}
 use Rattle.sets.specs.Sets.{set_states, nth_subset}
 use Rattle.sets.proofs.Lowest.{lowest_lt}
-use Rattle.sets.proofs.Subsets.{spread_none, spread_zero}
-use Rattle.sets.proofs.Walk.{clear_lt, leave_turn, take_fits, take_turn, choose_end}
+use Rattle.sets.proofs.Walk.{clear_less, clear_lt, leave_turn, take_fits, take_turn, choose_end}
 use Rattle.sets.proofs.nth_subset.Goals as goal
 use Rattle.sets.proofs.nth_subset.Goals.{then-digits-eq1, else-digits-eq1}
 
-pub loop-digits-init : goal.loop-digits-init
-loop-digits-init c = (c.ranges.set.fits, omega arith)
-
-pub returns-then-members-eq0 : goal.returns-then-members-eq0
-unfolding nth_subset
-returns-then-members-eq0 c =
-    let at = c.loop-digits in
-    let args = c.args in
-    choose_end set_states at.members at.digits at.part args.set args.choice
-    (rw c.if-members-eq0.true (spread_zero set_states at.digits)) at.invariant.1
+pub loop-members-init : goal.loop-members-init
+loop-members-init c = (c.ranges.set.fits, omega arith)
 
 pub overflow_shl-part : goal.overflow_shl-part
 overflow_shl-part c =
-    lowest_lt set_states c.loop-digits.members c.loop-digits.invariant.0 c.if-members-eq0.false
+    lowest_lt set_states c.loop-members.members c.loop-members.invariant.0 c.loop-members-test.true
 
 pub overflow_add-part : goal.overflow_add-part
 overflow_add-part c =
-    let at = c.loop-digits in
+    let at = c.loop-members in
     let args = c.args in
     record {
       fits =
           take_fits set_states at.members at.digits at.part args.set args.choice at.invariant.0
-          c.if-members-eq0.false at.invariant.1 c.if-digits-eq1.true;
+          c.loop-members-test.true at.invariant.1 c.if-digits-eq1.true;
     }
 
-pub loop-digits-preserved : goal.loop-digits-preserved
-loop-digits-preserved c =
-    let at = c.loop-digits in
+pub loop-members-smaller : goal.loop-members-smaller
+loop-members-smaller c =
+    clear_less set_states c.loop-members.members c.loop-members.invariant.0 c.loop-members-test.true
+
+pub loop-members-preserved : goal.loop-members-preserved
+loop-members-preserved c =
+    let at = c.loop-members in
     let args = c.args in
-    let n = c.if-members-eq0.false in (
+    let n = c.loop-members-test.true in (
       clear_lt set_states at.members at.invariant.0,
       elim c.if-digits-eq1.branch [
         | then-digits-eq1 w ↦
@@ -50,7 +45,6 @@ loop-digits-preserved c =
 pub returns : goal.returns
 unfolding nth_subset
 returns c =
-    let at = c.loop-digits in
+    let at = c.loop-members in
     let args = c.args in
-    choose_end set_states at.members at.digits at.part args.set args.choice
-    (rw c.loop-digits-test.false (spread_none set_states at.members)) at.invariant.1
+    choose_end set_states at.members at.digits at.part args.set args.choice c.loop-members-test.false at.invariant.1

@@ -1,5 +1,4 @@
 -- `tables::chains_good` meets its contract: clear bits, then the heads, then the nexts. Assumes nothing.
-use borrow.Author.Rules.{rules}
 use native.Mathlib.Omega.{arith}
 use Rattle.tables.specs.Marks.{mark_words}
 use Rattle.tables.proofs.Marking.{names_few, heads_fail, chains_answer}

@@ -1,10 +1,7 @@
-use mathlib.Core.Bool.{true}
-use borrow.Author.Rules.{rules}
 use native.Mathlib.Omega.{arith}
-use Prim.Native.Nat.{◌-◌}
 use mathlib.Core.Path.{refl}
-use Rattle.basics.proofs.Scans.{Scan, scan_start, scan_more, scan_done, scan_fails, read_le, read_gt}
-use Rattle.tables.specs.Table.{n_of, flag_good, flags_good}
+use Rattle.basics.proofs.Scans.{scan_start, scan_more, scan_done, scan_fails, read_le, read_gt}
+use Rattle.tables.specs.Table.{flag_good, flags_good}
 use Rattle.tables.proofs.flags_good.Goals as goal
 
 pub loop-q-init : goal.loop-q-init

@@ -1,11 +1,8 @@
 -- `tables::flags_good` meets its contract: the loop tests the flags of one state after the other. Assumes nothing.
 use mathlib.Core.Bool.{true}
-use borrow.Author.Rules.{rules}
-use native.Mathlib.Omega.{arith}
 use Prim.Native.Nat.{◌-◌}
-use mathlib.Core.Path.{refl}
-use Rattle.basics.proofs.Scans.{Scan, scan_start, scan_more, scan_done, scan_fails, read_le, read_gt}
-use Rattle.tables.specs.Table.{n_of, flag_good, flags_good}
+use Rattle.basics.proofs.Scans.{Scan}
+use Rattle.tables.specs.Table.{n_of, flag_good}
 use Rattle.tables.proofs.flags_good.Given as goal
 
 abbrev pub invariant-loop-q : goal.invariant-loop-q

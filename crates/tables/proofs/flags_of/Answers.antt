@@ -1,5 +1,4 @@
 -- `tables::flags_of` meets its contract: it reads the first of a state's two words. Assumes nothing.
-use borrow.Author.Rules.{rules}
 use mathlib.Core.Path.{refl}
 use native.Mathlib.Omega.{arith}
 use Prim.Native.Nat.{◌+◌, ◌*◌}

@@ -1,5 +1,4 @@
 -- `tables::head_of` meets its contract: it reads the second of a state's two words. Assumes nothing.
-use borrow.Author.Rules.{rules}
 use mathlib.Core.Path.{refl}
 use native.Mathlib.Omega.{arith}
 use Prim.Native.Nat.{◌+◌, ◌*◌}

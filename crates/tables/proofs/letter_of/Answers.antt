@@ -1,5 +1,4 @@
 -- `tables::letter_of` meets its contract: it reads the first of a record's three words. Assumes nothing.
-use borrow.Author.Rules.{rules}
 use native.Mathlib.Omega.{arith}
 use Prim.Native.Nat.{◌+◌, ◌*◌, ◌-◌}
 use Rattle.tables.specs.Table.{letter_of, record_at}

@@ -1,5 +1,4 @@
 -- `tables::letters_of` meets its contract: it reads word 1. Assumes nothing.
-use borrow.Author.Rules.{rules}
 use Rattle.tables.specs.Table.{k_of}
 use Rattle.tables.proofs.letters_of.Goals as goal
 

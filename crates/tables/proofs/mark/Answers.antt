@@ -1,5 +1,4 @@
 -- `tables::mark` meets its contract: three ways out, one for each case. Assumes nothing.
-use borrow.Author.Rules.{rules}
 use mathlib.Core.Path.{refl}
 use Prim.Native.Nat.{◌%◌}
 use native.Mathlib.Omega.{arith}
@@ -17,7 +16,7 @@ returns-then-word-link-ne0 c = again (omega arith) (bit_set c.requires c.if-word
 
 pub overflow_add-seen : goal.overflow_add-seen
 overflow_add-seen c =
-    record { fits = bit_fits c.requires (c.type_inv.seen (c.args.link % mark_words)).fits c.if-word-link-ne0.false }
+    record { fits = bit_fits c.requires (c.items_fit (c.args.link % mark_words)).fits c.if-word-link-ne0.false }
 
 pub returns : goal.returns
 returns c =

@@ -1,19 +1,16 @@
-use mathlib.Core.Bool.{true}
-use borrow.Author.Rules.{rules}
 use native.Mathlib.Omega.{arith}
-use Prim.Native.Nat.{◌-◌}
 use mathlib.Core.Path.{◌∙◌}
-use Rattle.basics.proofs.Scans.{Scan, scan_start, scan_more, read_le, read_gt}
-use Rattle.tables.specs.Marks.{mark_words, MarkAsks, Marked}
-use Rattle.tables.specs.Table.{n_of, m_of, head_of, head_good}
+use Rattle.basics.proofs.Scans.{scan_start, scan_more, read_le, read_gt}
+use Rattle.tables.specs.Marks.{mark_words, MarkAsks}
+use Rattle.tables.specs.Table.{head_good}
 use Rattle.tables.proofs.Marking.{markable, marked_start, marked_few, marked_more, marked_twice, names_wrong, names_all}
 use Rattle.tables.proofs.name_heads.Goals as goal
+use Rattle.tables.proofs.name_heads.Goals.{After-head_of-head}
 
 -- a head has its bit among the words of marks
 
--- CONV: as it was
-asks-mark : (c : tie.After-head-of invariant-loop decreases-loop) → MarkAsks mark_words c.head_of.result c.loop-q.seen
-asks-mark c = markable c.head_of.ensures (start (turn-BARE c)).pre.1 c.loop-q.invariant.1.kept
+asks-mark : (c : After-head_of-head) → MarkAsks mark_words c.head_of-head.result c.loop-q.seen
+asks-mark c = markable c.head_of-head.ensures c.requires.mark_words_in_bounds c.loop-q.invariant.1.kept
 
 pub loop-q-init : goal.loop-q-init
 loop-q-init c = (scan_start, marked_start _ _ _ _)

@@ -1,13 +1,9 @@
 -- `tables::name_heads` meets its contract: the loop tests and marks the head of one state after the other. Assumes nothing.
 use mathlib.Core.Bool.{true}
-use borrow.Author.Rules.{rules}
-use native.Mathlib.Omega.{arith}
 use Prim.Native.Nat.{◌-◌}
-use mathlib.Core.Path.{◌∙◌}
-use Rattle.basics.proofs.Scans.{Scan, scan_start, scan_more, read_le, read_gt}
-use Rattle.tables.specs.Marks.{mark_words, MarkAsks, Marked}
+use Rattle.basics.proofs.Scans.{Scan}
+use Rattle.tables.specs.Marks.{mark_words, Marked}
 use Rattle.tables.specs.Table.{n_of, m_of, head_of, head_good}
-use Rattle.tables.proofs.Marking.{markable, marked_start, marked_few, marked_more, marked_twice, names_wrong, names_all}
 use Rattle.tables.proofs.name_heads.Given as goal
 
 abbrev pub invariant-loop-q : goal.invariant-loop-q

@@ -1,16 +1,9 @@
 -- `tables::name_nexts` meets its contract: the loop tests and marks the next of one record after the other. Assumes nothing.
 use mathlib.Core.Bool.{true}
-use borrow.Author.Rules.{rules}
-use native.Mathlib.Omega.{arith}
-use native.Mathlib.Numerals.{add-one}
-use Prim.Native.Nat.{suc, ◌-◌, ◌≤◌}
-use mathlib.Core.Path.{◌∙◌}
-use Rattle.basics.proofs.Scans.{Scan, scan_start, scan_more}
-use Rattle.tables.specs.Marks.{mark_words, MarkAsks, Marked}
+use Prim.Native.Nat.{suc, ◌-◌}
+use Rattle.basics.proofs.Scans.{Scan}
+use Rattle.tables.specs.Marks.{mark_words, Marked}
 use Rattle.tables.specs.Table.{m_of, next_of, next_good}
-use Rattle.tables.proofs.Checks.{next_fails, next_passes, next_small}
-use Rattle.tables.proofs.Laws.{record_inside}
-use Rattle.tables.proofs.Marking.{markable, marked_start, marked_few, marked_more, marked_twice, names_wrong, names_all}
 use Rattle.tables.proofs.name_nexts.Given as goal
 
 abbrev pub invariant-loop-i : goal.invariant-loop-i

@@ -1,5 +1,4 @@
 -- `tables::next_of` meets its contract: it reads the third of a record's three words. Assumes nothing.
-use borrow.Author.Rules.{rules}
 use native.Mathlib.Omega.{arith}
 use Prim.Native.Nat.{◌+◌, ◌*◌, ◌-◌}
 use Rattle.tables.specs.Table.{next_of, record_at}

@@ -1,9 +1,6 @@
-use mathlib.Core.Bool.{true}
-use borrow.Author.Rules.{rules}
 use native.Mathlib.Omega.{arith}
-use Prim.Native.Nat.{◌-◌}
-use Rattle.basics.proofs.Scans.{Scan, scan_start, scan_more, scan_done}
-use Rattle.tables.specs.Table.{m_of, record_good, records_good}
+use Rattle.basics.proofs.Scans.{scan_start, scan_more, scan_done}
+use Rattle.tables.specs.Table.{records_good}
 use Rattle.tables.proofs.Checks.{letter_bad, target_bad, record_passes}
 use Rattle.tables.proofs.Laws.{record_inside}
 use Rattle.tables.proofs.records_good.Goals as goal

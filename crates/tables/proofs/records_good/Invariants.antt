@@ -1,12 +1,8 @@
 -- `tables::records_good` meets its contract: the loop tests letter and target of one record after the other. Assumes nothing.
 use mathlib.Core.Bool.{true}
-use borrow.Author.Rules.{rules}
-use native.Mathlib.Omega.{arith}
 use Prim.Native.Nat.{◌-◌}
-use Rattle.basics.proofs.Scans.{Scan, scan_start, scan_more, scan_done}
-use Rattle.tables.specs.Table.{m_of, record_good, records_good}
-use Rattle.tables.proofs.Checks.{letter_bad, target_bad, record_passes}
-use Rattle.tables.proofs.Laws.{record_inside}
+use Rattle.basics.proofs.Scans.{Scan}
+use Rattle.tables.specs.Table.{m_of, record_good}
 use Rattle.tables.proofs.records_good.Given as goal
 
 abbrev pub invariant-loop-i : goal.invariant-loop-i

@@ -1,5 +1,4 @@
 -- `tables::records_of` meets its contract: it reads word 2. Assumes nothing.
-use borrow.Author.Rules.{rules}
 use Rattle.tables.specs.Table.{m_of}
 use Rattle.tables.proofs.records_of.Goals as goal
 

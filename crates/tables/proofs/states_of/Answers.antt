@@ -1,5 +1,4 @@
 -- `tables::states_of` meets its contract: it reads word 0. Assumes nothing.
-use borrow.Author.Rules.{rules}
 use Rattle.tables.specs.Table.{n_of}
 use Rattle.tables.proofs.states_of.Goals as goal
 

@@ -1,5 +1,4 @@
 -- `tables::target_of` meets its contract: it reads the second of a record's three words. Assumes nothing.
-use borrow.Author.Rules.{rules}
 use native.Mathlib.Omega.{arith}
 use Prim.Native.Nat.{◌+◌, ◌*◌, ◌-◌}
 use Rattle.tables.specs.Table.{target_of, record_at}

@@ -1,5 +1,4 @@
 -- `tables::word` meets its contract: an element of a slice of u16 has 16 bits, and past the end the word is zero. Assumes nothing.
-use borrow.Author.Rules.{rules}
 use native.Mathlib.Omega.{arith}
 use mathlib.Core.Path.{refl, sym}
 use lib.ListN.{get_or-eq_default}

@@ -3,8 +3,7 @@ use mathlib.Core.Path.{◌≡◌, refl}
 use mathlib.Core.Bool.{Bool, true, false, ◌&&◌}
 use lib.Dec.{eqb}
 use Rattle.ncsb.specs.Successors.{same}
-use Rattle.ncsb.proofs.Quadruple.equals.Statement.{statement}
-use Rattle.ncsb.proofs.Quadruple.equals.Tie as tie
+use Rattle.ncsb.proofs.Quadruple.equals.Goals as goal
 
 in_order : (n c s b : Bool) → ((c && s) && (n && b)) ≡ ((n && c) && (s && b))
 in_order true true s b = refl
@@ -13,12 +12,8 @@ in_order false true true b = refl
 in_order false true false b = refl
 in_order false false s b = refl
 
-returns : tie.Need-returns
+pub returns : goal.returns
 unfolding same
 returns c =
-    let start : tie.Start = search in
-    let args = start.args in
+    let args = c.args in
     in_order (eqb args.self.N args.other.N) (eqb args.self.C args.other.C) (eqb args.self.S args.other.S) (eqb args.self.B args.other.B)
-
-pub equals-spec : {M : Type 1} → statement M
-equals-spec = tie.close (tie.spec returns)
