@@ -1,0 +1,16 @@
+-- `lasso_search::inner_search::drain` meets its contract. The invariant: the edges of every red node that does not wait lead to red nodes.
+-- The measure falls: a node that begins to wait is no longer black. Assumes nothing.
+use mathlib.Core.Path.{◌∙◌}
+use Prim.Native.Nat.{◌+◌, ◌*◌, ◌-◌}
+use native.Mathlib.Omega.{arith}
+use Rattle.lasso_search.specs.Search.{blacks}
+use Rattle.lasso_search.specs.Width.{width_16}
+use Rattle.lasso_search.proofs.Drains.{Draining, draining_start, last_below, last_small, last_asks, draining_met, draining_turn, draining_less, draining_end}
+use Rattle.lasso_search.proofs.inner_search.drain.Given as goal
+
+abbrev pub invariant-loop-count : goal.invariant-loop-count
+invariant-loop-count l =
+    Draining width_16 l.table l.prefix l.cycle l.initial.work l.states l.size l.waiting l.work l.count
+
+abbrev pub decreases-loop-count : goal.decreases-loop-count
+decreases-loop-count l = 2 * blacks width_16 l.size l.work + l.count
