@@ -56,7 +56,7 @@ pub fn put_field(n: u32, behind: u8, buffer: &mut [u8], at: usize) -> usize
 
 // A line of at least one field.
 pub fn put_line(fields: &[u32], buffer: &mut [u8], at: usize) -> usize
-    requires in_bounds { 1 ≤ length fields.now }
+    requires some_field { 1 ≤ length fields.now }
     requires fields_in_bounds { at + field_bytes * length fields.now ≤ length buffer.old }
     ensures { Put buffer.old at (field_bytes * length fields.now) (line fields.now) buffer.new result }
 {

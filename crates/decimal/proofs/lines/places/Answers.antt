@@ -1,5 +1,5 @@
 use native.Mathlib.Omega.{arith}
-use Rattle.decimal.proofs.Digits.{Counting, counting_start, counting_small, counting_turn, counting_end}
+use Rattle.decimal.proofs.Digits.{counting_start, counting_small, counting_turn, counting_end}
 use Rattle.decimal.proofs.lines.places.Goals as goal
 
 pub loop-left-init : goal.loop-left-init

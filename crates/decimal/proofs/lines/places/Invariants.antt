@@ -1,6 +1,5 @@
 -- `places` counts a number's digits. The invariant: what is left has the digits that are not counted yet. Assumes nothing.
-use native.Mathlib.Omega.{arith}
-use Rattle.decimal.proofs.Digits.{Counting, counting_start, counting_small, counting_turn, counting_end}
+use Rattle.decimal.proofs.Digits.{Counting}
 use Rattle.decimal.proofs.lines.places.Given as goal
 
 abbrev pub invariant-loop-left : goal.invariant-loop-left

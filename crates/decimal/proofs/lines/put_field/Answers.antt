@@ -1,6 +1,5 @@
 -- `put_field` writes one byte behind a number. Assumes nothing.
 use Rattle.decimal.proofs.Placing.{field_put}
-use borrow.Author.Rules.{rules}
 use Rattle.decimal.proofs.lines.put_field.Goals as goal
 
 pub returns : goal.returns

@@ -1,23 +1,19 @@
 use mathlib.Core.Path.{◌∙◌}
-use Prim.Native.Nat.{◌-◌}
 use native.Mathlib.Omega.{arith}
-use Rattle.decimal.proofs.Placing.{same_length as same-length-of, Lining, lining_start, lining_room, lining_turn, lining_end}
+use Rattle.decimal.proofs.Placing.{same_length as same-length-of, lining_start, lining_room, lining_turn, lining_end}
 use Rattle.decimal.proofs.lines.put_line.Goals as goal
 
 pub overflow_sub-last : goal.overflow_sub-last
-overflow_sub-last c = c.requires.0
+overflow_sub-last c = c.requires.some_field
 
 pub loop-i-init : goal.loop-i-init
-loop-i-init c = lining_start _ _ _ c.requires.0
-
-pub offset_bounds-fields-i : goal.offset_bounds-fields-i
-offset_bounds-fields-i c = record { fits = omega (arith, c.loop-i-test.true, c.ranges.0.1) }
+loop-i-init c = lining_start _ _ _ c.requires.some_field
 
 pub bounds-fields-i : goal.bounds-fields-i
 bounds-fields-i c = omega (arith, c.loop-i-test.true)
 
 pub put_field-place-requires : goal.put_field-place-requires
-put_field-place-requires c = lining_room c.requires.1 c.loop-i.invariant
+put_field-place-requires c = lining_room c.requires.fields_in_bounds c.loop-i.invariant
 
 pub overflow_add-i : goal.overflow_add-i
 overflow_add-i c = record { fits = omega (arith, c.loop-i-test.true) }
@@ -28,17 +24,14 @@ loop-i-smaller c = omega (arith, c.loop-i-test.true)
 pub loop-i-preserved : goal.loop-i-preserved
 loop-i-preserved c = lining_turn c.loop-i-test.true c.loop-i.invariant c.put_field-place.ensures
 
-pub offset_bounds-fields-last : goal.offset_bounds-fields-last
-offset_bounds-fields-last c = record { fits = omega (arith, c.ranges.0.1) }
-
 pub bounds-fields-last : goal.bounds-fields-last
-bounds-fields-last c = omega (arith, c.requires.0)
+bounds-fields-last c = omega (arith, c.requires.some_field)
 
 pub put_field-requires : goal.put_field-requires
-put_field-requires c = lining_room c.requires.1 c.loop-i.invariant
+put_field-requires c = lining_room c.requires.fields_in_bounds c.loop-i.invariant
 
 pub shape_of-buffer : goal.shape_of-buffer
 shape_of-buffer c = same-length-of c.put_field.ensures ∙ c.loop-i.invariant.same
 
 pub returns : goal.returns
-returns c = lining_end c.requires.1 c.loop-i-test.false c.loop-i.invariant c.put_field.ensures
+returns c = lining_end c.requires.fields_in_bounds c.loop-i-test.false c.loop-i.invariant c.put_field.ensures

@@ -1,8 +1,6 @@
 -- `put_line` writes the fields one after the other. The invariant: the fields from `i` on are still to come. Assumes nothing.
-use mathlib.Core.Path.{◌∙◌}
 use Prim.Native.Nat.{◌-◌}
-use native.Mathlib.Omega.{arith}
-use Rattle.decimal.proofs.Placing.{same_length as same-length-of, Lining, lining_start, lining_room, lining_turn, lining_end}
+use Rattle.decimal.proofs.Placing.{Lining}
 use Rattle.decimal.proofs.lines.put_line.Given as goal
 
 abbrev pub invariant-loop-i : goal.invariant-loop-i

@@ -1,5 +1,5 @@
 use native.Mathlib.Omega.{arith}
-use Rattle.decimal.proofs.Placing.{Writing, writing_start, writing_inside, writing_turn, writing_end}
+use Rattle.decimal.proofs.Placing.{writing_start, writing_inside, writing_turn, writing_end}
 use Rattle.decimal.proofs.lines.put_number.Goals as goal
 
 pub overflow_add-end : goal.overflow_add-end

@@ -1,6 +1,5 @@
 -- `put_number` writes a number's digits from the last to the first. The invariant: the digits before place `i` are still to come. Assumes nothing.
-use native.Mathlib.Omega.{arith}
-use Rattle.decimal.proofs.Placing.{Writing, writing_start, writing_inside, writing_turn, writing_end}
+use Rattle.decimal.proofs.Placing.{Writing}
 use Rattle.decimal.proofs.lines.put_number.Given as goal
 
 abbrev pub invariant-loop-i : goal.invariant-loop-i

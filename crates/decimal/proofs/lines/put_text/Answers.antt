@@ -1,7 +1,5 @@
-use Prim.Native.Nat.{◌-◌}
 use native.Mathlib.Omega.{arith}
-use lib.ListN.{length}
-use Rattle.decimal.proofs.Placing.{Copied, copied_start, copied_turn, copied_length, copied_end}
+use Rattle.decimal.proofs.Placing.{copied_start, copied_turn, copied_length, copied_end}
 use Rattle.decimal.proofs.lines.put_text.Goals as goal
 
 pub loop-i-init : goal.loop-i-init

@@ -1,8 +1,7 @@
 -- `put_text` copies a text into the buffer. The invariant: the bytes passed are copied. Assumes nothing.
 use Prim.Native.Nat.{◌-◌}
-use native.Mathlib.Omega.{arith}
 use lib.ListN.{length}
-use Rattle.decimal.proofs.Placing.{Copied, copied_start, copied_turn, copied_length, copied_end}
+use Rattle.decimal.proofs.Placing.{Copied}
 use Rattle.decimal.proofs.lines.put_text.Given as goal
 
 abbrev pub invariant-loop-i : goal.invariant-loop-i

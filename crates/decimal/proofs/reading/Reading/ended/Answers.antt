@@ -1,7 +1,6 @@
 -- `Reading::ended` stores the number under way behind the others, if one is. Assumes nothing.
 use Rattle.basics.proofs.Booleans.{true_not, false_not}
 use Rattle.decimal.proofs.Scanning.{ended_none, one_stored, fits16}
-use borrow.Author.Rules.{rules}
 use Rattle.decimal.proofs.reading.Reading.ended.Goals as goal
 
 pub returns-then-not-self : goal.returns-then-not-self

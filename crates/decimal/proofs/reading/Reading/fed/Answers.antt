@@ -1,7 +1,5 @@
-use Prim.Native.Nat.{◌-◌}
 use native.Mathlib.Omega.{arith}
-use lib.ListN.{length}
-use Rattle.decimal.proofs.Scanning.{Feeding, feeding_start, feeding_turn, feeding_end}
+use Rattle.decimal.proofs.Scanning.{feeding_start, feeding_turn, feeding_end}
 use Rattle.decimal.proofs.reading.Reading.fed.Goals as goal
 
 pub loop-i-init : goal.loop-i-init

@@ -1,8 +1,7 @@
 -- `Reading::fed` feeds the chunk's bytes one after the other. The invariant: the bytes passed have been fed. Assumes nothing.
 use Prim.Native.Nat.{◌-◌}
-use native.Mathlib.Omega.{arith}
 use lib.ListN.{length}
-use Rattle.decimal.proofs.Scanning.{Feeding, feeding_start, feeding_turn, feeding_end}
+use Rattle.decimal.proofs.Scanning.{Feeding}
 use Rattle.decimal.proofs.reading.Reading.fed.Given as goal
 
 abbrev pub invariant-loop-i : goal.invariant-loop-i

@@ -1,27 +1,18 @@
 -- `Reading::with_byte` goes by the kind of the byte, as its definition does. Assumes nothing.
 use mathlib.Core.Path.{◌≡◌, sym, ◌∙◌}
 use mathlib.Core.Bool.{true, false}
-use Rattle.basics.proofs.Booleans.{true_not, false_not}
 use Rattle.decimal.specs.Reading.{is_blank, is_digit}
 use Rattle.decimal.proofs.Scanning.{byte_nothing, byte_blank, byte_other, byte_many, byte_large, byte_digit, digit_from, digit_fits, digit_fits_first}
-use borrow.Author.Rules.{rules}
 use Rattle.decimal.proofs.reading.Reading.with_byte.Goals as goal
-use Rattle.decimal.proofs.reading.Reading.with_byte.Goals.{Else-self}
 use Rattle.decimal.proofs.reading.Reading.with_byte.Goals.{Else-not-is_digit}
 
--- behind the first test
-
-module _ (c : Else-self) where
-
 -- behind the tests of its kind the byte is a digit
-
 module _ (c : Else-not-is_digit) where
-  no_blank : is_blank (entry not-failed-BARE).args.byte ≡ false
+  no_blank : is_blank c.args.byte ≡ false
   no_blank = sym c.is_blank.ensures ∙ c.if-is_blank.false
 
-  a_digit : is_digit (entry not-failed-BARE).args.byte ≡ true
-  a_digit =
-      sym c.is_digit.ensures ∙ false_not _ c.if-not-is_digit.false
+  a_digit : is_digit c.args.byte ≡ true
+  a_digit = sym c.is_digit.ensures ∙ c.if-not-is_digit.false
 
 pub returns-then-self : goal.returns-then-self
 returns-then-self c = byte_nothing c.requires c.args.byte c.if-self.true
@@ -35,7 +26,7 @@ pub returns-then-not-is_digit : goal.returns-then-not-is_digit
 returns-then-not-is_digit c =
     rw c.failed_after.ensures
     (byte_other c.requires c.args.byte c.if-self.false (sym c.is_blank.ensures ∙ c.if-is_blank.false)
-    (sym c.is_digit.ensures ∙ true_not _ c.if-not-is_digit.true))
+    (sym c.is_digit.ensures ∙ c.if-not-is_digit.true))
 
 pub overflow_mul-value : goal.overflow_mul-value
 overflow_mul-value c = digit_fits_first c.requires
