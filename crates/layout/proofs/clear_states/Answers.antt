@@ -1,5 +1,4 @@
 -- `layout::clear_states` meets its contract: the state words are one part of the words (Shifting). Assumes nothing.
-use borrow.Author.Rules.{rules}
 use Rattle.layout.proofs.Shifting.{states_cleared}
 use Rattle.layout.proofs.clear_states.Goals as goal
 

@@ -1,6 +1,5 @@
 -- `layout::lay_out` meets its contract: moving, clearing, linking and counting leave the chained words (Laying). Assumes nothing.
 use mathlib.Core.Path.{◌∙◌}
-use borrow.Author.Rules.{rules}
 use Rattle.layout.proofs.Laying.{laid_links, laid_out}
 use Rattle.layout.proofs.lay_out.Goals as goal
 

@@ -1,6 +1,4 @@
-use Prim.Native.Nat.{◌-◌}
-use borrow.Author.Rules.{rules}
-use Rattle.layout.proofs.Linking.{Linking, linking_start, linking_turn, linking_asks, linking_end}
+use Rattle.layout.proofs.Linking.{linking_start, linking_turn, linking_asks, linking_end}
 use Rattle.layout.proofs.link.Goals as goal
 
 pub loop-r-init : goal.loop-r-init

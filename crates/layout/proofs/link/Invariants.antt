@@ -1,7 +1,6 @@
 -- `layout::link` meets its contract: a turn links one edge (Linking). Assumes nothing.
 use Prim.Native.Nat.{◌-◌}
-use borrow.Author.Rules.{rules}
-use Rattle.layout.proofs.Linking.{Linking, linking_start, linking_turn, linking_asks, linking_end}
+use Rattle.layout.proofs.Linking.{Linking}
 use Rattle.layout.proofs.link.Given as goal
 
 abbrev pub invariant-loop-r : goal.invariant-loop-r

@@ -1,7 +1,6 @@
 -- `layout::link_one` meets its contract (Linking). Assumes nothing.
 use mathlib.Core.Path.{◌∙◌}
 use native.Mathlib.Omega.{arith}
-use borrow.Author.Rules.{rules}
 use lib.ListN.{length-set}
 use Rattle.layout.proofs.Linking.{behind_small, link_one_is}
 use Rattle.layout.proofs.link_one.Goals as goal

@@ -1,5 +1,4 @@
-use borrow.Author.Rules.{rules}
-use Rattle.layout.proofs.Shifting.{Moving, move_start, move_turn, move_end}
+use Rattle.layout.proofs.Shifting.{move_start, move_turn, move_end}
 use Rattle.layout.proofs.move_up.Goals as goal
 
 pub loop-i-init : goal.loop-i-init

@@ -1,6 +1,5 @@
 -- `layout::move_up` meets its contract: a turn moves one word (Shifting). Assumes nothing.
-use borrow.Author.Rules.{rules}
-use Rattle.layout.proofs.Shifting.{Moving, move_start, move_turn, move_end}
+use Rattle.layout.proofs.Shifting.{Moving}
 use Rattle.layout.proofs.move_up.Given as goal
 
 abbrev pub invariant-loop-i : goal.invariant-loop-i

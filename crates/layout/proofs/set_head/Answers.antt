@@ -1,5 +1,4 @@
 -- `layout::set_head` meets its contract (Linking). Assumes nothing.
-use borrow.Author.Rules.{rules}
 use Rattle.layout.proofs.Linking.{with_head_new, with_head_old}
 use Rattle.layout.proofs.set_head.Goals as goal
 

@@ -1,6 +1,5 @@
 -- `layout::write_counts` meets its contract. Assumes nothing.
 use native.Mathlib.Omega.{arith}
-use borrow.Author.Rules.{rules}
 use lib.ListN.{length-set}
 use Rattle.layout.proofs.Laying.{counts_set}
 use Rattle.layout.proofs.write_counts.Goals as goal
