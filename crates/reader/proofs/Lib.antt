@@ -1,4 +1,3 @@
-pub mod Apart
 pub mod Chain_laws
 pub mod Counting
 pub mod Edges

@@ -1,6 +1,5 @@
 // A small reader laid over a chained table: the caller's words and the number of a record (docs/RULES.md, "The chained table").
-// The checker proves no function over such a struct by itself, so `new`, `edge`, `next` and `count_records` are proved by hand.
-// The first three are thin: the work is done on the slice and the number, by `head_record`, `edge_at` and `record_after`.
+// `new`, `edge` and `next` are thin: the work is done on the slice and the number, by `head_record`, `edge_at` and `record_after`.
 // Every function answers on every slice: damaged links lead to the end.
 #![tactic(auto)]
 
@@ -12,14 +11,14 @@ ghost use Rattle.reader.specs.Chain.{item_at, record_after, head_record, goes_on
 use tables::{records_of, states_of, word};
 
 // What stands at a record number: an edge, or the end of the chain.
-#[derive(Drop)]
+#[derive(Clone, Copy)]
 pub enum ChainItem {
     Edge { letter: usize, target: usize },
     End,
 }
 
 // A place in a state's chain. Zero, and any number past the last record, is the end.
-#[derive(Drop)]
+#[derive(Clone, Copy)]
 pub struct Reader<'a> {
     pub table: &'a [u16],
     pub number: usize,
@@ -120,7 +119,7 @@ pub fn next<'a>(reader: Reader<'a>) -> Reader<'a>
 }
 
 // How many records stand in a state's chain: an edge that records repeat is counted as often as they do. Where damaged links lead
-// round, the count is that of all records. Its parameters are plain, so its callers need no proof by hand.
+// round, the count is that of all records.
 pub fn count_records(table: &[u16], state: usize) -> usize
     ensures { result ≡ records_in_chain table.now state }
 {

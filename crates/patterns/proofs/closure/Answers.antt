@@ -1,8 +1,5 @@
-use mathlib.Core.Path.{◌≡◌}
-use Prim.Native.Nat.{◌-◌, ◌≤◌}
 use native.Mathlib.Omega.{arith}
 use Rattle.sets.proofs.Grid.{narrow}
-use Rattle.patterns.specs.Masks.{joined_in}
 use Rattle.patterns.proofs.Rounds.{rounds_start, round_turn, rounds_end, rounds_stop}
 use Rattle.patterns.proofs.closure.Goals as goal
 
@@ -10,7 +7,7 @@ pub loop-round-init : goal.loop-round-init
 loop-round-init c = (omega arith, rounds_start _ _ _)
 
 pub grown-next-requires : goal.grown-next-requires
-grown-next-requires c = narrow c.args.t1 _ c.ranges.0
+grown-next-requires c = narrow _ _ c.well_formed.0
 
 pub returns-then-next-reached : goal.returns-then-next-reached
 returns-then-next-reached c =

@@ -1,10 +1,7 @@
 -- `patterns::closure` meets its contract. The invariant: what is reached in `round` rounds. Assumes nothing.
 use mathlib.Core.Path.{◌≡◌}
 use Prim.Native.Nat.{◌-◌, ◌≤◌}
-use native.Mathlib.Omega.{arith}
-use Rattle.sets.proofs.Grid.{narrow}
 use Rattle.patterns.specs.Masks.{joined_in}
-use Rattle.patterns.proofs.Rounds.{rounds_start, round_turn, rounds_end, rounds_stop}
 use Rattle.patterns.proofs.closure.Given as goal
 
 abbrev pub invariant-loop-round : goal.invariant-loop-round

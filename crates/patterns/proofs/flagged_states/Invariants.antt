@@ -1,11 +1,8 @@
 -- `patterns::flagged_states` meets its contract. The invariant: the sets so far are those of the initial and of the accepting states below
 -- `state`. Assumes nothing.
-use Prim.Native.Nat.{◌-◌, ◌<◌}
-use native.Mathlib.Omega.{arith}
-use Rattle.sets.specs.Sets.{set_states}
+use Prim.Native.Nat.{◌-◌}
 use Rattle.tables.specs.Table.{meaning, n_of}
-use Rattle.patterns.proofs.Flags.{Gathered, gathered_start, gathered_reads, initial_turn, accepting_turn, initial_end, accepting_end}
-use Rattle.patterns.proofs.Masks.{state_small}
+use Rattle.patterns.proofs.Flags.{Gathered}
 use Rattle.patterns.proofs.flagged_states.Given as goal
 
 abbrev pub invariant-loop-state : goal.invariant-loop-state

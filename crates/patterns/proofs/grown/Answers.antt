@@ -1,15 +1,9 @@
-use mathlib.Core.Path.{◌≡◌}
-use Prim.Native.Nat.{◌-◌, ◌≤◌}
 use native.Mathlib.Omega.{arith}
-use Rattle.patterns.specs.Masks.{joined}
 use Rattle.patterns.proofs.Rounds.{joined_start, joined_turn, joined_end}
 use Rattle.patterns.proofs.grown.Goals as goal
 
 pub loop-letter-init : goal.loop-letter-init
 loop-letter-init c = (omega arith, joined_start _ c.args.letters _)
-
-pub targets-all-requires : goal.targets-all-requires
-targets-all-requires c = c.requires
 
 pub loop-letter-preserved : goal.loop-letter-preserved
 loop-letter-preserved c =

@@ -1,9 +1,7 @@
 -- `patterns::grown` meets its contract. The invariant: the set, joined with its targets on the letters below `letter`. Assumes nothing.
 use mathlib.Core.Path.{◌≡◌}
 use Prim.Native.Nat.{◌-◌, ◌≤◌}
-use native.Mathlib.Omega.{arith}
 use Rattle.patterns.specs.Masks.{joined}
-use Rattle.patterns.proofs.Rounds.{joined_start, joined_turn, joined_end}
 use Rattle.patterns.proofs.grown.Given as goal
 
 abbrev pub invariant-loop-letter : goal.invariant-loop-letter

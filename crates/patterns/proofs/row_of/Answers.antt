@@ -1,7 +1,4 @@
-use native.Mathlib.Omega.{arith}
-use Rattle.tables.specs.Table.{m_of}
-use Rattle.tables.proofs.Chains.{left}
-use Rattle.patterns.proofs.Walks.{Walked, walk_state, walk_record, walk_letter, walk_target, walk_start, walk_turn, walk_less, walk_end}
+use Rattle.patterns.proofs.Walks.{walk_state, walk_record, walk_letter, walk_target, walk_start, walk_turn, walk_less, walk_end}
 use Rattle.patterns.proofs.row_of.Goals as goal
 
 pub head_of-at-requires : goal.head_of-at-requires
@@ -24,22 +21,15 @@ bounds-row-letter c =
     walk_letter _ _ _ c.requires _ _ _ c.loop-at-test.true c.loop-at.invariant
     c.letter_of-letter.ensures.is
 
-pub offset_bounds-row-letter : goal.offset_bounds-row-letter
-offset_bounds-row-letter c = omega (arith, array-read-row c)
-
 pub overflow_shl-row : goal.overflow_shl-row
 overflow_shl-row c =
     walk_target _ _ _ c.requires _ _ _ c.loop-at-test.true c.loop-at.invariant
     c.target_of-target.ensures.is
 
-pub overflow_cast-row : goal.overflow_cast-row
-overflow_cast-row c = omega (arith, shl-row c)
-
 pub bounds-row-letter-in-loop-at : goal.bounds-row-letter-in-loop-at
-bounds-row-letter-in-loop-at c = array-read-row c
-
-pub offset_bounds-row-letter-in-loop-at : goal.offset_bounds-row-letter-in-loop-at
-offset_bounds-row-letter-in-loop-at c = omega (arith, array-write-row c)
+bounds-row-letter-in-loop-at c =
+    walk_letter _ _ _ c.requires _ _ _ c.loop-at-test.true c.loop-at.invariant
+    c.letter_of-letter.ensures.is
 
 pub loop-at-smaller : goal.loop-at-smaller
 loop-at-smaller c =

@@ -1,9 +1,8 @@
 -- `patterns::row_of` meets its contract. The invariant: the sets so far, with what the rest of the chain has, are the state's edges.
 -- Assumes nothing.
-use native.Mathlib.Omega.{arith}
 use Rattle.tables.specs.Table.{m_of}
 use Rattle.tables.proofs.Chains.{left}
-use Rattle.patterns.proofs.Walks.{Walked, walk_state, walk_record, walk_letter, walk_target, walk_start, walk_turn, walk_less, walk_end}
+use Rattle.patterns.proofs.Walks.{Walked}
 use Rattle.patterns.proofs.row_of.Given as goal
 
 abbrev pub invariant-loop-at : goal.invariant-loop-at

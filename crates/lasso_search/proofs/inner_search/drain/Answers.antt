@@ -1,9 +1,6 @@
 use mathlib.Core.Path.{◌∙◌}
-use Prim.Native.Nat.{◌+◌, ◌*◌, ◌-◌}
 use native.Mathlib.Omega.{arith}
-use Rattle.lasso_search.specs.Search.{blacks}
-use Rattle.lasso_search.specs.Width.{width_16}
-use Rattle.lasso_search.proofs.Drains.{Draining, draining_start, last_below, last_small, last_asks, draining_met, draining_turn, draining_less, draining_end}
+use Rattle.lasso_search.proofs.Drains.{draining_start, last_below, last_small, last_asks, draining_met, draining_turn, draining_less, draining_end}
 use Rattle.lasso_search.proofs.inner_search.drain.Goals as goal
 
 pub loop-count-init : goal.loop-count-init

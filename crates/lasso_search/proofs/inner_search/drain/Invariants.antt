@@ -1,11 +1,9 @@
 -- `lasso_search::inner_search::drain` meets its contract. The invariant: the edges of every red node that does not wait lead to red nodes.
 -- The measure falls: a node that begins to wait is no longer black. Assumes nothing.
-use mathlib.Core.Path.{◌∙◌}
-use Prim.Native.Nat.{◌+◌, ◌*◌, ◌-◌}
-use native.Mathlib.Omega.{arith}
+use Prim.Native.Nat.{◌+◌, ◌*◌}
 use Rattle.lasso_search.specs.Search.{blacks}
 use Rattle.lasso_search.specs.Width.{width_16}
-use Rattle.lasso_search.proofs.Drains.{Draining, draining_start, last_below, last_small, last_asks, draining_met, draining_turn, draining_less, draining_end}
+use Rattle.lasso_search.proofs.Drains.{Draining}
 use Rattle.lasso_search.proofs.inner_search.drain.Given as goal
 
 abbrev pub invariant-loop-count : goal.invariant-loop-count

@@ -1,5 +1,4 @@
 -- `lasso_search::inner_search::follow` meets its contract: a black target has room to wait. Assumes nothing.
-use borrow.Author.Rules.{rules}
 use native.Mathlib.Omega.{arith}
 use Rattle.lasso_search.proofs.Follows.{follow_record, follow_word, follow_raise, follow_wait, follow_other, follow_grey, follow_black, follow_rest}
 use Rattle.lasso_search.proofs.inner_search.follow.Goals as goal

@@ -1,9 +1,6 @@
 use mathlib.Core.Path.{◌∙◌}
-use Rattle.tables.specs.Table.{m_of}
-use Rattle.tables.proofs.Chains.{left}
-use Rattle.lasso_search.specs.Width.{width_16}
 use Rattle.lasso_search.proofs.Chains.{next_less}
-use Rattle.lasso_search.proofs.Follows.{Spreading, spreading_start, spreading_follow, spreading_record, spreading_met, spreading_turn, spreading_end}
+use Rattle.lasso_search.proofs.Follows.{spreading_start, spreading_follow, spreading_record, spreading_met, spreading_turn, spreading_end}
 use Rattle.lasso_search.proofs.inner_search.spread.Goals as goal
 
 -- the turn, seen from where its edge was followed

@@ -1,11 +1,9 @@
 -- `lasso_search::inner_search::spread` meets its contract. The invariant: the edges followed so far turned their black targets red.
 -- The measure is how many records can follow. Assumes nothing.
-use mathlib.Core.Path.{◌∙◌}
 use Rattle.tables.specs.Table.{m_of}
 use Rattle.tables.proofs.Chains.{left}
 use Rattle.lasso_search.specs.Width.{width_16}
-use Rattle.lasso_search.proofs.Chains.{next_less}
-use Rattle.lasso_search.proofs.Follows.{Spreading, spreading_start, spreading_follow, spreading_record, spreading_met, spreading_turn, spreading_end}
+use Rattle.lasso_search.proofs.Follows.{Spreading}
 use Rattle.lasso_search.proofs.inner_search.spread.Given as goal
 
 abbrev pub invariant-loop-at : goal.invariant-loop-at

@@ -1,5 +1,4 @@
 -- `lasso_search::inner_search::spread_node` meets its contract: the edges of a node are a chain on one letter. Assumes nothing.
-use borrow.Author.Rules.{rules}
 use native.Mathlib.Omega.{arith}
 use Rattle.lasso_search.proofs.Drains.{node_spread_asks}
 use Rattle.lasso_search.proofs.Given.{given_node, given_state, given_spread}

@@ -1,5 +1,4 @@
 -- `lasso_search::nodes::node_base` meets its contract: no product is larger than the number of nodes. Assumes nothing.
-use borrow.Author.Rules.{rules}
 use native.Mathlib.Omega.{arith}
 use Rattle.lasso_search.proofs.Places.{position_inside, node_fits, base_next, base_back}
 use Rattle.lasso_search.proofs.nodes.node_base.Goals as goal

@@ -1,8 +1,5 @@
 -- `lasso_search::nodes::node_letter` meets its contract: the position of a node of the product is one of the lasso's. Assumes nothing.
-use borrow.Author.Rules.{rules}
-use Prim.Native.Nat.{◌-◌, ◌/◌}
 use native.Mathlib.Omega.{arith}
-use lib.ListN.{length}
 use Rattle.lasso_search.proofs.Places.{position_inside, letter_prefix, letter_loop}
 use Rattle.lasso_search.proofs.nodes.node_letter.Goals as goal
 

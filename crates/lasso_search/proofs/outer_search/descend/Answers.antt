@@ -1,6 +1,5 @@
 -- `lasso_search::outer_search::descend` meets its contract. Assumes nothing.
-use borrow.Author.Rules.{rules}
-use Prim.Native.Nat.{ℕ, ◌+◌, ◌*◌, ◌-◌, ◌^◌, ◌<◌}
+use Prim.Native.Nat.{ℕ, ◌+◌, ◌^◌, ◌<◌}
 use native.Mathlib.Omega.{arith}
 use Rattle.tables.specs.Access.{StateAsks, RecordAsks}
 use Rattle.lasso_search.specs.Steps.{EnterAsks}
@@ -35,18 +34,9 @@ returns-then-at-eq0 c =
 -- a record with a white target was found
 
 module _ (c : Else-at-eq0) where
-  abbrev base : tie.After-node-base
-  base = base-known after-next-white-BARE
-
-  abbrev letter : tie.After-node-letter
-  letter = letter-known base
-
-  abbrev begun : tie.Start
-  begun = start letter
-
-  reads-white : RecordAsks begun.args.table.now begun.args.states c.next_white-at.result
+  reads-white : RecordAsks c.args.table.now c.args.states c.next_white-at.result
   reads-white =
-      white_record begun.pre letter.node_letter.ensures base.node_base.ensures
+      white_record c.requires c.node_letter-letter.ensures c.node_base-base.ensures
       (is_white c.next_white-at.ensures c.if-at-eq0.false)
 
 pub target_of-target-requires : goal.target_of-target-requires
@@ -55,19 +45,18 @@ target_of-target-requires c = reads-white c
 -- and its target read
 
 module _ (c : After-target_of-target) where
-  reads-target : StateAsks (begun found-BARE).args.table.now c.target_of-target.result
+  reads-target : StateAsks c.args.table.now c.target_of-target.result
   reads-target =
-      to_state (begun found-BARE).pre (letter found-BARE).node_letter.ensures (base found-BARE).node_base.ensures
+      to_state c.requires c.node_letter-letter.ensures c.node_base-base.ensures
       (is_white c.next_white-at.ensures c.if-at-eq0.false)
       c.target_of-target.ensures.is
 
   enters-white :
       {first : ℕ} → first < 2 ^ width_16.work_bits →
-      let s = begun found-BARE in
-      EnterAsks width_16 s.args.work.now s.args.size ((base found-BARE).node_base.result + c.target_of-target.result) first
-      s.args.depth
+      EnterAsks width_16 c.args.work.now c.args.size (c.node_base-base.result + c.target_of-target.result) first
+      c.args.depth
   enters-white fits =
-      to_asks (begun found-BARE).pre (letter found-BARE).node_letter.ensures (base found-BARE).node_base.ensures
+      to_asks c.requires c.node_letter-letter.ensures c.node_base-base.ensures
       (is_white c.next_white-at.ensures c.if-at-eq0.false)
       c.target_of-target.ensures.is
       fits
@@ -88,21 +77,21 @@ pub next_of-requires : goal.next_of-requires
 next_of-requires c = reads-white (goal.at.next_of-requires c).Else-at-eq0
 
 pub overflow_mul-work : goal.overflow_mul-work
-overflow_mul-work c = omega (arith, top_small (begun (goal.at.overflow_mul-work c).Else-at-eq0).pre)
+overflow_mul-work c = omega (arith, top_small c.requires)
 
 pub overflow_add-work : goal.overflow_add-work
-overflow_add-work c = omega (arith, top_small (begun (goal.at.overflow_add-work c).Else-at-eq0).pre)
+overflow_add-work c = omega (arith, top_small c.requires)
 
 pub offset_bounds-work-size-2 : goal.offset_bounds-work-size-2
-offset_bounds-work-size-2 c = omega (arith, top_small (begun (goal.at.offset_bounds-work-size-2 c).Else-at-eq0).pre)
+offset_bounds-work-size-2 c = omega (arith, top_small c.requires)
 
 pub bounds-work-size-2 : goal.bounds-work-size-2
 bounds-work-size-2 c =
-    omega (arith, top_cursor (begun (goal.at.bounds-work-size-2 c).Else-at-eq0).pre, c.enter.auto.work)
+    omega (arith, top_cursor c.requires, c.enter.auto.work)
 
 pub returns : goal.returns
 returns c =
-    next_deeper (begun (goal.at.returns c).Else-at-eq0).pre (letter (goal.at.returns c).Else-at-eq0).node_letter.ensures (base (goal.at.returns c).Else-at-eq0).node_base.ensures
+    next_deeper c.requires c.node_letter-letter.ensures c.node_base-base.ensures
     (is_white c.next_white-at.ensures c.if-at-eq0.false)
     c.target_of-target.ensures.is
     c.head_of.ensures.is

@@ -1,5 +1,4 @@
 -- `lasso_search::outer_search::enter` meets its contract: the three words lie in three blocks. Assumes nothing.
-use borrow.Author.Rules.{rules}
 use native.Mathlib.Omega.{arith}
 use lib.ListN.{length-set}
 use Rattle.lasso_search.proofs.Descends.{enter_raise, entered_is}

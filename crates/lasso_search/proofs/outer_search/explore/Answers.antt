@@ -1,10 +1,9 @@
 use mathlib.Core.Path.{◌∙◌}
-use Prim.Native.Nat.{◌+◌, ◌*◌, ◌-◌}
+use Prim.Native.Nat.{◌+◌, ◌-◌}
 use native.Mathlib.Omega.{arith}
 use lib.ListN.{get_or}
-use Rattle.lasso_search.specs.Search.{whites}
 use Rattle.lasso_search.specs.Width.{width_16}
-use Rattle.lasso_search.proofs.Explores.{Exploring, exploring_start, exploring_below, exploring_small, exploring_top, exploring_deeper, deeper_less, exploring_end, Finishing, finishing_start, finishing_same, finishing_asks, finishing_found, finishing_left, finishing_less}
+use Rattle.lasso_search.proofs.Explores.{exploring_start, exploring_below, exploring_small, exploring_top, exploring_deeper, deeper_less, exploring_end, Finishing, finishing_start, finishing_same, finishing_asks, finishing_found, finishing_left, finishing_less}
 use Rattle.lasso_search.proofs.outer_search.explore.Goals as goal
 use Rattle.lasso_search.proofs.outer_search.explore.Goals.{Else-descend}
 

@@ -1,12 +1,9 @@
 -- `lasso_search::outer_search::explore` meets its contract. The invariant is that of the search. The measure falls: a node that enters
 -- the stack is no longer white, and one that leaves it makes it shorter. Assumes nothing.
-use mathlib.Core.Path.{◌∙◌}
-use Prim.Native.Nat.{◌+◌, ◌*◌, ◌-◌}
-use native.Mathlib.Omega.{arith}
-use lib.ListN.{get_or}
+use Prim.Native.Nat.{◌+◌, ◌*◌}
 use Rattle.lasso_search.specs.Search.{whites}
 use Rattle.lasso_search.specs.Width.{width_16}
-use Rattle.lasso_search.proofs.Explores.{Exploring, exploring_start, exploring_below, exploring_small, exploring_top, exploring_deeper, deeper_less, exploring_end, Finishing, finishing_start, finishing_same, finishing_asks, finishing_found, finishing_left, finishing_less}
+use Rattle.lasso_search.proofs.Explores.{Exploring}
 use Rattle.lasso_search.proofs.outer_search.explore.Given as goal
 
 abbrev pub invariant-loop-depth : goal.invariant-loop-depth

@@ -1,5 +1,4 @@
 -- `lasso_search::outer_search::finish` meets its contract. Assumes nothing.
-use borrow.Author.Rules.{rules}
 use native.Mathlib.Omega.{arith}
 use Rattle.lasso_search.proofs.Explores.{finish_state, finish_some, raise_grey, raise_still, finish_black, finish_closes, finish_red}
 use Rattle.lasso_search.proofs.outer_search.finish.Goals as goal

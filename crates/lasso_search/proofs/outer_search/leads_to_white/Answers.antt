@@ -1,5 +1,4 @@
 -- `lasso_search::outer_search::leads_to_white` meets its contract: a record's target is a node. Assumes nothing.
-use borrow.Author.Rules.{rules}
 use Rattle.lasso_search.proofs.Chains.{reads_edge, edge_word, white_other, white_same}
 use Rattle.lasso_search.proofs.outer_search.leads_to_white.Goals as goal
 

@@ -3,7 +3,7 @@
 use Rattle.tables.specs.Table.{m_of}
 use Rattle.tables.proofs.Chains.{left}
 use Rattle.lasso_search.specs.Width.{width_16}
-use Rattle.lasso_search.proofs.Chains.{next_less, Walked, walked_start, walked_edge, walked_record, walked_turn, walked_found, walked_none}
+use Rattle.lasso_search.proofs.Chains.{Walked}
 use Rattle.lasso_search.proofs.outer_search.next_white.Given as goal
 
 abbrev pub invariant-loop-at : goal.invariant-loop-at

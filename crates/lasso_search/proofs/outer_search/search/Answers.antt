@@ -1,8 +1,5 @@
 use mathlib.Core.Path.{◌∙◌}
-use Prim.Native.Nat.{◌-◌}
-use native.Mathlib.Omega.{arith}
-use Rattle.lasso_search.specs.Width.{width_16}
-use Rattle.lasso_search.proofs.Explores.{Trying, trying_start, trying_asks, trying_found, trying_turn, trying_end}
+use Rattle.lasso_search.proofs.Explores.{trying_start, trying_asks, trying_found, trying_turn, trying_end}
 use Rattle.lasso_search.proofs.outer_search.search.Goals as goal
 
 pub loop-state-init : goal.loop-state-init

@@ -1,10 +1,8 @@
 -- `lasso_search::outer_search::search` meets its contract. The invariant: the stack is empty, and the initial states so far are visited.
 -- Assumes nothing.
-use mathlib.Core.Path.{◌∙◌}
 use Prim.Native.Nat.{◌-◌}
-use native.Mathlib.Omega.{arith}
 use Rattle.lasso_search.specs.Width.{width_16}
-use Rattle.lasso_search.proofs.Explores.{Trying, trying_start, trying_asks, trying_found, trying_turn, trying_end}
+use Rattle.lasso_search.proofs.Explores.{Trying}
 use Rattle.lasso_search.proofs.outer_search.search.Given as goal
 
 abbrev pub invariant-loop-state : goal.invariant-loop-state

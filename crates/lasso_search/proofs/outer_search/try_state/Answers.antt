@@ -1,9 +1,7 @@
 -- `lasso_search::outer_search::try_state` meets its contract. Assumes nothing.
-use borrow.Author.Rules.{rules}
 use native.Mathlib.Omega.{arith}
 use Rattle.lasso_search.proofs.Explores.{try_reads, try_word, not_initial, not_white, try_enter, try_explore, try_end}
 use Rattle.lasso_search.proofs.outer_search.try_state.Goals as goal
-use Rattle.lasso_search.proofs.outer_search.try_state.Goals.{Else-colour_of-ne-WHITE}
 
 pub flags_of-requires : goal.flags_of-requires
 flags_of-requires c = try_reads c.requires
@@ -17,32 +15,23 @@ colour_of-requires c = try_word c.requires
 pub returns-then-colour_of-ne-WHITE : goal.returns-then-colour_of-ne-WHITE
 returns-then-colour_of-ne-WHITE c = not_white c.requires c.colour_of.ensures c.if-colour_of-ne-WHITE.true
 
--- the state is initial and white
-
-module _ (c : Else-colour_of-ne-WHITE) where
-  abbrev flags : tie.After-flags-of
-  flags = flags-known seen-BARE
-
-  abbrev begun : tie.Start
-  begun = start flags
-
 pub head_of-requires : goal.head_of-requires
-head_of-requires c = try_reads (begun (goal.at.head_of-requires c).Else-colour_of-ne-WHITE).pre
+head_of-requires c = try_reads c.requires
 
 pub enter-requires : goal.enter-requires
 enter-requires c =
-    try_enter (begun (goal.at.enter-requires c).Else-colour_of-ne-WHITE).pre c.colour_of.ensures c.if-colour_of-ne-WHITE.false (let k = c.head_of.ensures.small in omega arith)
+    try_enter c.requires c.colour_of.ensures c.if-colour_of-ne-WHITE.false (let k = c.head_of.ensures.small in omega arith)
 
 pub explore-requires : goal.explore-requires
 explore-requires c =
-    try_explore (begun (goal.at.explore-requires c).Else-colour_of-ne-WHITE).pre c.colour_of.ensures c.if-colour_of-ne-WHITE.false (flags (goal.at.explore-requires c).Else-colour_of-ne-WHITE).flags_of.ensures.is
+    try_explore c.requires c.colour_of.ensures c.if-colour_of-ne-WHITE.false c.flags_of.ensures.is
     c.if-flags_of-ne1.false
     c.head_of.ensures.is
     c.enter.ensures
 
 pub returns : goal.returns
 returns c =
-    try_end (begun (goal.at.returns c).Else-colour_of-ne-WHITE).pre c.colour_of.ensures c.if-colour_of-ne-WHITE.false (flags (goal.at.returns c).Else-colour_of-ne-WHITE).flags_of.ensures.is
+    try_end c.requires c.colour_of.ensures c.if-colour_of-ne-WHITE.false c.flags_of.ensures.is
     c.if-flags_of-ne1.false
     c.head_of.ensures.is
     c.enter.ensures
