@@ -16,7 +16,7 @@ use sets::TargetSets;
 use tables::WIDE_RECORDS;
 
 // What has been found: how many states and edges; or that there are more states than fit, with both counts zero.
-#[derive(Drop)]
+#[derive(Clone, Copy)]
 pub(crate) struct Progress {
     pub states: usize,
     pub edges: usize,

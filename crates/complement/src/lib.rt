@@ -18,7 +18,7 @@ mod records;
 
 // What the build answers: the number of a refusal with its place, or zero with both counts.
 #[repr(C)]
-#[derive(Drop)]
+#[derive(Clone, Copy)]
 pub struct Counts {
     pub number: u32,
     pub states: u32,

@@ -1,6 +1,4 @@
 pub mod First
 pub mod Laid
-pub mod Local
-pub mod Machine
 pub mod Trials
 pub mod Words

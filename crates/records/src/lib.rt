@@ -88,7 +88,7 @@ fn find_in_four(sets: &[u32], x: Quadruple) -> usize
 }
 
 // Looks a quadruple up among the first four records of words: its place, or how many of them there are. What the words do not make is
-// no record, so a place behind them is none. The parameters are plain, so that callers need no proof by hand.
+// no record, so a place behind them is none.
 pub fn find_in_words(sets: &[u32], x: Quadruple) -> usize
     ensures { result ≡ number_of same x (take 4 (records_in sets.now)) }
 {

@@ -1,18 +1,15 @@
 use mathlib.Core.Path.{refl, ◌∙◌}
-use Prim.Native.Nat.{◌≤◌, ◌-◌}
 use native.Mathlib.Omega.{arith}
 use Rattle.basics.specs.Tabulate.{tabulate}
 use Rattle.automata.specs.System.{add_all}
 use Rattle.automata.proofs.Exploring.{add_all_more}
 use Rattle.automata.proofs.Growth.{grows_all}
 use Rattle.tables.specs.Table.{wide_range}
-use Rattle.ncsb.specs.Array.{nth_successor}
 use Rattle.ncsb.specs.Successors.{same}
 use Rattle.ncsb.proofs.Choices.{choices_fit}
 use Rattle.complement.specs.Build.{lent}
-use Rattle.complement.specs.Found.{wide_quadruples}
 use Rattle.complement.proofs.Letters.{letter_blocked, letter_full, letter_end}
-use Rattle.complement.proofs.Reaching.{SameSizes, Reaching, reach_start, reach_asks, reach_turn}
+use Rattle.complement.proofs.Reaching.{SameSizes, reach_start, reach_asks, reach_turn}
 use Rattle.complement.proofs.explore.add_successors.Goals as goal
 use Rattle.complement.proofs.explore.add_successors.Goals.{After-meet-progress}
 
@@ -68,12 +65,11 @@ returns-then-progress c =
     c.loop-choice-test.true c.if-progress.true
 
 pub loop-choice-preserved : goal.loop-choice-preserved
-loop-choice-preserved c =
-    (
-      omega arith,
-      reach_turn c.loop-choice.invariant.1 (rw c.successor.ensures (goal.at.loop-choice-preserved c).After-meet-progress c.meet-progress.ensures) (add_all_more same _ _ _ _) (sizes (goal.at.loop-choice-preserved c).After-meet-progress)
-          c.if-progress.false,
-    )
+loop-choice-preserved c = (
+  omega arith,
+  reach_turn c.loop-choice.invariant.1 (rw c.successor.ensures at c.meet-progress.ensures) (add_all_more same _ _ _ _) (sizes (goal.at.loop-choice-preserved c).After-meet-progress)
+      c.if-progress.false,
+)
 
 pub shape_of-words : goal.shape_of-words
 shape_of-words c = c.loop-choice.invariant.1.sizes.words

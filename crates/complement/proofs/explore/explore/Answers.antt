@@ -1,12 +1,10 @@
 use mathlib.Core.Path.{◌∙◌}
-use mathlib.Core.List.{List}
-use Prim.Native.Nat.{ℕ, ◌-◌, ◌≤◌}
+use Prim.Native.Nat.{◌≤◌}
 use native.Mathlib.Omega.{arith}
 use Rattle.tables.specs.Table.{wide_range}
 use Rattle.complement.specs.Build.{lent}
-use Rattle.complement.specs.Found.{ReadOff}
 use Rattle.complement.proofs.Kept.{shows_limit}
-use Rattle.complement.proofs.Numbering.{Exploring, begin_full, begin_within, expand_asks, expand_full, expand_turn, explore_end}
+use Rattle.complement.proofs.Numbering.{begin_full, begin_within, expand_asks, expand_full, expand_turn, explore_end}
 use Rattle.complement.proofs.Reaching.{SameSizes, sizes_self, sizes_then}
 use Rattle.complement.proofs.explore.explore.Goals as goal
 use Rattle.complement.proofs.explore.explore.Goals.{In-loop-number}
@@ -22,7 +20,7 @@ module _ (c : In-loop-number) where
 -- its edges are added
 
 module _ (c : After-step-found) where
-  sizes_step : SameSizes (lent c.step-found.new.words c.step-found.new.sets) (lent (turn one-BARE).loop.words (turn one-BARE).loop.sets)
+  sizes_step : SameSizes (lent c.step-found.new.words c.step-found.new.sets) (lent c.loop-number.words c.loop-number.sets)
   sizes_step = record { words = c.step-found.auto.words; sets = c.step-found.auto.sets }
 
 -- THE NEEDS
@@ -42,13 +40,12 @@ returns-then-found c =
     }
 
 pub loop-number-init : goal.loop-number-init
-loop-number-init c =
-    (
-      sizes_self,
-      λ t read.
-          begin_within t read.passed read.masked read.shaped c.requires.words_clear c.store_initials-found.ensures
-          c.if-found.false,
-    )
+loop-number-init c = (
+  sizes_self,
+  λ t read.
+      begin_within t read.passed read.masked read.shaped c.requires.words_clear c.store_initials-found.ensures
+      c.if-found.false,
+)
 
 pub step-found-requires : goal.step-found-requires
 step-found-requires c =
@@ -82,13 +79,12 @@ loop-number-smaller c =
     let l = c.loop-number-test.true in let most = few (goal.at.loop-number-smaller c).In-loop-number in omega arith
 
 pub loop-number-preserved : goal.loop-number-preserved
-loop-number-preserved c =
-    (
-      sizes_then (sizes_step (goal.at.loop-number-preserved c).After-step-found) c.loop-number.invariant.0,
-      λ t read.
-          expand_turn t read.passed read.masked read.shaped (c.loop-number.invariant.1 t read) c.loop-number-test.true
-          c.step-found.ensures c.if-found-2.false,
-    )
+loop-number-preserved c = (
+  sizes_then (sizes_step (goal.at.loop-number-preserved c).After-step-found) c.loop-number.invariant.0,
+  λ t read.
+      expand_turn t read.passed read.masked read.shaped (c.loop-number.invariant.1 t read) c.loop-number-test.true
+      c.step-found.ensures c.if-found-2.false,
+)
 
 pub shape_of-words : goal.shape_of-words
 shape_of-words c = c.loop-number.invariant.0.words

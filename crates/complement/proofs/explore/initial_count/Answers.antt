@@ -1,6 +1,5 @@
 -- `initial_count` is the number of initial quadruples. Assumes nothing.
 use Rattle.complement.proofs.Starting.{start_counted}
-use borrow.Author.Rules.{rules}
 use Rattle.complement.proofs.explore.initial_count.Goals as goal
 
 pub returns : goal.returns

@@ -5,23 +5,17 @@ use Rattle.tables.specs.Table.{wide_range}
 use Rattle.complement.specs.Found.{overfull}
 use Rattle.complement.proofs.Kept.{capacity_limit, shows_limit}
 use Rattle.complement.proofs.Meeting.{meet_full, meet_known, meet_new}
-use borrow.Author.Rules.{rules}
 use Rattle.complement.proofs.explore.meet.Goals as goal
-use Rattle.complement.proofs.explore.meet.Goals.{After-room}
 use Rattle.complement.proofs.explore.meet.Goals.{Else-target-room}
-
--- the room is known
-
-module _ (c : After-room) where
 
 -- there is room: both states' numbers are below what a table can have
 
 module _ (c : Else-target-room) where
-  source-few : (start-BARE roomy-BARE).args.source < wide_range.states
+  source-few : c.args.source < wide_range.states
   source-few =
       let inside = c.requires.inside in let most = shows_limit c.requires.shows in omega arith
 
-  target-few : (placed-BARE roomy-BARE).place.result < wide_range.states
+  target-few : c.place-target.result < wide_range.states
   target-few =
       let inside = c.if-target-room.false in
       let room = c.room.ensures in

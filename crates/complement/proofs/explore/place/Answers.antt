@@ -6,7 +6,6 @@ use Rattle.tables.specs.Table.{wide_range}
 use Rattle.complement.specs.Found.{known, fresh, left_out}
 use Rattle.complement.proofs.Kept.{capacity_full}
 use Rattle.complement.proofs.Lookup.{looked_all}
-use borrow.Author.Rules.{rules}
 use Rattle.complement.proofs.explore.place.Goals as goal
 
 -- THE NEEDS

@@ -1,5 +1,5 @@
 use mathlib.Core.Path.{refl, ◌∙◌}
-use Prim.Native.Nat.{◌-◌, ◌≤◌, ◌<◌}
+use Prim.Native.Nat.{◌<◌}
 use native.Mathlib.Omega.{arith}
 use Rattle.sets.specs.Sets.{row_letters}
 use Rattle.sets.proofs.Grid.{narrow}
@@ -8,9 +8,9 @@ use Rattle.automata.proofs.Exploring.{grows_spelled}
 use Rattle.automata.proofs.Growth.{grows_letters}
 use Rattle.ncsb.specs.Successors.{ncsb}
 use Rattle.complement.specs.Build.{lent}
-use Rattle.complement.specs.Found.{wide_quadruples, array_moves}
+use Rattle.complement.specs.Found.{array_moves}
 use Rattle.complement.proofs.Kept.{shows_room}
-use Rattle.complement.proofs.Reaching.{SameSizes, Reaching, reach_start, reach_asks, reach_turn, reach_full, reach_end}
+use Rattle.complement.proofs.Reaching.{SameSizes, reach_start, reach_asks, reach_turn, reach_full, reach_end}
 use Rattle.complement.proofs.explore.step.Goals as goal
 use Rattle.complement.proofs.explore.step.Goals.{After-add_successors-progress}
 
@@ -36,7 +36,7 @@ add_successors-progress-requires c =
     let asked = c.requires in
     let more = c.loop-letter-test.true in
     let few : c.loop-letter.letter < row_letters = let most = asked.letters_inside in omega arith in (
-      narrow c.args.t1 _ c.ranges.0,
+      narrow c.args.masks _ c.well_formed.0,
       reach_asks c.loop-letter.invariant.1 asked.shows (grows_spelled _ _ _ _ _) asked.inside few,
     )
 
@@ -53,7 +53,7 @@ unfolding by_letters ncsb
 returns-then-progress c =
     rw (← c.load-x.ensures)
     (reach_full c.loop-letter.invariant.1 c.add_successors-progress.ensures (λ b. refl) c.args.shape.letters
-    (λ b. grows_letters _ _ _ _ _ b c.loop-letter-test.true) c.if-progress.true)
+    (λ b. grows_letters (ncsb (array_moves c.args.masks c.args.shape)) _ _ _ _ b c.loop-letter-test.true) c.if-progress.true)
 
 pub loop-letter-preserved : goal.loop-letter-preserved
 unfolding by_letters ncsb

@@ -1,17 +1,10 @@
 -- `step` adds the edges of a state, by rising letter. The invariant: so many letters are done. Assumes nothing.
-use mathlib.Core.Path.{refl, ◌∙◌}
-use Prim.Native.Nat.{◌-◌, ◌≤◌, ◌<◌}
-use native.Mathlib.Omega.{arith}
-use Rattle.sets.specs.Sets.{row_letters}
-use Rattle.sets.proofs.Grid.{narrow}
+use Prim.Native.Nat.{◌-◌, ◌≤◌}
 use Rattle.automata.specs.System.{by_letters}
-use Rattle.automata.proofs.Exploring.{grows_spelled}
-use Rattle.automata.proofs.Growth.{grows_letters}
 use Rattle.ncsb.specs.Successors.{ncsb}
 use Rattle.complement.specs.Build.{lent}
 use Rattle.complement.specs.Found.{wide_quadruples, array_moves}
-use Rattle.complement.proofs.Kept.{shows_room}
-use Rattle.complement.proofs.Reaching.{SameSizes, Reaching, reach_start, reach_asks, reach_turn, reach_full, reach_end}
+use Rattle.complement.proofs.Reaching.{Reaching}
 use Rattle.complement.proofs.explore.step.Given as goal
 
 abbrev pub invariant-loop-letter : goal.invariant-loop-letter

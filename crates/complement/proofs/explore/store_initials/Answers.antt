@@ -1,9 +1,8 @@
 use mathlib.Core.Path.{refl}
-use Prim.Native.Nat.{◌≤◌, ◌-◌}
 use native.Mathlib.Omega.{arith}
 use Rattle.tables.specs.Table.{wide_range}
 use Rattle.complement.specs.Found.{overfull}
-use Rattle.complement.proofs.Starting.{Storing, start_fits, start_full, store_start, store_asks, store_turn, store_end}
+use Rattle.complement.proofs.Starting.{start_fits, start_full, store_start, store_asks, store_turn, store_end}
 use Rattle.complement.proofs.explore.store_initials.Goals as goal
 
 -- THE NEEDS
@@ -31,12 +30,11 @@ store-requires c =
     c.room.ensures c.if-room-choices.false
 
 pub loop-choice-preserved : goal.loop-choice-preserved
-loop-choice-preserved c =
-    (
-      omega arith,
-      store_turn wide_range c.args.shape c.initial_count-choices.ensures c.loop-choice.invariant.1 c.loop-choice-test.true
-          c.room.ensures c.if-room-choices.false c.initial-x.ensures c.store.ensures c.store.auto.records,
-    )
+loop-choice-preserved c = (
+  omega arith,
+  store_turn wide_range c.args.shape c.initial_count-choices.ensures c.loop-choice.invariant.1 c.loop-choice-test.true
+      c.room.ensures c.if-room-choices.false c.initial-x.ensures c.store.ensures c.store.auto.words,
+)
 
 pub shape_of-sets : goal.shape_of-sets
 shape_of-sets c = c.loop-choice.invariant.1.size

@@ -1,10 +1,7 @@
 -- `store_initials` stores the initial quadruples, by rising choice. The invariant: so many are stored. Assumes nothing.
-use mathlib.Core.Path.{refl}
 use Prim.Native.Nat.{◌≤◌, ◌-◌}
-use native.Mathlib.Omega.{arith}
 use Rattle.tables.specs.Table.{wide_range}
-use Rattle.complement.specs.Found.{overfull}
-use Rattle.complement.proofs.Starting.{Storing, start_fits, start_full, store_start, store_asks, store_turn, store_end}
+use Rattle.complement.proofs.Starting.{Storing}
 use Rattle.complement.proofs.explore.store_initials.Given as goal
 
 abbrev pub invariant-loop-choice : goal.invariant-loop-choice

@@ -1,8 +1,7 @@
-use mathlib.Core.Path.{◌≡◌, refl}
-use Prim.Native.Nat.{◌≤◌, ◌-◌}
+use mathlib.Core.Path.{refl}
 use native.Mathlib.Omega.{arith}
-use lib.ListN.{length, length-set}
-use Rattle.complement.specs.Flags.{with_flags, record_accepts}
+use lib.ListN.{length-set}
+use Rattle.complement.specs.Flags.{record_accepts}
 use Rattle.complement.proofs.Flagged.{flags_start, flags_turn, flags_end}
 use Rattle.complement.proofs.flags.set_flags.Goals as goal
 

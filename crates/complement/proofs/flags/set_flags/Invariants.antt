@@ -1,10 +1,8 @@
 -- `set_flags` sets the flags state by state. The invariant: those of the states before are set. Assumes nothing.
-use mathlib.Core.Path.{◌≡◌, refl}
+use mathlib.Core.Path.{◌≡◌}
 use Prim.Native.Nat.{◌≤◌, ◌-◌}
-use native.Mathlib.Omega.{arith}
-use lib.ListN.{length, length-set}
+use lib.ListN.{length}
 use Rattle.complement.specs.Flags.{with_flags, record_accepts}
-use Rattle.complement.proofs.Flagged.{flags_start, flags_turn, flags_end}
 use Rattle.complement.proofs.flags.set_flags.Given as goal
 
 abbrev pub invariant-loop-state : goal.invariant-loop-state

@@ -4,7 +4,6 @@ use Rattle.basics.proofs.Booleans.{lt_ltb, ge_ltb}
 use Rattle.tables.specs.Table.{flags}
 use Rattle.complement.specs.Flags.{record_accepts}
 use Rattle.complement.proofs.Flagged.{accepts_loaded, flags_told}
-use borrow.Author.Rules.{rules}
 use Rattle.complement.proofs.flags.state_flags.Goals as goal
 
 pub returns-then-accepting : goal.returns-then-accepting

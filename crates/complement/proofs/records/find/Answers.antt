@@ -1,7 +1,5 @@
-use mathlib.Core.Bool.{false}
-use Prim.Native.Nat.{◌-◌}
 use native.Mathlib.Omega.{arith}
-use Rattle.basics.proofs.Scans.{Scan, scan_start, scan_more}
+use Rattle.basics.proofs.Scans.{scan_start, scan_more}
 use Rattle.automata.proofs.Members.{number_met, number_missed}
 use Rattle.ncsb.specs.Successors.{same}
 use Rattle.record_words.specs.Record.{quadruple_at, records_of}

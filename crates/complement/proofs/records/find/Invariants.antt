@@ -1,13 +1,9 @@
 -- `find` is a scan of the first records. The invariant: none of those passed is x. Assumes nothing.
 use mathlib.Core.Bool.{false}
 use Prim.Native.Nat.{◌-◌}
-use native.Mathlib.Omega.{arith}
-use Rattle.basics.proofs.Scans.{Scan, scan_start, scan_more}
-use Rattle.automata.proofs.Members.{number_met, number_missed}
+use Rattle.basics.proofs.Scans.{Scan}
 use Rattle.ncsb.specs.Successors.{same}
-use Rattle.record_words.specs.Record.{quadruple_at, records_of}
-use Rattle.complement.specs.Records.{looked_up}
-use Rattle.complement.proofs.Lookup.{compared}
+use Rattle.record_words.specs.Record.{quadruple_at}
 use Rattle.complement.proofs.records.find.Given as goal
 
 abbrev pub invariant-loop-number : goal.invariant-loop-number

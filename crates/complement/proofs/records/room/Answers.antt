@@ -1,7 +1,6 @@
 -- `room` is the smaller of the full records and the limit. Assumes nothing.
 use Rattle.tables.specs.Table.{wide_range}
 use Rattle.complement.proofs.Lookup.{room_records, room_limit}
-use borrow.Author.Rules.{rules}
 use Rattle.complement.proofs.records.room.Goals as goal
 
 pub returns-then-records-lt-WIDE_STATES : goal.returns-then-records-lt-WIDE_STATES
