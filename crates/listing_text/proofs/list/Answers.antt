@@ -3,15 +3,8 @@ use borrow.Author.Rules.{rules}
 use Rattle.listing_text.proofs.Whole.{listing_right}
 use Rattle.tables.specs.Table.{pattern_range}
 use Rattle.listing_text.specs.Listing.{listing_bounds}
-use Rattle.listing_text.proofs.list.Statement.{statement}
-use Rattle.listing_text.proofs.list.Tie as tie
+use Rattle.listing_text.proofs.list.Goals as goal
 
-list-read-requires : tie.Need-list-read-requires
-list-read-requires c κs = search rules
-
-returns : tie.Need-returns
+pub returns : goal.returns
 unfolding listing_bounds pattern_range
 returns c = record { listed = c.List-read.ensures; of_input = listing_right (search rules) }
-
-pub list-spec : {M : Type 1} → statement M
-list-spec = tie.close (tie.spec list-read-requires returns)

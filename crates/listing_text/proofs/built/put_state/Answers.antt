@@ -1,0 +1,7 @@
+-- `put_state` writes a state's number, sets and flags. Assumes nothing.
+use borrow.Author.Rules.{rules}
+use Rattle.listing_text.proofs.Printing.{state_put}
+use Rattle.listing_text.proofs.built.put_state.Goals as goal
+
+pub returns : goal.returns
+returns c = state_put _ _ c.args.state c.load-x.ensures c.flags_of-flags.ensures.is c.put_line.ensures
