@@ -7,4 +7,4 @@ use Rattle.listing_text.proofs.list.Goals as goal
 
 pub returns : goal.returns
 unfolding listing_bounds pattern_range
-returns c = record { listed = c.List-read.ensures; of_input = listing_right (search rules) }
+returns c = record { listed = c.list_read.ensures; of_input = listing_right (search rules) }

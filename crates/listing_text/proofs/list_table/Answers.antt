@@ -2,7 +2,6 @@
 use mathlib.Core.Path.{◌≡◌}
 use Prim.Native.Nat.{ℕ, ◌*◌}
 use lib.ListN.{replicate, length-replicate}
-use borrow.Author.Rules.{rules}
 use Rattle.record_words.specs.Record.{record_words}
 use Rattle.complement.specs.Build.{lent, room_of}
 use Rattle.listing_text.specs.Listing.{most_states, most_words, listing_room}
@@ -11,16 +10,21 @@ use Rattle.listing_text.proofs.list_table.Goals as goal
 
 -- the room that the build is lent
 
-lent-room : room_of (lent (replicate most_words 0) (replicate (record_words * most_states) 0)) ≡ listing_room
-lent-room =
+lent_room : room_of (lent (replicate most_words 0) (replicate (record_words * most_states) 0)) ≡ listing_room
+lent_room =
     let sets_words = record_words * most_states in
     room_for (replicate most_words 0) (replicate sets_words 0) (length-replicate {A = ℕ} most_words 0) (length-replicate {A = ℕ} sets_words 0)
 
 pub put_answer-requires : goal.put_answer-requires
 unfolding record_words
 put_answer-requires c =
-    let kept = c.build_complement-counts.kept.1 in record { printable_answer = printable c.build_complement-counts.ensures lent-room kept.0 kept.1.0; output_bytes_in_bounds = c.requires; }
+    record {
+      printable_answer =
+          printable c.build_complement-counts.ensures lent_room c.build_complement-counts.auto.words
+          c.build_complement-counts.auto.sets;
+      output_bytes_in_bounds = c.requires;
+    }
 
 pub returns : goal.returns
 unfolding record_words
-returns c = answer_put c.build_complement-counts.ensures lent-room c.put_answer.ensures
+returns c = answer_put c.build_complement-counts.ensures lent_room c.put_answer.ensures

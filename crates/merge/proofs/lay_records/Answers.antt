@@ -21,7 +21,7 @@ loop-i-init c = laying_start _ _ _ _
 module _ (c : In-loop-i) where
   inside : c.loop-i.i < m_of c.args.table.now
   inside =
-      omega (arith, turn.loop-test.taken, c.records_of-own_records.ensures.is)
+      omega (arith, c.loop-i-test.true, c.records_of-own_records.ensures.is)
 
   reads : RecordAsks c.args.table.now c.states_of-own_states.result (c.loop-i.i + 1)
   reads = record_reads c.requires c.loop-i.invariant inside c.states_of-own_states.ensures.is
@@ -90,7 +90,7 @@ link_on-requires c = omega (arith, link_fits (goal.at.link_on-requires c).In-loo
 
 pub overflow_cast-words-in-loop-i-2 : goal.overflow_cast-words-in-loop-i-2
 overflow_cast-words-in-loop-i-2 c =
-    let most = link_most (start (goal.at.overflow_cast-words-in-loop-i-2 c).In-loop-i).args.records c.next_of.result c.next_of.result (omega arith) in
+    let most = link_most c.args.records c.next_of.result c.next_of.result (omega arith) in
     omega (arith, link_fits (goal.at.overflow_cast-words-in-loop-i-2 c).In-loop-i, c.next_of.ensures.is, c.link_on.ensures)
 
 pub overflow_add-words-in-loop-i-2 : goal.overflow_add-words-in-loop-i-2
@@ -104,9 +104,9 @@ bounds-words-place-in-loop-i-2 c = simp length-set (omega (arith, room (goal.at.
 
 pub loop-i-preserved : goal.loop-i-preserved
 loop-i-preserved c =
-    record_turn (start (goal.at.loop-i-preserved c).In-loop-i).pre (here (goal.at.loop-i-preserved c).In-loop-i).loop.invariant (inside (goal.at.loop-i-preserved c).In-loop-i) c.letter_of.ensures.is
-    (ap (λ (x : ℕ). (start (goal.at.loop-i-preserved c).In-loop-i).args.states + x) c.target_of.ensures.is)
-    (c.link_on.ensures ∙ ap (link_on (start (goal.at.loop-i-preserved c).In-loop-i).args.records) c.next_of.ensures.is)
+    record_turn c.requires c.loop-i.invariant (inside (goal.at.loop-i-preserved c).In-loop-i) c.letter_of.ensures.is
+    (ap (λ (x : ℕ). c.args.states + x) c.target_of.ensures.is)
+    (c.link_on.ensures ∙ ap (link_on c.args.records) c.next_of.ensures.is)
 
 pub shape_of-words : goal.shape_of-words
 shape_of-words c = c.loop-i.invariant.same

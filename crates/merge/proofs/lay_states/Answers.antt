@@ -21,7 +21,7 @@ loop-state-init c = laying_start _ _ _ _
 module _ (c : In-loop-state) where
   inside : c.loop-state.state < n_of c.args.table.now
   inside =
-      omega (arith, turn.loop-test.taken, c.states_of-states.ensures.is)
+      omega (arith, c.loop-state-test.true, c.states_of-states.ensures.is)
 
   reads : StateAsks c.args.table.now c.loop-state.state
   reads = state_reads c.requires c.loop-state.invariant inside
@@ -58,7 +58,7 @@ link_on-requires c = omega (arith, link_fits (goal.at.link_on-requires c).In-loo
 
 pub overflow_cast-words-in-loop-state : goal.overflow_cast-words-in-loop-state
 overflow_cast-words-in-loop-state c =
-    let most = link_most (start (goal.at.overflow_cast-words-in-loop-state c).In-loop-state).args.records c.head_of.result c.head_of.result (omega arith) in
+    let most = link_most c.args.records c.head_of.result c.head_of.result (omega arith) in
     omega (arith, link_fits (goal.at.overflow_cast-words-in-loop-state c).In-loop-state, c.head_of.ensures.is, c.link_on.ensures)
 
 pub overflow_add-words : goal.overflow_add-words
@@ -73,8 +73,8 @@ bounds-words-place-in-loop-state c =
 
 pub loop-state-preserved : goal.loop-state-preserved
 loop-state-preserved c =
-    state_turn (start (goal.at.loop-state-preserved c).In-loop-state).pre (here (goal.at.loop-state-preserved c).In-loop-state).loop.invariant (inside (goal.at.loop-state-preserved c).In-loop-state) c.flags_of.ensures.is
-    (c.link_on.ensures ∙ ap (link_on (start (goal.at.loop-state-preserved c).In-loop-state).args.records) c.head_of.ensures.is)
+    state_turn c.requires c.loop-state.invariant (inside (goal.at.loop-state-preserved c).In-loop-state) c.flags_of.ensures.is
+    (c.link_on.ensures ∙ ap (link_on c.args.records) c.head_of.ensures.is)
 
 pub shape_of-words : goal.shape_of-words
 shape_of-words c = c.loop-state.invariant.same

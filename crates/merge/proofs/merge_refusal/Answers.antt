@@ -3,38 +3,36 @@ use mathlib.Core.Path.{◌≡◌, sym, ap, ◌∙◌}
 use Rattle.patterns.specs.Check.{check_refusal}
 use Rattle.merge.specs.Steps.{number_of}
 use Rattle.merge.proofs.Refusals.{checked_number, refused_first, refused_second, refused_pair}
-use borrow.Author.Rules.{rules}
 use Rattle.merge.proofs.merge_refusal.Goals as goal
-use Rattle.merge.proofs.merge_refusal.Goals.{After-number_of-of_first}
-use Rattle.merge.proofs.merge_refusal.Goals.{After-number_of-of_second}
-use Rattle.merge.proofs.merge_refusal.Goals.{Else-of_first-ne0}
+use Rattle.merge.proofs.merge_refusal.Goals.{After-number_of-of_first, After-number_of-of_second, Else-of_first-ne0}
 
 -- the numbers of both checks
+first : (c : After-number_of-of_first) → c.number_of-of_first.result ≡ check_refusal c.args.first.now
+first c = c.number_of-of_first.ensures ∙ (ap number_of c.check_pattern.ensures ∙ checked_number c.args.first.now)
 
-module _ (c : After-number_of-of_first) where
-  first : c.number_of-of_first.result ≡ check_refusal c.args.first.now
-  first =
-      c.number_of-of_first.ensures ∙ (ap number_of c.check_pattern.ensures ∙ checked_number c.args.first.now)
-
-module _ (c : After-number_of-of_second) where
-  second : c.number_of-of_second.result ≡ check_refusal (start before-BARE).args.second.now
-  second =
-      c.number_of-of_second.ensures ∙ (ap number_of c.check_pattern-2.ensures ∙ checked_number (start before-BARE).args.second.now)
+second : (c : After-number_of-of_second) → c.number_of-of_second.result ≡ check_refusal c.args.second.now
+second c = c.number_of-of_second.ensures ∙ (ap number_of c.check_pattern-2.ensures ∙ checked_number c.args.second.now)
 
 pub returns-then-of_first-ne0 : goal.returns-then-of_first-ne0
 returns-then-of_first-ne0 c =
-    first (goal.at.returns-then-of_first-ne0 c).After-number_of-of_first ∙ refused_first _ _ _ (λ none. c.if-of_first-ne0.true (first (goal.at.returns-then-of_first-ne0 c).After-number_of-of_first ∙ none))
+    let is = first (goal.at.returns-then-of_first-ne0 c).After-number_of-of_first in
+    is ∙ refused_first _ _ _ (λ none. c.if-of_first-ne0.true (is ∙ none))
 
 -- the first passes, and then the second
-
-module _ (c : Else-of_first-ne0) where
-  passes : check_refusal (start numbered-BARE).args.first.now ≡ 0
-  passes = sym (first numbered-BARE) ∙ c.if-of_first-ne0.false
+passes : (c : Else-of_first-ne0) → check_refusal c.args.first.now ≡ 0
+passes c =
+    sym (c.number_of-of_first.ensures ∙ (ap number_of c.check_pattern.ensures ∙ checked_number c.args.first.now))
+    ∙ c.if-of_first-ne0.false
 
 pub returns-then-of_second-ne0 : goal.returns-then-of_second-ne0
 returns-then-of_second-ne0 c =
-    second (goal.at.returns-then-of_second-ne0 c).After-number_of-of_second ∙ refused_second _ _ _ (passes (goal.at.returns-then-of_second-ne0 c).Else-of_first-ne0) (λ none. c.if-of_second-ne0.true (second (goal.at.returns-then-of_second-ne0 c).After-number_of-of_second ∙ none))
+    let is = second (goal.at.returns-then-of_second-ne0 c).After-number_of-of_second in
+    is
+    ∙ refused_second _ _ _ (passes (goal.at.returns-then-of_second-ne0 c).Else-of_first-ne0)
+    (λ none. c.if-of_second-ne0.true (is ∙ none))
 
 pub returns : goal.returns
 returns c =
-    c.pair_refusal.ensures ∙ refused_pair _ _ _ (passes (goal.at.returns c).Else-of_first-ne0) (sym (second (goal.at.returns c).After-number_of-of_second) ∙ c.if-of_second-ne0.false)
+    c.pair_refusal.ensures
+    ∙ refused_pair _ _ _ (passes (goal.at.returns c).Else-of_first-ne0)
+    (sym (second (goal.at.returns c).After-number_of-of_second) ∙ c.if-of_second-ne0.false)

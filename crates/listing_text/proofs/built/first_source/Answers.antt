@@ -1,10 +1,6 @@
-use mathlib.Core.Path.{◌≡◌, refl}
-use Prim.Native.Nat.{◌-◌}
+use mathlib.Core.Path.{refl}
 use native.Mathlib.Omega.{arith}
-use borrow.Author.Rules.{rules}
-use Rattle.basics.specs.Least.{least_from}
-use Rattle.tables.specs.Table.{n_of}
-use Rattle.listing_text.specs.Built.{has_chain, first_source}
+use Rattle.listing_text.specs.Built.{first_source}
 use Rattle.listing_text.proofs.Sources.{source_reads, source_found, source_turn, source_end}
 use Rattle.listing_text.proofs.built.first_source.Goals as goal
 

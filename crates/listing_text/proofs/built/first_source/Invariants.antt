@@ -1,12 +1,9 @@
 -- `first_source` passes over the states without a chain. The invariant: what is looked for lies from `state` on. Assumes nothing.
-use mathlib.Core.Path.{◌≡◌, refl}
+use mathlib.Core.Path.{◌≡◌}
 use Prim.Native.Nat.{◌-◌}
-use native.Mathlib.Omega.{arith}
-use borrow.Author.Rules.{rules}
 use Rattle.basics.specs.Least.{least_from}
 use Rattle.tables.specs.Table.{n_of}
 use Rattle.listing_text.specs.Built.{has_chain, first_source}
-use Rattle.listing_text.proofs.Sources.{source_reads, source_found, source_turn, source_end}
 use Rattle.listing_text.proofs.built.first_source.Given as goal
 
 abbrev pub invariant-loop-state : goal.invariant-loop-state

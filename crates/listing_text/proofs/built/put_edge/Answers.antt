@@ -1,5 +1,4 @@
 -- `put_edge` writes an edge's source, letter and target. Assumes nothing.
-use borrow.Author.Rules.{rules}
 use Rattle.listing_text.proofs.Printing.{edge_put}
 use Rattle.listing_text.proofs.built.put_edge.Goals as goal
 

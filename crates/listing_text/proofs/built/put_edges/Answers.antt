@@ -1,7 +1,6 @@
-use Prim.Native.Nat.{◌-◌}
 use native.Mathlib.Omega.{arith}
 use Rattle.decimal.proofs.Placing.{same_length as same-length-of, rowing_room}
-use Rattle.listing_text.proofs.Printing.{Sourcing, sourcing_start, record_asked, sourcing_small, sourcing_turn, sourcing_end}
+use Rattle.listing_text.proofs.Printing.{sourcing_start, record_asked, sourcing_small, sourcing_turn, sourcing_end}
 use Rattle.listing_text.proofs.built.put_edges.Goals as goal
 
 pub first_source-source-requires : goal.first_source-source-requires
@@ -10,7 +9,7 @@ first_source-source-requires c = c.requires.sourced.asks
 pub loop-written-init : goal.loop-written-init
 loop-written-init c =
     let asked = c.requires in
-    let room = asked.1 in sourcing_start (omega arith) c.first_source-source.ensures
+    let room = asked.edges_in_bounds in sourcing_start (omega arith) c.first_source-source.ensures
 
 pub overflow_add-written : goal.overflow_add-written
 overflow_add-written c = record { fits = omega (arith, c.loop-written-test.true) }
@@ -20,7 +19,11 @@ put_edge-place-requires c =
     let asked = c.requires in
     let inside = c.loop-written-test.true in
     let so_far = c.loop-written.invariant in
-    (record_asked asked.0 inside, (sourcing_small so_far asked.0 inside, rowing_room _ so_far.written asked.1 inside))
+    record {
+      record_asks = record_asked asked.sourced inside;
+      source_lt_most_states = sourcing_small so_far asked.sourced inside;
+      edge_bytes_in_bounds = rowing_room _ so_far.written asked.edges_in_bounds inside;
+    }
 
 pub overflow_add-written-in-loop-written : goal.overflow_add-written-in-loop-written
 overflow_add-written-in-loop-written c = record { fits = omega (arith, c.loop-written-test.true) }
@@ -28,7 +31,11 @@ overflow_add-written-in-loop-written c = record { fits = omega (arith, c.loop-wr
 pub source_behind-source-requires : goal.source_behind-source-requires
 source_behind-source-requires c =
     let asked = c.requires in
-    let inside = c.loop-written-test.true in record { record_asks = record_asked asked.0 inside; source_lt_most_states = sourcing_small c.loop-written.invariant asked.0 inside; }
+    let inside = c.loop-written-test.true in
+    record {
+      record_asks = record_asked asked.sourced inside;
+      source_lt_most_states = sourcing_small c.loop-written.invariant asked.sourced inside;
+    }
 
 pub overflow_add-written-in-loop-written-2 : goal.overflow_add-written-in-loop-written-2
 overflow_add-written-in-loop-written-2 c = record { fits = omega (arith, c.loop-written-test.true) }

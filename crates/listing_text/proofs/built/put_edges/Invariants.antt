@@ -1,8 +1,6 @@
 -- `put_edges` writes one record behind the other. The invariant: the records passed are written, and `source` is that of the next. Assumes nothing.
 use Prim.Native.Nat.{◌-◌}
-use native.Mathlib.Omega.{arith}
-use Rattle.decimal.proofs.Placing.{same_length as same-length-of, rowing_room}
-use Rattle.listing_text.proofs.Printing.{Sourcing, sourcing_start, record_asked, sourcing_small, sourcing_turn, sourcing_end}
+use Rattle.listing_text.proofs.Printing.{Sourcing}
 use Rattle.listing_text.proofs.built.put_edges.Given as goal
 
 abbrev pub invariant-loop-written : goal.invariant-loop-written

@@ -1,5 +1,4 @@
 -- `put_state` writes a state's number, sets and flags. Assumes nothing.
-use borrow.Author.Rules.{rules}
 use Rattle.listing_text.proofs.Printing.{state_put}
 use Rattle.listing_text.proofs.built.put_state.Goals as goal
 

@@ -1,7 +1,6 @@
-use Prim.Native.Nat.{◌-◌}
 use native.Mathlib.Omega.{arith}
 use Rattle.decimal.proofs.Placing.{same_length as same-length-of, rowing_start, rowing_room, rowing_turn, rowing_end}
-use Rattle.listing_text.proofs.Printing.{Stating, state_asked}
+use Rattle.listing_text.proofs.Printing.{state_asked}
 use Rattle.listing_text.proofs.built.put_states.Goals as goal
 
 pub loop-state-init : goal.loop-state-init
@@ -9,7 +8,10 @@ loop-state-init c = let room = c.requires.states_in_bounds in rowing_start _ (om
 
 pub put_state-place-requires : goal.put_state-place-requires
 put_state-place-requires c =
-    let asked = c.requires in record { line_asks = state_asked asked.0 c.loop-state-test.true; state_bytes_in_bounds = rowing_room _ c.loop-state.invariant asked.1 c.loop-state-test.true; }
+    record {
+      line_asks = state_asked c.requires.stated c.loop-state-test.true;
+      state_bytes_in_bounds = rowing_room _ c.loop-state.invariant c.requires.states_in_bounds c.loop-state-test.true;
+    }
 
 pub overflow_add-state : goal.overflow_add-state
 overflow_add-state c = record { fits = omega (arith, c.loop-state-test.true) }

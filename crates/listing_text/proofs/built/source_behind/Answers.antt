@@ -1,7 +1,6 @@
 -- `source_behind` goes on to the next state with a chain where a chain ends. Assumes nothing.
 use mathlib.Core.Path.{◌∙◌}
 use Rattle.listing_text.proofs.Sources.{behind_same, behind_next}
-use borrow.Author.Rules.{rules}
 use Rattle.listing_text.proofs.built.source_behind.Goals as goal
 
 pub returns-then-next_of-ne0 : goal.returns-then-next_of-ne0
