@@ -17,7 +17,7 @@ use tables::{WIDE_RECORDS, WIDE_STATES, letters_of, states_of, table_refusal};
 pub const PART_LETTERS: usize = 4096;
 
 // What the decision answers: taken, not taken, or the number of the refusal.
-#[derive(Drop)]
+#[derive(Clone, Copy)]
 pub enum Decision {
     Taken,
     NotTaken,

@@ -1,3 +1,2 @@
 // The starred trial pieces of docs/RULES.md, "Trial pieces".
 #![tactic(auto)]
-

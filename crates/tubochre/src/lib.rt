@@ -18,7 +18,7 @@ use tables::table_words;
 
 // What the check answers in numbers: 0 and no place where the pattern passes, or the refusal's number and its place.
 #[repr(C)]
-#[derive(Drop)]
+#[derive(Clone, Copy)]
 pub struct CheckAnswer {
     pub number: u32,
     pub place: Place,
@@ -26,14 +26,14 @@ pub struct CheckAnswer {
 
 // A lasso decision in numbers: 0 and 1 taken, 0 and 0 not taken, or the refusal's number and 0. Only `number` tells a refusal.
 #[repr(C)]
-#[derive(Drop)]
+#[derive(Clone, Copy)]
 pub struct Answer {
     pub number: u32,
     pub taken: u32,
 }
 
 // What a trial answers: each call's own answer.
-#[derive(Drop)]
+#[derive(Clone, Copy)]
 pub struct Trial {
     pub checked: Checked,
     pub counts: Counts,
