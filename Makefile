@@ -8,9 +8,9 @@ PREFIX = /usr/local
 VERSION = $(shell sed -n 's/^.define TUBOCHRE_VERSION_[A-Z]* //p' include/tubochre.h | paste -sd. -)
 
 # What the proved crates are made into. The archive of the records is installed under a name of the library's own.
-ARCHIVE = target/staticlib/libtubochre.a
-RECORDS = target/staticlib/librecords.a
-LISTING = target/bin/listing
+ARCHIVE = crates/tubochre/out/libtubochre.a
+RECORDS = crates/records/out/librecords.a
+LISTING = crates/listing/out/listing
 
 # Where the C programs go, and how they are compiled.
 OUT = target/host
@@ -30,11 +30,10 @@ TESTS = $(CALLS) $(addprefix $(OUT)/,test_header test_header_cxx test_records te
 
 .PHONY: run test test-c tests lib host bench install clean
 
-# rt keeps what it has proved in target/, so one rule works at a time; rt uses all cores by itself.
+# rt keeps what it has proved in each crate's out/, so one rule works at a time; rt uses all cores by itself.
 .NOTPARALLEL:
 
-run:
-	$(RT) check listing
+run: $(LISTING)
 	$(LISTING) < examples/pattern-a.txt
 
 # The gate: proofs, must-fail edits, programs, and test-c.
@@ -56,14 +55,16 @@ bench: $(OUT)/measure
 	$(OUT)/measure
 	bench/instructions.sh $(OUT)/measure
 
-SOURCES = crates.txt $(shell find crates -name '*.rt' -o -name '*.antt')
+SOURCES = crates.txt $(shell find crates -name out -prune -o -name '*.rt' -print -o -name '*.antt' -print)
 
-target/staticlib/lib%.a: $(SOURCES)
-	$(RT) staticlib $*
+# An archive is its crate's, made once the crate and those below it are proved.
+$(ARCHIVE) $(RECORDS): $(SOURCES)
+	cd $(@D)/.. && $(RT) lib
 	@touch $@
 
-target/bin/listing: $(SOURCES)
-	$(RT) check listing
+# A program is built where it is run; of no input it says that nothing was read.
+$(LISTING): $(SOURCES)
+	cd $(@D)/.. && $(RT) run < /dev/null
 	@touch $@
 
 $(OUT)/tubochre-bench: programs/tubochre_bench.c $(PARTS) $(ARCHIVE)
@@ -97,4 +98,4 @@ install: $(ARCHIVE) $(RECORDS) $(LISTING) $(OUT)/tubochre-bench
 	sed -e 's|@PREFIX@|$(abspath $(PREFIX))|' -e 's|@VERSION@|$(VERSION)|' include/tubochre.pc.in > $(PLACE)/lib/pkgconfig/tubochre.pc
 
 clean:
-	rm -rf target
+	rm -rf target crates/*/out

@@ -3,9 +3,9 @@
 # where any of them fails, and says what it does not run. ARCHIVE, RECORDS and LISTING may name others, to try the tests.
 set -euo pipefail
 cd "$(dirname "$0")/.."
-archive=${ARCHIVE:-target/staticlib/libtubochre.a}
-records=${RECORDS:-target/staticlib/librecords.a}
-listing=${LISTING:-target/bin/listing}
+archive=${ARCHIVE:-crates/tubochre/out/libtubochre.a}
+records=${RECORDS:-crates/records/out/librecords.a}
+listing=${LISTING:-crates/listing/out/listing}
 out=${OUT:-target/host}
 made=(ARCHIVE="$archive" RECORDS="$records" LISTING="$listing")
 
@@ -104,7 +104,7 @@ if [ -z "${ARCHIVE:-}" ]; then
     say 'the archives, from the proved crates'
     make -s lib
 fi
-[ -x "$listing" ] || { say "there is no $listing: rt check listing makes it"; exit 1; }
+[ -x "$listing" ] || { say "there is no $listing: make run makes it"; exit 1; }
 
 say 'citations of the rules'
 tests/test_citations.sh

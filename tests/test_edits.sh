@@ -13,41 +13,39 @@ wrong() {
     failed=1
 }
 
-# judged WANTED PLACE MESSAGE...: whether a log whose first error has these lines shows something
+# judged WANTED TOLD: whether an edit of which rt tells this shows something
 judged() {
-    local wanted=$1 place=$2 log=$home/target/must-fail/one/double_x/.log got=something
-    shift 2
-    mkdir -p "$(dirname "$log")"
+    local got=something
     {
-        echo 'note: nothing was lowered'
-        printf '/repo/target/must-fail/one/double_x/%s: error: %s\n' "$place" "$1"
-        [ $# -lt 2 ] || printf '  %s\n' "${@:2}"
-        echo "/repo/target/must-fail/one/double_x/proofs/Last.antt:9:9: error: \`last\`: expected type \`A\`, but this has type \`B\`"
-    } >"$log"
-    "$home/tools/judge_edits.sh" >/dev/null || got=nothing
-    [ "$got" = "$wanted" ] || wrong "a log shows $got, not $wanted: $*"
+        echo 'rt: one: begins with what a check kept'
+        echo "rt: must-fail one/double_y.edit: refused, as it must be: ./proofs/Last.antt:9:9: error: \`last\`: expected type \`A\`, but this has type \`B\`"
+        echo "rt: must-fail one/double_x.edit: $2"
+    } >"$home/log"
+    "$home/tools/judge_edits.sh" "$home/log" >/dev/null || got=nothing
+    [ "$got" = "$1" ] || wrong "what rt tells shows $got, not $1: $2"
 }
 
 # shellcheck disable=SC2016 # the checker's own backquotes
 try_logs() {
-    judged something proofs/double/Proof.antt:3:5 '`returns`: expected type `a ≡ 1`, but this has type `a ≡ 2`'
-    judged something proofs/double/Proof.antt:3:5 '`returns`: computed as far as they go, the two types differ only where one has `1` (expected) and the other has `2` (found)'
-    judged something proofs/double/Proof.antt:3:5 '`returns`: `a`' '≟ `b`' 'does not hold (this comparison, made at this position, had to wait for a metavariable)'
-    judged something proofs/Laws.antt:3:5 '`law`: `omega`: the goal does not follow from what it read. All of that holds, and the goal fails, at `a` = 1'
-    judged something proofs/Laws.antt:3:5 '`law`: give a proof of that as the last argument' '`rw` has no last argument, so what it leaves must be a path whose two ends are equal, and `Path ℕ 1 2` is none'
-    judged something proofs/Laws.antt:3:5 '`law`: list the missing equation with its arguments, or rewrite by `rw` or `simp`' '`cc`: the equations do not join `a` to `b`'
-    judged nothing specs/Double.antt:3:5 '`double`: `false` is not in scope: add `use mathlib.Core.Bool.{false}`'
-    judged nothing specs/Double.antt:3:5 '`double`: expected type `ℕ`, but this has type `Bool`'
-    judged nothing proofs/Laws.antt:3:5 '`law`: `rw`: no occurrence of the path'"'"'s left endpoint in the goal'
-    judged nothing proofs/Laws.antt:3:5 '`law`: list the missing equation' '`cc` met a bound of its own before the equations had joined `a`'
-    judged nothing proofs/double/Proof.antt:3:5 '`loop-less`: expected type `a < b`, but this has type `c < b`'
-    judged nothing proofs/double/Proof.antt:3:5 '`loop-holds`: as printed, the two types differ' 'expected type `a < 2 ^ 32`' 'but this has type `b < 2 ^ 32`'
-    judged nothing proofs/double/Proof.antt:3:5 'the module has no `Need-returns-2` that can be named from here'
-    judged nothing proofs/double/Proof.antt:3:5 '`returns`: something that no log had before'
-    : >"$home/target/must-fail/one/double_x/.log"
-    if "$home/tools/judge_edits.sh" >/dev/null; then wrong 'an empty log shows something'; fi
-    rm -r "$home/target"
-    if "$home/tools/judge_edits.sh" >/dev/null; then wrong 'an edit that was not tried shows something'; fi
+    local refused='refused, as it must be:'
+    judged something "$refused"' ./proofs/double/Answers.antt:3:5: error: `returns`: expected type `a ≡ 1`, but this has type `a ≡ 2`'
+    judged something "$refused"' ./proofs/double/Answers.antt:3:5: error: `returns`: computed as far as they go, the two types differ only where one has `1` (expected) and the other has `2` (found)'
+    judged something "$refused"' ./proofs/Laws.antt:3:5: error: `law`: `omega`: the goal does not follow from what it read. All of that holds, and the goal fails, at `a` = 1'
+    judged something "$refused"' ./proofs/Laws.antt:3:5: error: `law`: give a proof of that as the last argument, `rw L t` (`rw L ?` shows it as a hole'"'"'s goal)'
+    judged something "$refused"' ./proofs/Laws.antt:3:5: error: `law`: list the missing equation with its arguments, or rewrite by `rw` or `simp`'
+    judged something "$refused"' note: src/lib.rt:3:1: it is not proved that what the function ensures holds when it returns (`returns`)'
+    judged nothing 'NOT REFUSED: the edited crate proves'
+    judged nothing 'BAD EDIT: an '"'"'old:'"'"' text is in src/lib.rt 0 times, and not once'
+    judged nothing 'refused, as it must be (only because a proof file names what the edit took away, so this says little of the contract: change a value and keep the names): ./proofs/double/Answers.antt:3:5: error: `returns-then-x-lt3`: `goal.returns-then-x-lt3`: module `Goals` has no `returns-then-x-lt3`'
+    judged nothing "$refused"' ./specs/Double.antt:3:5: error: `double`: `false` is not in scope'
+    judged nothing "$refused"' ./specs/Double.antt:3:5: error: `double`: expected type `ℕ`, but this has type `Bool`'
+    judged nothing "$refused"' ./proofs/Laws.antt:3:5: error: `law`: `rw`: no occurrence of the path'"'"'s left endpoint in the goal'
+    judged nothing "$refused"' ./proofs/Laws.antt:3:5: error: `law`: list the missing equation; `cc` met a bound of its own before the equations had joined `a`'
+    judged nothing "$refused"' ./proofs/double/Answers.antt:3:5: error: `loop-i-smaller`: expected type `a < b`, but this has type `c < b`'
+    judged nothing "$refused"' ./proofs/double/Answers.antt:3:5: error: `overflow_add-x`: expected type `Fits w32 (a + b)`, but this has type `Fits w32 a`'
+    judged nothing "$refused"' ./proofs/double/Answers.antt:3:5: error: `returns`: something that no log had before'
+    echo 'rt: must-fail one/double_y.edit: refused' >"$home/log"
+    if "$home/tools/judge_edits.sh" "$home/log" >/dev/null; then wrong 'an edit that was not tried shows something'; fi
 }
 
 # fits WANTED NAME LINE...: whether --check is content with an edit of these lines, or what it says of it

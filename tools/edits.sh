@@ -5,7 +5,7 @@
 #     tools/edits.sh --check     says what is wrong with an edit or with docs/REVIEW.md, and fails if anything is
 #
 # An edit's first line is `breaks: SENTENCE`. Its name begins with the name of the function or definition, of that crate's src/ or
-# specs/, which the sentence is about, in snake_case, and goes on with what is wrong. (`paper_N_` begins the name of one that breaks
+# specs/, which the sentence is about, in snake case, and goes on with what is wrong. (`paper_N_` begins the name of one that breaks
 # the paper's line N, and `build_` that of a wrong build as a whole.) Each `old:` text stands exactly once in its file: an edit that
 # has gone stale is found here in a second, and by rt after minutes.
 set -eu
@@ -15,7 +15,7 @@ page=docs/REVIEW.md
 
 # edits MODE: reads every edit. MODE table prints the rows; MODE faults what is wrong with them.
 edits() {
-    sed -n 's/^\([a-z_]*\):.*/\1/p' crates.txt | while read -r crate; do
+    sed -n 's/^\([a-z_]*\)[ a-z]*:.*/\1/p' crates.txt | while read -r crate; do
         for edit in "crates/$crate/must-fail"/*.edit; do
             [ ! -f "$edit" ] || echo "$crate $(basename "$edit" .edit)"
         done
@@ -44,8 +44,10 @@ edits() {
                         for (i = 1; i < n && words[i] ~ /^(pub|unfoldable|abbrev|record|data)$/;) i++
                         line = words[i]
                     }
-                    gsub(/[?]|′/, "", line)
-                    gsub(/[-·]+/, "_", line)
+                    gsub(/[?]|'"'"'/, "", line)
+                    names[crate, tolower(line)] = 1
+                    gsub(/[A-Z]/, "_&", line)
+                    sub(/^_/, "", line)
                     names[crate, tolower(line)] = 1
                 }
                 close(path)
@@ -113,7 +115,7 @@ written() {
 
 # Edits that the page names and that are not there: CRATE/LABEL, with no further part of a path behind it.
 unknown() {
-    sed -n 's/^\([a-z_]*\):.*/\1/p' crates.txt | awk '
+    sed -n 's/^\([a-z_]*\)[ a-z]*:.*/\1/p' crates.txt | awk '
         NR == FNR { crates[$1] = 1; next }
         {
             while (match($0, /[a-z_]+\/[A-Za-z0-9_]+[.\/]?[A-Za-z]?/)) {
