@@ -1,5 +1,4 @@
 -- `link_on` meets its contract. Assumes nothing.
-use borrow.Author.Rules.{rules}
 use Rattle.basics.proofs.Booleans.{eq_eqb, ne_eqb}
 use Rattle.merge.specs.Merged.{link_on}
 use Rattle.merge.proofs.link_on.Goals as goal

@@ -7,7 +7,6 @@ use lib.ListN.{length}
 use Rattle.merge.proofs.Answers.{says_refused, says_merged}
 use Rattle.merge.proofs.Refusals.{mergeable}
 use Rattle.merge.proofs.Words.{merged_length}
-use borrow.Author.Rules.{rules}
 use Rattle.merge.proofs.merge_patterns.Goals as goal
 use Rattle.merge.proofs.merge_patterns.Goals.{After-lay_merged-end}
 
@@ -15,7 +14,6 @@ pub returns-then-refusal-ne0 : goal.returns-then-refusal-ne0
 returns-then-refusal-ne0 c = says_refused _ _ _ c.merge_refusal-refusal.ensures c.if-refusal-ne0.true c.clear16.ensures
 
 -- the merged words end among those that are lent
-
 inside : (c : After-lay_merged-end) → c.lay_merged-end.result ≤ length c.lay_merged-end.new.words
 inside c =
     let room = (mergeable (sym c.merge_refusal-refusal.ensures ∙ c.if-refusal-ne0.false)).room in
