@@ -34,6 +34,7 @@ try_logs() {
     judged something "$refused"' ./proofs/Laws.antt:3:5: error: `law`: give a proof of that as the last argument, `rw L t` (`rw L ?` shows it as a hole'"'"'s goal)'
     judged something "$refused"' ./proofs/Laws.antt:3:5: error: `law`: list the missing equation with its arguments, or rewrite by `rw` or `simp`'
     judged something "$refused"' note: src/lib.rt:3:1: it is not proved that what the function ensures holds when it returns (`returns`)'
+    judged something "$refused"' note: src/lib.rt:3:1: it is not proved that what `half` requires holds at this call (`half-requires`)'
     judged nothing 'NOT REFUSED: the edited crate proves'
     judged nothing 'BAD EDIT: an '"'"'old:'"'"' text is in src/lib.rt 0 times, and not once'
     judged nothing 'refused, as it must be (only because a proof file names what the edit took away, so this says little of the contract: change a value and keep the names): ./proofs/double/Answers.antt:3:5: error: `returns-then-x-lt3`: `goal.returns-then-x-lt3`: module `Goals` has no `returns-then-x-lt3`'

@@ -8,8 +8,8 @@
 # prints behind its name, is judged here, by a list of what IS about a fact; a kind of error that is not on the list is never passed
 # over. An edit is good if its first error
 #
-#   - stands in proofs/, or says of a function that it is not proved to give what it ensures: an error in src/ or specs/ means that the
-#     edited line itself makes no sense;
+#   - stands in proofs/, or says of a function that it is not proved to give what it ensures or what it calls asks: an error in src/ or
+#     specs/ means that the edited line itself makes no sense;
 #   - names a goal of its own, and does not miss one that a proof file has a name for;
 #   - is in no goal of the form LOOP-smaller, which asks that a loop ends;
 #   - does not ask that a number fits its word (Fits), which the edited line mostly keeps, and only the proof no longer fits;
@@ -19,7 +19,7 @@
 #       omega, by itself or for search: the goal fails at numbers that it names;
 #       rw or simp without a last argument: two ends are left, and they differ;
 #       cc: the two sides are not equal by the equations at hand (not: it met a bound of its own before it knew);
-#       no proof is found of what a function ensures when it returns.
+#       no proof is found of what a function ensures when it returns, or of what a call requires.
 #
 # A further kind is added only after reading a log that has it.
 set -eu
@@ -35,6 +35,7 @@ judge() {
             if (told !~ /^refused, as it must be/) return "it is not refused"
             if (told !~ /^refused, as it must be: /) return "a proof file has a name for what the edit took away"
             if (text ~ /^note: src\/[a-z_]+\.rt:[0-9:]+ it is not proved that what the function ensures holds when it returns/) return ""
+            if (text ~ /^note: src\/[a-z_]+\.rt:[0-9:]+ it is not proved that what `[a-z_0-9:]+` requires holds at this call/) return ""
             if (place !~ /^\.\/proofs\//) return "its first error is not in a proof"
             if (name ~ /-smaller(-[0-9]+)?$/) return "its first error is about the end of a loop"
             if (text ~ /expected type `[^`]*Fits /) return "its first error is about the width of a number"

@@ -1,5 +1,5 @@
 -- `list` writes the listing of whatever input was read. Assumes nothing.
-use borrow.Author.Rules.{rules}
+use native.Mathlib.Omega.{arith}
 use Rattle.listing_text.proofs.Whole.{listing_right}
 use Rattle.tables.specs.Table.{pattern_range}
 use Rattle.listing_text.specs.Listing.{listing_bounds}
@@ -7,4 +7,4 @@ use Rattle.listing_text.proofs.list.Goals as goal
 
 pub returns : goal.returns
 unfolding listing_bounds pattern_range
-returns c = record { listed = c.list_read.ensures; of_input = listing_right (search rules) }
+returns c = record { listed = c.list_read.ensures; of_input = listing_right (omega arith) }
