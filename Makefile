@@ -8,8 +8,8 @@ PREFIX = /usr/local
 VERSION = $(shell sed -n 's/^.define TUBOCHRE_VERSION_[A-Z]* //p' include/tubochre.h | paste -sd. -)
 
 # What the proved crates are made into. The archive of the records is installed under a name of the library's own.
-ARCHIVE = crates/tubochre/out/libtubochre.a
-RECORDS = crates/records/out/librecords.a
+ARCHIVE = target/staticlib/libtubochre.a
+RECORDS = target/staticlib/librecords.a
 LISTING = crates/listing/out/listing
 
 # Where the C programs go, and how they are compiled.
@@ -57,10 +57,11 @@ bench: $(OUT)/measure
 
 SOURCES = crates.txt $(shell find crates -name out -prune -o -name '*.rt' -print -o -name '*.antt' -print)
 
-# An archive is its crate's, made once the crate and those below it are proved.
-$(ARCHIVE) $(RECORDS): $(SOURCES)
-	cd $(@D)/.. && $(RT) lib
-	@touch $@
+# An archive is made of the crate that exports a library's calls, once that crate and those below it are proved.
+target/staticlib/lib%.a: $(SOURCES)
+	cd crates/$*_c && $(RT) lib
+	@mkdir -p $(@D)
+	cp crates/$*_c/out/lib$*_c.a $@
 
 # A program is built where it is run; of no input it says that nothing was read.
 $(LISTING): $(SOURCES)

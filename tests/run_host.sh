@@ -3,8 +3,8 @@
 # where any of them fails, and says what it does not run. ARCHIVE, RECORDS and LISTING may name others, to try the tests.
 set -euo pipefail
 cd "$(dirname "$0")/.."
-archive=${ARCHIVE:-crates/tubochre/out/libtubochre.a}
-records=${RECORDS:-crates/records/out/librecords.a}
+archive=${ARCHIVE:-target/staticlib/libtubochre.a}
+records=${RECORDS:-target/staticlib/librecords.a}
 listing=${LISTING:-crates/listing/out/listing}
 out=${OUT:-target/host}
 made=(ARCHIVE="$archive" RECORDS="$records" LISTING="$listing")

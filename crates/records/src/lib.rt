@@ -97,9 +97,8 @@ pub fn find_in_words(sets: &[u32], x: Quadruple) -> usize
     if place < held { place } else { held }
 }
 
-// The C call: fills the lent records from the sets words of a build, and clears the rest.
-#[unsafe(no_mangle)]
-pub extern "C" fn tubochre_records(records: &mut [Quadruple], words: &[u32])
+// The call for C as a function (the crate `records_c` exports it): fills the lent records from the sets words of a build, and clears the rest.
+pub fn tubochre_records(records: &mut [Quadruple], words: &[u32])
     ensures { records.new ≡ fitted (length records.old) (records_in words.now) }
 {
     fill(records, words);

@@ -1,4 +1,4 @@
-// The calls for C, and one call that tries a lasso on a pattern and on its complement.
+// The calls for C as functions (the crate `tubochre_c` exports them), and one call that tries a lasso on a pattern and on its complement.
 #![tactic(auto)]
 
 ghost use Rattle.std.specs.Prelude.{◌≡◌};
@@ -44,8 +44,7 @@ pub struct Trial {
 // THE CALLS FOR C
 
 // The pattern passes, or which of 2 to 10 refuses it, and where it forks.
-#[unsafe(no_mangle)]
-pub extern "C" fn tubochre_check(table: &[u16]) -> CheckAnswer
+pub fn tubochre_check(table: &[u16]) -> CheckAnswer
     ensures { result ≡ as_check_answer (checked table.now) }
 {
     match patterns::check_pattern(table) {
@@ -58,16 +57,14 @@ pub extern "C" fn tubochre_check(table: &[u16]) -> CheckAnswer
 }
 
 // The complement of a pattern, in the lent words and sets.
-#[unsafe(no_mangle)]
-pub extern "C" fn tubochre_build(table: &[u16], words: &mut [u16], sets: &mut [u32]) -> Counts
+pub fn tubochre_build(table: &[u16], words: &mut [u16], sets: &mut [u32]) -> Counts
     ensures { BuildSays wide_range table.now result (lent words.old sets.old) (lent words.new sets.new) }
 {
     complement::build_complement(table, words, sets)
 }
 
 // Whether a table takes the word of a prefix and a loop.
-#[unsafe(no_mangle)]
-pub extern "C" fn tubochre_lasso(
+pub fn tubochre_lasso(
     table: &[u16],
     prefix: &[u8],
     cycle: &[u8],
@@ -79,8 +76,7 @@ pub extern "C" fn tubochre_lasso(
 }
 
 // A byte for each lasso of a list: whether a table takes it.
-#[unsafe(no_mangle)]
-pub extern "C" fn tubochre_tray(
+pub fn tubochre_tray(
     table: &[u16],
     list: &[u16],
     answers: &mut [u8],
@@ -92,8 +88,7 @@ pub extern "C" fn tubochre_tray(
 }
 
 // Two patterns made into one, in the lent words.
-#[unsafe(no_mangle)]
-pub extern "C" fn tubochre_merge(first: &[u16], second: &[u16], words: &mut [u16]) -> Written
+pub fn tubochre_merge(first: &[u16], second: &[u16], words: &mut [u16]) -> Written
     ensures { MergeSays first.now second.now result words.old words.new }
 {
     merge::merge_patterns(first, second, words)
