@@ -1,9 +1,10 @@
 #!/usr/bin/env python3
-"""Prints what each crate costs: lines of code, specification and proof, must-fail edits, and the seconds and memory of its check.
+"""Prints what each crate costs: lines of code, specification and proof, must-fail edits, and the seconds of its verdict.
 
-    tools/proof_cost.py > table
+    tools/proof_cost.py [CRATE..] > table
 
-The checks run from nothing, one after the other, in a copy of the repository as it was last committed.
+A verdict proves a crate from nothing, with those that it rests on. The verdicts run one after the other, in a copy of the repository as
+it was last committed.
 """
 import os
 import re
@@ -28,16 +29,13 @@ def lines(folder, ending):
     return total
 
 
-def check(crate):
-    """Proves a crate over those below it, which are proved already: seconds, and the most memory that a process took."""
+def verdict(crate):
+    """Proves a crate and those below it: seconds."""
     start = time.time()
-    with tempfile.TemporaryFile("w+") as said:
-        child = subprocess.Popen(["rt", "check", crate], stdout=said, stderr=subprocess.STDOUT)
-        _, status, used = os.wait4(child.pid, 0)
-        if status != 0:
-            said.seek(0)
-            sys.exit(said.read() + "\nproof_cost: %s is not proved" % crate)
-    return time.time() - start, used.ru_maxrss / 1e6
+    said = subprocess.run(["rt", "verdict"], cwd="crates/" + crate, stdout=subprocess.PIPE, stderr=subprocess.STDOUT, text=True, check=False)
+    if said.returncode != 0:
+        sys.exit(said.stdout + "\nproof_cost: %s is not proved" % crate)
+    return time.time() - start
 
 
 def main():
@@ -45,13 +43,13 @@ def main():
     with tempfile.TemporaryDirectory() as copy:
         subprocess.run(["git", "clone", "-q", root, copy], check=True)
         os.chdir(copy)
-        print("| crate | code | specs | proofs | must-fail edits | check, s | memory, GB |")
-        print("|---|---|---|---|---|---|---|")
-        for crate in re.findall(r"^([a-z_]+):", open("crates.txt").read(), re.M):
-            seconds, memory = check(crate)
+        print("| crate | code | specs | proofs | must-fail edits | verdict, s |")
+        print("|---|---|---|---|---|---|")
+        for crate in sys.argv[1:] or re.findall(r"^([a-z_]+)[ a-z]*:", open("crates.txt").read(), re.M):
+            seconds = verdict(crate)
             row = [lines("crates/%s/%s" % (crate, part), ending) for part, ending in (("src", ".rt"), ("specs", ".antt"), ("proofs", ".antt"))]
             edits = sum(1 for _ in files("crates/%s/must-fail" % crate, ".edit"))
-            print("| `%s` | %d | %d | %d | %d | %.0f | %.1f |" % (crate, *row, edits, seconds, memory), flush=True)
+            print("| `%s` | %d | %d | %d | %d | %.0f |" % (crate, *row, edits, seconds), flush=True)
 
 
 main()
