@@ -1,7 +1,7 @@
 // A linear congruential generator, by value.
 ghost use Rattle.std.specs.Prelude.{◌≤◌};
 
-#[derive(Drop)]
+#[derive(Clone, Copy)]
 pub(crate) struct Draw {
     pub seed: usize,
 }

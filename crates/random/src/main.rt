@@ -9,6 +9,7 @@ mod tally;
 
 use demand::try_pattern;
 use draw::Draw;
+use std::io;
 use tally::Tally;
 
 fn try_patterns() -> Tally {
@@ -24,6 +25,6 @@ fn try_patterns() -> Tally {
     tally
 }
 
-fn main() {
-    try_patterns().print();
+fn main(rt: HostRuntime) -> io::Result<()> {
+    try_patterns().print(&rt)
 }

@@ -6,7 +6,7 @@ use crate::draw::Draw;
 use tables::table_words;
 
 // What a pattern is drawn by. Only states from `inner` on may accept; their edges stay among them, with one target for each letter.
-#[derive(Drop)]
+#[derive(Clone, Copy)]
 pub(crate) struct Plan {
     pub states: usize,
     pub letters: usize,

@@ -1,4 +1,5 @@
 // What is counted over all patterns and lassos.
+use std::io;
 use std::num::wrapping_add_u64;
 
 #[derive(Drop)]
@@ -12,10 +13,8 @@ pub(crate) struct Tally {
     pub disagreements: u64,
 }
 
-fn print_count(name: &[u8], count: u64) {
-    io::write_all(1, name);
-    io::print_decimal(1, count);
-    io::write_all(1, b"\n");
+fn print_count(rt: &impl Print, name: &str, count: u64) -> io::Result<()> {
+    println!(rt; "{name} {count}")
 }
 
 impl Tally {
@@ -59,13 +58,13 @@ impl Tally {
         self
     }
 
-    pub(crate) fn print(self) {
-        print_count(b"patterns ", self.patterns);
-        print_count(b"states ", self.states);
-        print_count(b"edges ", self.edges);
-        print_count(b"lassos ", self.lassos);
-        print_count(b"taken by the pattern ", self.by_pattern);
-        print_count(b"taken by the complement ", self.by_complement);
-        print_count(b"disagreements ", self.disagreements);
+    pub(crate) fn print(self, rt: &impl Print) -> io::Result<()> {
+        print_count(rt, "patterns", self.patterns)?;
+        print_count(rt, "states", self.states)?;
+        print_count(rt, "edges", self.edges)?;
+        print_count(rt, "lassos", self.lassos)?;
+        print_count(rt, "taken by the pattern", self.by_pattern)?;
+        print_count(rt, "taken by the complement", self.by_complement)?;
+        print_count(rt, "disagreements", self.disagreements)
     }
 }

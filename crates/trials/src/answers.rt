@@ -3,97 +3,81 @@ use basics::Written;
 use complement::Counts;
 use lassos::Decision;
 use patterns::{Checked, Place};
+use std::io;
 
-fn print_number(before: &[u8], number: u32) {
-    io::write_all(1, before);
-    io::print_decimal(1, number as u64);
-}
-
-fn print_refused(number: u32) {
-    print_number(b": refused ", number);
-    io::write_all(1, b"\n");
+fn print_refused(rt: &impl Print, number: u32) -> io::Result<()> {
+    println!(rt; ": refused {number}")
 }
 
 // A refusal of the check or of the build: its number, and its place as a state and a letter.
-fn print_refused_at(number: u32, place: Place) {
-    print_number(b": refused ", number);
-    print_number(b" (", place.state);
-    print_number(b", ", place.letter);
-    io::write_all(1, b")\n");
+fn print_refused_at(rt: &impl Print, number: u32, place: Place) -> io::Result<()> {
+    println!(rt; ": refused {number} ({}, {})", place.state, place.letter)
 }
 
-pub(crate) fn print_checked(answer: Checked) {
+pub(crate) fn print_checked(rt: &impl Print, answer: Checked) -> io::Result<()> {
     match answer {
-        Checked::Passed => {
-            io::write_all(1, b": passed\n");
-        }
-        Checked::Refused(number, place) => print_refused_at(number, place),
+        Checked::Passed => println!(rt; ": passed"),
+        Checked::Refused(number, place) => print_refused_at(rt, number, place),
     }
 }
 
-pub(crate) fn print_decision(answer: Decision) {
+pub(crate) fn print_decision(rt: &impl Print, answer: Decision) -> io::Result<()> {
     match answer {
-        Decision::Taken => {
-            io::write_all(1, b": taken\n");
-        }
-        Decision::NotTaken => {
-            io::write_all(1, b": not taken\n");
-        }
-        Decision::Refused(number) => print_refused(number),
+        Decision::Taken => println!(rt; ": taken"),
+        Decision::NotTaken => println!(rt; ": not taken"),
+        Decision::Refused(number) => print_refused(rt, number),
     }
 }
 
-pub(crate) fn print_counts(counts: Counts) {
+pub(crate) fn print_counts(rt: &impl Print, counts: Counts) -> io::Result<()> {
     if counts.number != 0 {
-        print_refused_at(counts.number, counts.place);
+        print_refused_at(rt, counts.number, counts.place)
     } else {
-        print_number(b": states ", counts.states);
-        print_number(b" edges ", counts.edges);
-        io::write_all(1, b"\n");
+        println!(rt; ": states {} edges {}", counts.states, counts.edges)
     }
 }
 
 // Bytes, each behind a blank.
-fn print_bytes(bytes: &[u8]) {
+fn print_bytes(rt: &impl Print, bytes: &[u8]) -> io::Result<()> {
     let mut i = 0;
     while i < bytes.len() {
-        print_number(b" ", bytes[i] as u32);
+        print!(rt; " {}", bytes[i])?;
         i += 1;
     }
+    Ok(())
 }
 
 // Words, each behind a blank.
-fn print_words(words: &[u16]) {
+fn print_words(rt: &impl Print, words: &[u16]) -> io::Result<()> {
     let mut i = 0;
     while i < words.len() {
-        print_number(b" ", words[i] as u32);
+        print!(rt; " {}", words[i])?;
         i += 1;
     }
+    Ok(())
 }
 
 // How many of these a call wrote, or the refusal's number.
-fn print_written(answer: Written, these: &[u8]) {
+fn print_written(rt: &impl Print, answer: Written, these: &str) -> io::Result<()> {
     if answer.number != 0 {
-        print_number(b": refused ", answer.number);
+        print!(rt; ": refused {}", answer.number)
     } else {
-        io::write_all(1, b": ");
-        io::print_decimal(1, answer.count as u64);
-        io::write_all(1, these);
+        print!(rt; ": {} {these}", answer.count)
     }
 }
 
 // What a tray's call answers, and what the answer bytes hold after it.
-pub(crate) fn print_tray(answer: Written, bytes: &[u8]) {
-    print_written(answer, b" lassos");
-    io::write_all(1, b", bytes");
-    print_bytes(bytes);
-    io::write_all(1, b"\n");
+pub(crate) fn print_tray(rt: &impl Print, answer: Written, bytes: &[u8]) -> io::Result<()> {
+    print_written(rt, answer, "lassos")?;
+    print!(rt; ", bytes")?;
+    print_bytes(rt, bytes)?;
+    println!(rt;)
 }
 
 // What a merge answers, and what lent words hold after it.
-pub(crate) fn print_merged(answer: Written, lent: &[u16]) {
-    print_written(answer, b" words");
-    io::write_all(1, b", lent");
-    print_words(lent);
-    io::write_all(1, b"\n");
+pub(crate) fn print_merged(rt: &impl Print, answer: Written, lent: &[u16]) -> io::Result<()> {
+    print_written(rt, answer, "words")?;
+    print!(rt; ", lent")?;
+    print_words(rt, lent)?;
+    println!(rt;)
 }

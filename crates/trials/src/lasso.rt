@@ -3,6 +3,7 @@
 use crate::answers::print_decision;
 use crate::scan::{behind, decimal};
 use lassos::decide_lasso;
+use std::io;
 
 // Writes a letter so many times from a place on, as far as there is room, and answers the place behind.
 fn put_letters(letters: &mut [u8], from: usize, letter: u8, times: usize) -> usize {
@@ -43,30 +44,59 @@ fn letters_of(text: &[u8], from: usize, letters: &mut [u8]) -> usize {
 }
 
 // Each of these finds one more part of what the library's call is given: the work words, the loop, the prefix.
-fn decide_in(count: usize, table: &[u16], prefix: &[u8], cycle: &[u8]) {
+fn decide_in(
+    rt: &impl Print,
+    count: usize,
+    table: &[u16],
+    prefix: &[u8],
+    cycle: &[u8],
+) -> io::Result<()> {
     let mut work = [7u32; 524280];
     if count <= 524280 {
-        print_decision(decide_lasso(table, prefix, cycle, &mut work[0..count]));
+        return print_decision(rt, decide_lasso(table, prefix, cycle, &mut work[0..count]));
     }
+    Ok(())
 }
 
-fn decide_loop(count: usize, table: &[u16], prefix: &[u8], text: &[u8], at: usize) {
+fn decide_loop(
+    rt: &impl Print,
+    count: usize,
+    table: &[u16],
+    prefix: &[u8],
+    text: &[u8],
+    at: usize,
+) -> io::Result<()> {
     let mut cycle = [0u8; 4100];
     let size = letters_of(text, at, &mut cycle);
     if size <= 4100 {
-        decide_in(count, table, prefix, &cycle[0..size]);
+        return decide_in(rt, count, table, prefix, &cycle[0..size]);
     }
+    Ok(())
 }
 
-fn decide_at(count: usize, table: &[u16], text: &[u8], at: usize) {
+fn decide_at(
+    rt: &impl Print,
+    count: usize,
+    table: &[u16],
+    text: &[u8],
+    at: usize,
+) -> io::Result<()> {
     let mut prefix = [0u8; 4100];
     let size = letters_of(text, at, &mut prefix);
     if size <= 4100 {
-        decide_loop(count, table, &prefix[0..size], text, behind(text, at, b'('));
+        return decide_loop(
+            rt,
+            count,
+            table,
+            &prefix[0..size],
+            text,
+            behind(text, at, b'('),
+        );
     }
+    Ok(())
 }
 
 // A number of work words, then a lasso.
-pub(crate) fn decide(table: &[u16], text: &[u8], at: usize) {
-    decide_at(decimal(text, at), table, text, behind(text, at, b' '));
+pub(crate) fn decide(rt: &impl Print, table: &[u16], text: &[u8], at: usize) -> io::Result<()> {
+    decide_at(rt, decimal(text, at), table, text, behind(text, at, b' '))
 }

@@ -2,6 +2,8 @@
 // output that was worked out apart (docs/TRIALS.md).
 #![tactic(auto)]
 
+ghost use Rattle.std.specs.Io.{ReadsAtMost};
+
 mod answers;
 mod filling;
 mod lasso;
@@ -10,9 +12,27 @@ mod scan;
 mod script;
 mod tray;
 
-fn main() {
-    let mut text = io::large_buffer();
-    let length = io::read_full(0, &mut text);
+use std::io;
+use std::io::Read;
+
+// Reads until there is no more room or the input ends, and answers how many bytes it put at the start.
+fn read_full<R: Read>(input: &mut R, text: &mut [u8]) -> io::Result<usize>
+    ensures { ReadsAtMost result text.new }
+{
+    let mut done = 0;
+    while done < text.len() {
+        let count = input.read(&mut text[done..])?;
+        if count == 0 {
+            break;
+        }
+        done += count;
+    }
+    Ok(done)
+}
+
+fn main(rt: HostRuntime) -> io::Result<()> {
+    let mut text = [0; 65536];
+    let length = read_full(&mut rt.stdin(), &mut text)?;
     let mut table = [0u16; 327680];
-    script::run(&text[..length], &mut table);
+    script::run(&rt, &text[..length], &mut table)
 }

@@ -21,37 +21,49 @@ use crate::scan::{behind, decimal};
 use crate::tray::decide_many;
 use complement::build_complement;
 use patterns::check_pattern;
+use std::io;
 use tables::table_words;
 
 // WHAT IS ASKED OF A TABLE
 
 // Builds in so many table words and so many words of records, at most 64 of each.
-fn build_in(table: &[u16], length: usize, room: usize) {
+fn build_in(rt: &impl Print, table: &[u16], length: usize, room: usize) -> io::Result<()> {
     let mut words = [7u16; 64];
     let mut sets = [7u32; 64];
     if length <= 64 {
         if room <= 64 {
-            print_counts(build_complement(table, &mut words[0..length], &mut sets[0..room]));
+            return print_counts(
+                rt,
+                build_complement(table, &mut words[0..length], &mut sets[0..room]),
+            );
         }
     }
+    Ok(())
 }
 
-fn build(table: &[u16], text: &[u8], at: usize) {
+fn build(rt: &impl Print, table: &[u16], text: &[u8], at: usize) -> io::Result<()> {
     build_in(
+        rt,
         table,
         decimal(text, at),
         decimal(text, behind(text, at, b' ')),
-    );
+    )
 }
 
-fn decide_over_complement(table: &[u16], text: &[u8], at: usize) {
+fn decide_over_complement(
+    rt: &impl Print,
+    table: &[u16],
+    text: &[u8],
+    at: usize,
+) -> io::Result<()> {
     let mut words = [7u16; 64];
     let mut sets = [7u32; 64];
     let counts = build_complement(table, &mut words, &mut sets);
     let used = table_words(counts.states as usize, counts.edges as usize);
     if used <= 64 {
-        decide(&words[0..used], text, at);
+        return decide(rt, &words[0..used], text, at);
     }
+    Ok(())
 }
 
 fn is_command(letter: u8) -> bool {
@@ -61,60 +73,75 @@ fn is_command(letter: u8) -> bool {
     }
 }
 
-fn answer(command: u8, table: &[u16], text: &[u8], at: usize) {
+fn answer(rt: &impl Print, command: u8, table: &[u16], text: &[u8], at: usize) -> io::Result<()> {
     match command {
-        b'p' => print_checked(check_pattern(table)),
-        b'b' => build(table, text, at),
-        b'l' => decide(table, text, at),
-        b'm' => decide_many(table, text, at),
-        _ => decide_over_complement(table, text, at),
+        b'p' => print_checked(rt, check_pattern(table)),
+        b'b' => build(rt, table, text, at),
+        b'l' => decide(rt, table, text, at),
+        b'm' => decide_many(rt, table, text, at),
+        _ => decide_over_complement(rt, table, text, at),
     }
 }
 
 // LINES
 
 // Prints a name and not the colon behind it.
-fn print_name(text: &[u8], from: usize, to: usize) {
+fn print_name(rt: &impl Print, text: &[u8], from: usize, to: usize) -> io::Result<()> {
     if to <= text.len() {
         if from < to {
-            io::write_all(1, &text[from..to - 1]);
+            return rt.write_all(&text[from..to - 1]);
         }
     }
+    Ok(())
 }
 
 // Does what a line asks of a table's words in use, and answers how many these then are: only a join changes them.
-fn answer_over(command: u8, table: &mut [u16], used: usize, text: &[u8], at: usize) -> usize {
+fn answer_over(
+    rt: &impl Print,
+    command: u8,
+    table: &mut [u16],
+    used: usize,
+    text: &[u8],
+    at: usize,
+) -> io::Result<usize> {
     if command == b'j' {
-        return join(table, used, text, at);
+        return join(rt, table, used, text, at);
     }
     if used <= table.len() {
-        answer(command, &table[0..used], text, at);
+        answer(rt, command, &table[0..used], text, at)?;
     }
-    used
+    Ok(used)
 }
 
 // Does what a line asks of a table: a name, and behind a colon what is given. Answers how many words the table then has.
-fn ask(text: &[u8], from: usize, table: &mut [u16], used: usize) -> usize {
+fn ask(
+    rt: &impl Print,
+    text: &[u8],
+    from: usize,
+    table: &mut [u16],
+    used: usize,
+) -> io::Result<usize> {
     if from >= text.len() {
-        return used;
+        return Ok(used);
     }
     let command = text[from];
     if !is_command(command) {
-        return used;
+        return Ok(used);
     }
     let name = behind(text, from, b' ');
     let colon = behind(text, name, b':');
-    print_name(text, name, colon);
-    answer_over(command, table, used, text, behind(text, colon, b' '))
+    print_name(rt, text, name, colon)?;
+    answer_over(rt, command, table, used, text, behind(text, colon, b' '))
 }
 
-pub(crate) fn run(text: &[u8], table: &mut [u16]) {
+pub(crate) fn run(rt: &impl Print, text: &[u8], table: &mut [u16]) -> io::Result<()> {
     let mut used = 0;
     let mut at = 0;
     while at < text.len() {
         let end = behind(text, at, b'\n');
         used = filled(text, at, end, table, used);
-        used = ask(text, at, table, used);
+        used = ask(rt, text, at, table, used)?;
         at = end;
     }
+    Ok(())
 }
