@@ -1,29 +1,33 @@
 // Lists the complement of a pattern: reads the pattern's words as decimal numbers from standard input, and writes the listing of what
-// it read. What is written is proved in `listing_text`. The language gives a program no exit status: a refusal is told on standard
-// output, as docs/RULES.md has it, and a read or write that failed on standard error.
+// it read. What is written is proved in `listing_text`. The exit status tells nothing: a refusal is told on standard output, as
+// docs/RULES.md has it, and a read or write that failed on standard error.
 #![tactic(auto)]
 
 ghost use Rattle.decimal.specs.Reading.{Ready};
 
 use decimal::Reading;
-use libc::{STDERR_FILENO, STDIN_FILENO, STDOUT_FILENO};
 use listing_text::{OUTPUT_BYTES, PATTERN_WORDS, list};
+use std::io;
+use std::io::{ErrorKind, Read};
 
-// What has been read, and what the last call of `read` answered: zero at the end of the input, and less where it failed.
+// What has been read, and what the last call of `read` answered: zero at the end of the input, and an error where it failed.
 #[derive(Drop)]
 struct Input {
     reading: Reading,
-    got: isize,
+    got: io::Result<usize>,
 }
 
 // Reads once, and feeds what came.
-fn read_some(reading: Reading, table: &mut [u16]) -> Input
+fn read_some<R: Read>(from: &mut R, reading: Reading, table: &mut [u16]) -> Input
     requires { Ready reading table.old }
     ensures { Ready result.reading table.new }
 {
-    let mut chunk = io::large_buffer();
-    let got = libc::read(STDIN_FILENO, &mut chunk);
-    let count = io::count(got, &chunk);
+    let mut chunk = [0; 65536];
+    let got = from.read(&mut chunk);
+    let count = match got {
+        Ok(count) => count,
+        Err(_) => 0,
+    };
     Input {
         reading: reading.fed(&chunk[..count], table),
         got,
@@ -32,35 +36,33 @@ fn read_some(reading: Reading, table: &mut [u16]) -> Input
 
 // Reads to the end of the input, or to a failure. A proved loop has to end, and nothing says that the input does: so its turns
 // are counted, and if they ever ran out that would be a failure and not the input's end.
-fn read_all(table: &mut [u16]) -> Input
+fn read_all<R: Read>(from: &mut R, table: &mut [u16]) -> Input
     ensures { Ready result.reading table.new }
 {
     let mut so_far = Reading::start();
-    let mut turns = u64::MAX;
-    while turns > 0 {
-        let input = read_some(so_far, table);
-        if input.got <= 0 {
-            return input;
+    for _ in 0..u64::MAX {
+        let input = read_some(from, so_far, table);
+        match input.got {
+            Ok(count) if count > 0 => so_far = input.reading,
+            _ => return input,
         }
-        so_far = input.reading;
-        turns -= 1;
     }
     Input {
         reading: so_far,
-        got: -1,
+        got: Err(ErrorKind::Other.into()),
     }
 }
 
-fn main() {
+fn main(rt: HostRuntime) -> io::Result<()> {
     let mut table = [0u16; PATTERN_WORDS];
-    let input = read_all(&mut table);
-    if input.got < 0 {
-        io::write_all(STDERR_FILENO, b"listing: reading standard input failed\n");
-        return;
+    let input = read_all(&mut rt.stdin(), &mut table);
+    if input.got.is_err() {
+        return eprintln!(rt; "listing: reading standard input failed");
     }
     let mut output = [0u8; OUTPUT_BYTES];
     let end = list(input.reading, &mut table, &mut output);
-    if !io::write_all(STDOUT_FILENO, &output[..end]) {
-        io::write_all(STDERR_FILENO, b"listing: writing standard output failed\n");
+    if rt.write_all(&output[..end]).is_err() {
+        return eprintln!(rt; "listing: writing standard output failed");
     }
+    Ok(())
 }
