@@ -17,7 +17,7 @@ some() {
 
 # Sections, cited by their titles: the page, a comma, then one quoted title or several. A citation may go on in the next line of a
 # comment, so lines are joined first.
-titles=$(find "${places[@]}" -type f ! -name test_citations.sh -print0 | xargs -0 cat | sed 's,^ *\(--\|//\|[*]\|#\) ,,' | tr '\n' ' ' |
+titles=$(find "${places[@]}" -type d -name out -prune -o -type f ! -name test_citations.sh -print0 | xargs -0 cat | sed 's,^ *\(--\|//\|[*]\|#\) ,,' | tr '\n' ' ' |
     grep -oE 'docs/RULES\.md,? *"[^"]+"( and "[^"]+")*' | grep -oE '"[^"]+"' | tr -d '"' | sort -u)
 some "$titles" 'titles of sections'
 while IFS= read -r title; do
@@ -32,7 +32,7 @@ while IFS= read -r sentence; do
 done <<<"$sentences"
 
 # Papers and pages that are not here.
-if grep -rnE '[Dd]ocument 0[0-9]+' "${places[@]}" --exclude=test_citations.sh; then
+if grep -rnE '[Dd]ocument 0[0-9]+' "${places[@]}" --exclude=test_citations.sh --exclude-dir=out; then
     wrong 'a document is cited that is not in the repository'
 fi
 [ "$failed" -eq 0 ] && echo 'ok: every citation of the rules leads to its place'

@@ -64,24 +64,14 @@ pub fn tubochre_build(table: &[u16], words: &mut [u16], sets: &mut [u32]) -> Cou
 }
 
 // Whether a table takes the word of a prefix and a loop.
-pub fn tubochre_lasso(
-    table: &[u16],
-    prefix: &[u8],
-    cycle: &[u8],
-    work: &mut [u32],
-) -> Answer
+pub fn tubochre_lasso(table: &[u16], prefix: &[u8], cycle: &[u8], work: &mut [u32]) -> Answer
     ensures { LassoAnswers wide_range table.now prefix.now cycle.now result work.old work.new }
 {
     in_numbers(lassos::decide_lasso(table, prefix, cycle, work))
 }
 
 // A byte for each lasso of a list: whether a table takes it.
-pub fn tubochre_tray(
-    table: &[u16],
-    list: &[u16],
-    answers: &mut [u8],
-    work: &mut [u32],
-) -> Written
+pub fn tubochre_tray(table: &[u16], list: &[u16], answers: &mut [u8], work: &mut [u32]) -> Written
     ensures { TraySays wide_range table.now list.now result answers.old answers.new work.old work.new }
 {
     trays::decide_tray(table, list, answers, work)
