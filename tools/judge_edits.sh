@@ -14,8 +14,8 @@
 #   - is in no goal of the form LOOP-smaller, which asks that a loop ends;
 #   - does not ask that a number fits its word (Fits), which the edited line mostly keeps, and only the proof no longer fits;
 #   - is of one of these kinds:
-#       two types differ (what is to be proved, and what the proof proves);
-#       an equation that had to wait for an argument does not hold;
+#       two types, or the two sides of an equation, differ (what is to be proved, and what the proof proves);
+#       an equation that had to wait for an argument does not hold (rt prints a long error's beginning: of such a one its first term);
 #       omega, by itself or for search: the goal fails at numbers that it names;
 #       rw or simp without a last argument: two ends are left, and they differ;
 #       cc: the two sides are not equal by the equations at hand (not: it met a bound of its own before it knew);
@@ -39,9 +39,10 @@ judge() {
             if (place !~ /^\.\/proofs\//) return "its first error is not in a proof"
             if (name ~ /-smaller(-[0-9]+)?$/) return "its first error is about the end of a loop"
             if (text ~ /expected type `[^`]*Fits /) return "its first error is about the width of a number"
-            if (text ~ /^(as printed|computed as far as they go), the two types /) return ""
+            if (text ~ /^(as printed|computed as far as they go), the two (types|sides) /) return ""
+            if (text ~ /^computed as a goal is, one side reads /) return ""
             if (text ~ /^expected type `/) return ""
-            if (text ~ /^`[^`]*` .*does not hold \(this comparison/) return ""
+            if (text ~ /^`[^`]*` .*does not hold \(this comparison/ || text ~ /^`[^`]*$/) return ""
             if (text ~ /^(`search`: no proof of `.* )?`omega`: the goal does not follow from what it read/) return ""
             if (text ~ /^give a proof of that as the last argument/) return ""
             if (text ~ /^list the missing equation/ && text !~ /bound of its own/) return ""
