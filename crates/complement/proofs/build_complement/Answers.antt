@@ -20,14 +20,14 @@ module _ (c : In-Pattern) where
         shaped = reading_shape _ _ told;
       }
 
--- THE NEEDS
 pub build_pattern-requires : goal.build_pattern-requires
 build_pattern-requires c = record { table = c.args.table.now; read_off = read_off (goal.at.build_pattern-requires c).In-Pattern }
 
 pub returns-in-Refused : goal.returns-in-Refused
 returns-in-Refused c =
     let told = c.in-Refused.ensures.told in
-    refused_check wide_range c.args.table.now (lent c.args.words.now c.args.sets.now) (reading_refused _ _ _ told) (reading_met _ _ _ told)
+    refused_check wide_range c.args.table.now (lent c.args.words.now c.args.sets.now) (reading_refused _ _ _ told)
+    (reading_met _ _ _ told)
     (reading_place _ _ _ told) c.refuse.ensures
 
 pub returns-in-Pattern : goal.returns-in-Pattern

@@ -1,5 +1,5 @@
--- `build_pattern` answers and leaves what is said of whatever pattern masks and shape are read off: 11 where exploring found more states than
--- fit, 12 where the table is too long, or the complement's table and sets. Assumes nothing.
+-- `build_pattern` answers and leaves what is said of whatever pattern masks and shape are read off: 11 where exploring found more
+-- states than fit, 12 where the table is too long, or the complement's table and sets. Assumes nothing.
 use mathlib.Core.Path.{◌∙◌}
 use Prim.Native.Nat.{◌≤◌}
 use native.Mathlib.Omega.{arith}
@@ -32,8 +32,6 @@ module _ (c : Else-too_long) where
       built_counts of.read_off (ends_within c.if-found.false (c.explore-found.ensures.ends of.table of.read_off)) c.too_long.ensures
       c.if-too_long.false
 
--- THE NEEDS
-
 pub explore-found-requires : goal.explore-found-requires
 explore-found-requires c =
     record {
@@ -46,7 +44,8 @@ pub returns-then-found : goal.returns-then-found
 returns-then-found c =
     record {
       says = λ t read.
-          refused_states wide_range t (lent c.args.words.now c.args.sets.now) read.passed (sizes (goal.at.returns-then-found c).After-explore-found) (c.explore-found.ensures.ends t read) c.if-found.true
+          refused_states wide_range t (lent c.args.words.now c.args.sets.now) read.passed
+          (sizes (goal.at.returns-then-found c).After-explore-found) (c.explore-found.ensures.ends t read) c.if-found.true
           c.refuse.ensures;
     }
 
@@ -57,7 +56,8 @@ pub returns-then-too_long : goal.returns-then-too_long
 returns-then-too_long c =
     record {
       says = λ t read.
-          refused_edges wide_range t (lent c.args.words.now c.args.sets.now) read.passed (sizes (goal.at.returns-then-too_long c).After-explore-found)
+          refused_edges wide_range t (lent c.args.words.now c.args.sets.now) read.passed
+          (sizes (goal.at.returns-then-too_long c).After-explore-found)
           (c.explore-found.ensures.ends t read) c.if-found.false c.too_long.ensures c.if-too_long.true
           c.refuse-then-too_long.ensures;
     }
@@ -65,12 +65,14 @@ returns-then-too_long c =
 pub lay_out-requires : goal.lay_out-requires
 lay_out-requires c =
     let of = c.requires in
-    built_asks of.read_off (ends_within c.if-found.false (c.explore-found.ensures.ends of.table of.read_off)) c.too_long.ensures c.if-too_long.false wide_fits
+    built_asks of.read_off (ends_within c.if-found.false (c.explore-found.ensures.ends of.table of.read_off)) c.too_long.ensures
+    c.if-too_long.false wide_fits
 
 pub set_flags-requires : goal.set_flags-requires
 set_flags-requires c =
     let of = c.requires in
-    built_flags of.read_off (ends_within c.if-found.false (c.explore-found.ensures.ends of.table of.read_off)) c.too_long.ensures c.if-too_long.false
+    built_flags of.read_off (ends_within c.if-found.false (c.explore-found.ensures.ends of.table of.read_off)) c.too_long.ensures
+    c.if-too_long.false
     c.lay_out.ensures c.lay_out.auto.words
 
 pub overflow_cast-result : goal.overflow_cast-result
@@ -91,6 +93,8 @@ pub returns : goal.returns
 returns c =
     record {
       says = λ t read.
-          built_says read (ends_within c.if-found.false (c.explore-found.ensures.ends t read)) c.too_long.ensures c.if-too_long.false c.lay_out.ensures
-          c.lay_out.auto.words (lent c.args.words.now c.args.sets.now) (sizes (goal.at.returns c).After-explore-found) c.initial_count.ensures c.set_flags.ensures;
+          built_says read (ends_within c.if-found.false (c.explore-found.ensures.ends t read)) c.too_long.ensures
+          c.if-too_long.false c.lay_out.ensures
+          c.lay_out.auto.words (lent c.args.words.now c.args.sets.now) (sizes (goal.at.returns c).After-explore-found)
+          c.initial_count.ensures c.set_flags.ensures;
     }

@@ -9,7 +9,6 @@ use Rattle.lassos.proofs.decide_checked.Goals as goal
 use Rattle.lassos.proofs.decide_checked.Goals.{After-parts_refusal-refusal}
 
 -- the number of the lasso's refusal is that of the whole decision, since the table has passed
-
 module _ (c : After-parts_refusal-refusal) where
   refusal :
       c.parts_refusal-refusal.result
@@ -28,8 +27,10 @@ takes-requires c =
 
 pub returns-then-takes : goal.returns-then-takes
 returns-then-takes c =
-    decided_taken wide_range _ _ _ _ (refusal (goal.at.returns-then-takes c).After-parts_refusal-refusal) c.if-refusal-ne0.false c.takes.ensures c.if-takes.true
+    decided_taken wide_range _ _ _ _ (refusal (goal.at.returns-then-takes c).After-parts_refusal-refusal) c.if-refusal-ne0.false
+    c.takes.ensures c.if-takes.true
 
 pub returns : goal.returns
 returns c =
-    decided_not_taken wide_range _ _ _ _ (refusal (goal.at.returns c).After-parts_refusal-refusal) c.if-refusal-ne0.false c.takes.ensures c.if-takes.false
+    decided_not_taken wide_range _ _ _ _ (refusal (goal.at.returns c).After-parts_refusal-refusal) c.if-refusal-ne0.false
+    c.takes.ensures c.if-takes.false

@@ -1,5 +1,5 @@
--- `lassos::decide_lasso` meets its contract: the table's refusals, then the decision on a table that passed; and all work words are cleared.
--- Assumes nothing.
+-- `lassos::decide_lasso` meets its contract: the table's refusals, then the decision on a table that passed; and all work words
+-- are cleared. Assumes nothing.
 use mathlib.Core.Path.{sym, ◌∙◌}
 use Rattle.basics.proofs.Clears.{zeros_same}
 use Rattle.tables.specs.Table.{wide_range}

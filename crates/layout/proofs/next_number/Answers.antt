@@ -1,4 +1,5 @@
--- `layout::next_number` meets its contract: the last edge has no next, and any other has one if the edge behind it has its source (Linking). Assumes nothing.
+-- `layout::next_number` meets its contract: the last edge has no next, and any other has one if the edge behind it has its source
+-- (Linking). Assumes nothing.
 use Rattle.layout.proofs.Linking.{behind_same, behind_differs, behind_last}
 use Rattle.layout.proofs.next_number.Goals as goal
 

@@ -9,11 +9,11 @@ use Rattle.listing_text.proofs.Whole.{room_for, printable, answer_put}
 use Rattle.listing_text.proofs.list_table.Goals as goal
 
 -- the room that the build is lent
-
 lent_room : room_of (lent (replicate most_words 0) (replicate (record_words * most_states) 0)) ≡ listing_room
 lent_room =
     let sets_words = record_words * most_states in
-    room_for (replicate most_words 0) (replicate sets_words 0) (length-replicate {A = ℕ} most_words 0) (length-replicate {A = ℕ} sets_words 0)
+    room_for (replicate most_words 0) (replicate sets_words 0) (length-replicate {A = ℕ} most_words 0)
+    (length-replicate {A = ℕ} sets_words 0)
 
 pub put_answer-requires : goal.put_answer-requires
 unfolding record_words

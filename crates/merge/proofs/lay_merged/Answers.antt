@@ -1,5 +1,5 @@
--- `lay_merged` meets its contract: the counts, then the states and the records of both tables, each part behind the one before (Laid). Assumes
--- nothing.
+-- `lay_merged` meets its contract: the counts, then the states and the records of both tables, each part behind the one before
+-- (Laid). Assumes nothing.
 use mathlib.Core.Path.{◌≡◌, ◌∙◌}
 use native.Mathlib.Omega.{arith}
 use lib.ListN.{length}
@@ -10,8 +10,8 @@ use Rattle.merge.proofs.lay_merged.Goals.{After-records_of, After-write_counts, 
 
 -- the counts of both tables have been read
 module _ (c : After-records_of) where
-  nothing-refused : Mergeable c.args.first.now c.args.second.now (length c.args.words.now)
-  nothing-refused = mergeable c.requires
+  nothing_refused : Mergeable c.args.first.now c.args.second.now (length c.args.words.now)
+  nothing_refused = mergeable c.requires
 
   counted :
       Counted c.args.first.now c.args.second.now c.states_of-states.result c.states_of.result c.records_of-records.result
@@ -25,51 +25,52 @@ module _ (c : After-records_of) where
       }
 
 -- the words keep their length through each part
-first-states-kept : (c : After-lay_states) → length c.lay_states.new.words ≡ length c.args.words.now
-first-states-kept c = c.lay_states.auto.words ∙ c.write_counts.auto.words
+first_states_kept : (c : After-lay_states) → length c.lay_states.new.words ≡ length c.args.words.now
+first_states_kept c = c.lay_states.auto.words ∙ c.write_counts.auto.words
 
-second-states-kept : (c : After-lay_states-2) → length c.lay_states-2.new.words ≡ length c.args.words.now
-second-states-kept c = c.lay_states-2.auto.words ∙ (c.lay_states.auto.words ∙ c.write_counts.auto.words)
+second_states_kept : (c : After-lay_states-2) → length c.lay_states-2.new.words ≡ length c.args.words.now
+second_states_kept c = c.lay_states-2.auto.words ∙ (c.lay_states.auto.words ∙ c.write_counts.auto.words)
 
-first-records-kept : (c : After-lay_records) → length c.lay_records.new.words ≡ length c.args.words.now
-first-records-kept c =
+first_records_kept : (c : After-lay_records) → length c.lay_records.new.words ≡ length c.args.words.now
+first_records_kept c =
     c.lay_records.auto.words ∙ (c.lay_states-2.auto.words ∙ (c.lay_states.auto.words ∙ c.write_counts.auto.words))
 
 pub write_counts-requires : goal.write_counts-requires
 write_counts-requires c =
     let read = (goal.at.write_counts-requires c).After-records_of in
-    counts_asked pattern_words _ (nothing-refused read) (counted read) c.letters_of.ensures.is
+    counts_asked pattern_words _ (nothing_refused read) (counted read) c.letters_of.ensures.is
 
 pub lay_states-requires : goal.lay_states-requires
 lay_states-requires c =
     let read = (goal.at.lay_states-requires c).After-records_of in
-    first_states_asked pattern_words c.args.words.now (nothing-refused read) (counted read) c.write_counts.auto.words c.table_words.ensures
+    first_states_asked pattern_words c.args.words.now (nothing_refused read) (counted read) c.write_counts.auto.words
+    c.table_words.ensures
 
 pub lay_states-requires-2 : goal.lay_states-requires-2
 lay_states-requires-2 c =
     let at = goal.at.lay_states-requires-2 c in
     let read = at.After-records_of in
-    second_states_asked pattern_words c.args.words.now (nothing-refused read) (counted read) (first-states-kept at.After-lay_states)
+    second_states_asked pattern_words c.args.words.now (nothing_refused read) (counted read) (first_states_kept at.After-lay_states)
     c.table_words-2.ensures
 
 pub lay_records-requires : goal.lay_records-requires
 lay_records-requires c =
     let at = goal.at.lay_records-requires c in
     let read = at.After-records_of in
-    first_records_asked pattern_words c.args.words.now (nothing-refused read) (counted read) (second-states-kept at.After-lay_states-2)
+    first_records_asked pattern_words c.args.words.now (nothing_refused read) (counted read) (second_states_kept at.After-lay_states-2)
     c.table_words-3.ensures
 
 pub lay_records-requires-2 : goal.lay_records-requires-2
 lay_records-requires-2 c =
     let at = goal.at.lay_records-requires-2 c in
     let read = at.After-records_of in
-    second_records_asked pattern_words c.args.words.now (nothing-refused read) (counted read) (first-records-kept at.After-lay_records)
+    second_records_asked pattern_words c.args.words.now (nothing_refused read) (counted read) (first_records_kept at.After-lay_records)
     c.table_words-4.ensures
     (omega arith)
 
 pub table_words-requires-5 : goal.table_words-requires-5
 table_words-requires-5 c =
-    let read = (goal.at.table_words-requires-5 c).After-records_of in both_small (nothing-refused read) (counted read)
+    let read = (goal.at.table_words-requires-5 c).After-records_of in both_small (nothing_refused read) (counted read)
 
 pub returns : goal.returns
 returns c =
@@ -77,7 +78,7 @@ returns c =
     record {
       end = c.table_words-5.ensures ∙ end_of (counted read);
       laid =
-          laid_out _ _ c.args.words.now (nothing-refused read) (counted read) c.letters_of.ensures.is
+          laid_out _ _ c.args.words.now (nothing_refused read) (counted read) c.letters_of.ensures.is
           c.write_counts.ensures
           c.table_words.ensures
           c.lay_states.ensures

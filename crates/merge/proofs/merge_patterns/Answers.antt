@@ -1,5 +1,5 @@
--- `merge_patterns` meets its contract: a refusal clears the words; else they are laid out, and those behind them are cleared (Answers). Assumes
--- nothing.
+-- `merge_patterns` meets its contract: a refusal clears the words; else they are laid out, and those behind them are cleared
+-- (Answers). Assumes nothing.
 use mathlib.Core.Path.{sym, ◌∙◌}
 use Prim.Native.Nat.{◌≤◌}
 use native.Mathlib.Omega.{arith}

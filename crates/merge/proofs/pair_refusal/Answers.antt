@@ -45,7 +45,14 @@ needed :
     c.table_words.result
     ≡ table_words (n_of c.args.first.now + n_of c.args.second.now) (m_of c.args.first.now + m_of c.args.second.now)
 needed c =
-    omega (arith, c.table_words.ensures, c.states_of.ensures.is, c.states_of-2.ensures.is, c.records_of.ensures.is, c.records_of-2.ensures.is)
+    omega (
+      arith,
+      c.table_words.ensures,
+      c.states_of.ensures.is,
+      c.states_of-2.ensures.is,
+      c.records_of.ensures.is,
+      c.records_of-2.ensures.is,
+    )
 
 pub returns-then-room-table_words : goal.returns-then-room-table_words
 returns-then-room-table_words c =

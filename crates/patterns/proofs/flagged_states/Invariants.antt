@@ -7,7 +7,8 @@ use Rattle.patterns.proofs.flagged_states.Given as goal
 
 abbrev pub invariant-loop-state : goal.invariant-loop-state
 invariant-loop-state l =
-    Gathered (meaning l.table).initial (n_of l.table) l.initial' l.state × Gathered (meaning l.table).accepting (n_of l.table) l.accepting l.state
+    Gathered (meaning l.table).initial (n_of l.table) l.initial' l.state
+    × Gathered (meaning l.table).accepting (n_of l.table) l.accepting l.state
 
 abbrev pub decreases-loop-state : goal.decreases-loop-state
 decreases-loop-state l = l.states - l.state

@@ -31,7 +31,9 @@ loop-reader-smaller c = let less = (counted (goal.at.loop-reader-smaller c).Afte
 pub loop-reader-preserved : goal.loop-reader-preserved
 loop-reader-preserved c = record {
   same = ap (λ (x : Bor (List ℕ)). x.now) c.next-reader.ensures.0 ∙ c.loop-reader.invariant.same;
-  counted = rw (stepped (goal.at.loop-reader-preserved c).After-next-reader) (counted (goal.at.loop-reader-preserved c).After-next-reader).1;
+  counted =
+      rw (stepped (goal.at.loop-reader-preserved c).After-next-reader)
+      (counted (goal.at.loop-reader-preserved c).After-next-reader).1;
 }
 
 pub returns : goal.returns

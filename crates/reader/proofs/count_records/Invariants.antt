@@ -1,4 +1,5 @@
--- The loop of `reader::count_records`: the reader is over the table passed, and what is counted and what is left make up the whole (`Counted`). Its measure: the number of records less the count.
+-- The loop of `reader::count_records`: the reader is over the table passed, and what is counted and what is left make up the
+-- whole (`Counted`). Its measure: the number of records less the count.
 use Rattle.std.proofs.Common.{◌≡◌, ◌-◌}
 use Rattle.tables.specs.Table.{m_of}
 use Rattle.reader.proofs.Counting.{Counted}

@@ -1,4 +1,5 @@
--- The loop of `records::fill`: the run holds the records that are laid down so far (`laid`), and the rest is as it was. Its measure: how many are left.
+-- The loop of `records::fill`: the run holds the records that are laid down so far (`laid`), and the rest is as it was. Its
+-- measure: how many are left.
 use Rattle.std.proofs.Common.{length, ◌-◌, ◌≡◌, ◌≤◌}
 use Rattle.records.specs.Records.{records_in}
 use Rattle.records.proofs.Laid.{laid}

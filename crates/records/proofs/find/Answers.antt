@@ -1,4 +1,5 @@
--- `records::find` meets its contract: the first record that is x has the place asked for, and where none is, their count is. Assumes nothing.
+-- `records::find` meets its contract: the first record that is x has the place asked for, and where none is, their count is.
+-- Assumes nothing.
 use Rattle.std.proofs.Common.{arith, sym, ◌∙◌}
 use Rattle.ncsb.specs.Successors.{quadruple}
 use Rattle.records.specs.Records.{blank}

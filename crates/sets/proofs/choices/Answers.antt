@@ -10,7 +10,6 @@ use Rattle.sets.proofs.Subsets.{subsets_length}
 use Rattle.sets.proofs.choices.Goals as goal
 
 -- 1 << count in a word of 64 digits
-
 power : (s : ℕ) → s < 2 ^ set_states → 1 * 2 ^ ones s % 2 ^ 64 ≡ 2 ^ size set_states s
 power s l =
     let b = ones-le set_states s l in shift_one 64 (ones s) (omega arith) ∙ ap (λ (n : ℕ). 2 ^ n) (sym (size_ones set_states s l))

@@ -1,5 +1,5 @@
--- `sets::nth_subset` meets its contract. The loop's invariant: the part so far, with what the digits left choose of the members left, is what the choice chooses of the set.
--- The measure is the set of the members left, as a number. Assumes nothing.
+-- `sets::nth_subset` meets its contract. The loop's invariant: the part so far, with what the digits left choose of the members
+-- left, is what the choice chooses of the set. The measure is the set of the members left, as a number. Assumes nothing.
 use mathlib.Core.Path.{◌≡◌}
 use Prim.Native.Nat.{◌+◌, ◌^◌, ◌<◌}
 use Rattle.sets.specs.Sets.{set_states}

@@ -1,5 +1,5 @@
--- `sets::targets` meets its contract. The loop's invariant: what was joined so far, joined with the union over the members left, is the union over the set.
--- The measure is the set of the members left, as a number. Assumes nothing.
+-- `sets::targets` meets its contract. The loop's invariant: what was joined so far, joined with the union over the members left,
+-- is the union over the set. The measure is the set of the members left, as a number. Assumes nothing.
 use mathlib.Core.Path.{◌≡◌}
 use mathlib.Core.List.{[]}
 use Prim.Native.Nat.{◌^◌, ◌<◌}

@@ -6,8 +6,6 @@ use Rattle.tables.specs.Marks.{mark_words, nothing, first, again}
 use Rattle.tables.proofs.Marking.{bit_clear, bit_set, bit_fits, bit_raised}
 use Rattle.tables.proofs.mark.Goals as goal
 
--- where the function begins, seen from a record that was named already and from one that was not
-
 pub returns-then-link-eq0 : goal.returns-then-link-eq0
 returns-then-link-eq0 c = nothing c.if-link-eq0.true refl
 

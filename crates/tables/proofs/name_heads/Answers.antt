@@ -8,9 +8,8 @@ use Rattle.tables.proofs.name_heads.Goals as goal
 use Rattle.tables.proofs.name_heads.Goals.{After-head_of-head}
 
 -- a head has its bit among the words of marks
-
-asks-mark : (c : After-head_of-head) → MarkAsks mark_words c.head_of-head.result c.loop-q.seen
-asks-mark c = markable c.head_of-head.ensures c.requires.mark_words_in_bounds c.loop-q.invariant.1.kept
+asks_mark : (c : After-head_of-head) → MarkAsks mark_words c.head_of-head.result c.loop-q.seen
+asks_mark c = markable c.head_of-head.ensures c.requires.mark_words_in_bounds c.loop-q.invariant.1.kept
 
 pub loop-q-init : goal.loop-q-init
 loop-q-init c = (scan_start, marked_start _ _ _ _)
@@ -27,7 +26,7 @@ returns-then-head-m c =
     (read_gt c.head_of-head.ensures.is c.records_of-m.ensures.is c.if-head-m.true) (omega arith)
 
 pub mark-more-requires : goal.mark-more-requires
-mark-more-requires c = asks-mark (goal.at.mark-more-requires c).After-head_of-head
+mark-more-requires c = asks_mark (goal.at.mark-more-requires c).After-head_of-head
 
 pub shape_of-seen-then-more-gt1 : goal.shape_of-seen-then-more-gt1
 shape_of-seen-then-more-gt1 c = c.mark-more.auto.seen ∙ c.loop-q.invariant.1.kept
@@ -51,7 +50,7 @@ loop-q-preserved c =
       scan_more c.loop-q.invariant.0 (omega arith)
           (read_le c.head_of-head.ensures.is c.records_of-m.ensures.is c.if-head-m.false),
       marked_more c.loop-q.invariant.1 c.head_of-head.ensures.is c.mark-more.ensures
-          (asks-mark (goal.at.loop-q-preserved c).After-head_of-head)
+          (asks_mark (goal.at.loop-q-preserved c).After-head_of-head)
           (omega arith)
           (omega arith)
           c.if-more-gt1.false,

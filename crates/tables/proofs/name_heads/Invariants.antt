@@ -8,7 +8,8 @@ use Rattle.tables.proofs.name_heads.Given as goal
 
 abbrev pub invariant-loop-q : goal.invariant-loop-q
 invariant-loop-q l =
-    Scan true (head_good l.table) (n_of l.table) l.q × Marked mark_words (head_of l.table) l.q (m_of l.table) l.names l.initial.seen l.seen
+    Scan true (head_good l.table) (n_of l.table) l.q
+    × Marked mark_words (head_of l.table) l.q (m_of l.table) l.names l.initial.seen l.seen
 
 abbrev pub decreases-loop-q : goal.decreases-loop-q
 decreases-loop-q l = l.n - l.q

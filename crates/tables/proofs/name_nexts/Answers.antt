@@ -14,13 +14,11 @@ use Rattle.tables.proofs.name_nexts.Goals.{After-next_of-next}
 use Rattle.tables.proofs.name_nexts.Goals.{Else-not-next_good}
 
 -- a next was read: it has its bit among the words of marks
-
 module _ (c : After-next_of-next) where
-  asks-mark : MarkAsks mark_words c.next_of-next.result c.loop-i.seen
-  asks-mark = markable c.next_of-next.ensures c.requires.mark_words_in_bounds c.loop-i.invariant.1.kept
+  asks_mark : MarkAsks mark_words c.next_of-next.result c.loop-i.seen
+  asks_mark = markable c.next_of-next.ensures c.requires.mark_words_in_bounds c.loop-i.invariant.1.kept
 
 -- it passed: it is in range
-
 module _ (c : Else-not-next_good) where
   inside : c.next_of-next.result ≤ m_of c.args.table.now
   inside =
@@ -42,11 +40,12 @@ pub returns-then-not-next_good : goal.returns-then-not-next_good
 returns-then-not-next_good c =
     let t = c.args.table.now in
     names_wrong (next_good t) c.loop-i.i (omega arith)
-    (next_fails t c.loop-i.i c.records_of-m.ensures.is c.next_of-next.ensures.is c.next_good.ensures (not_false c.if-not-next_good.true))
+    (next_fails t c.loop-i.i c.records_of-m.ensures.is c.next_of-next.ensures.is c.next_good.ensures
+    (not_false c.if-not-next_good.true))
     (omega arith)
 
 pub mark-more-requires : goal.mark-more-requires
-mark-more-requires c = asks-mark (goal.at.mark-more-requires c).After-next_of-next
+mark-more-requires c = asks_mark (goal.at.mark-more-requires c).After-next_of-next
 
 pub shape_of-seen-then-more-gt1 : goal.shape_of-seen-then-more-gt1
 shape_of-seen-then-more-gt1 c = c.mark-more.auto.seen ∙ c.loop-i.invariant.1.kept
@@ -72,7 +71,8 @@ loop-i-preserved c =
           (next_passes c.args.table.now c.loop-i.i counted c.next_of-next.ensures.is
           c.next_good.ensures
           (not_true c.if-not-next_good.false)),
-      marked_more c.loop-i.invariant.1 (rw add-one at c.next_of-next.ensures.is) c.mark-more.ensures (asks-mark (goal.at.loop-i-preserved c).After-next_of-next)
+      marked_more c.loop-i.invariant.1 (rw add-one at c.next_of-next.ensures.is) c.mark-more.ensures
+          (asks_mark (goal.at.loop-i-preserved c).After-next_of-next)
           (omega arith)
           (inside (goal.at.loop-i-preserved c).Else-not-next_good)
           c.if-more-gt1.false,

@@ -4,8 +4,6 @@ use Rattle.tables.specs.Access.{limits}
 use Rattle.tables.proofs.Refusals.{short, no_state, many_states, no_letter, many_letters, many_records, other_length, sizes_good}
 use Rattle.tables.proofs.sizes_refusal.Goals as goal
 
--- what the function is handed
-
 pub returns-then-table-lt3 : goal.returns-then-table-lt3
 returns-then-table-lt3 c = short (limits c.args.states c.args.records) c.args.table.now c.if-table-lt3.true
 
@@ -27,7 +25,8 @@ returns-then-k-gt-LETTERS c =
 
 pub returns-then-m-records : goal.returns-then-m-records
 returns-then-m-records c =
-    many_records (limits c.args.states c.args.records) c.args.table.now c.if-table-lt3.false (omega arith) (omega arith) (omega arith) (omega arith)
+    many_records (limits c.args.states c.args.records) c.args.table.now c.if-table-lt3.false (omega arith) (omega arith)
+    (omega arith) (omega arith)
     (omega arith)
 
 pub table_words-requires : goal.table_words-requires
@@ -35,12 +34,14 @@ table_words-requires c = (omega arith, omega arith)
 
 pub returns-then-table-table_words : goal.returns-then-table-table_words
 returns-then-table-table_words c =
-    other_length (limits c.args.states c.args.records) c.args.table.now c.if-table-lt3.false (omega arith) (omega arith) (omega arith) (omega arith)
+    other_length (limits c.args.states c.args.records) c.args.table.now c.if-table-lt3.false (omega arith) (omega arith)
+    (omega arith) (omega arith)
     (omega arith)
     (λ e. omega arith)
 
 pub returns : goal.returns
 returns c =
-    sizes_good (limits c.args.states c.args.records) c.args.table.now c.if-table-lt3.false (omega arith) (omega arith) (omega arith) (omega arith)
+    sizes_good (limits c.args.states c.args.records) c.args.table.now c.if-table-lt3.false (omega arith) (omega arith)
+    (omega arith) (omega arith)
     (omega arith)
     (omega arith)

@@ -6,10 +6,7 @@ use Rattle.basics.proofs.Booleans.{not_true, not_false}
 use Rattle.tables.proofs.table_refusal.Goals as goal
 use Rattle.tables.proofs.table_refusal.Goals.{Else-sizes-ne0}
 
--- what the function is handed
-
 -- the table's words are all there
-
 sized : (c : Else-sizes-ne0) → Sized c.args.table.now
 sized c =
     sizes_sized (limits c.args.states c.args.records) c.args.table.now (sym c.sizes_refusal-sizes.ensures ∙ c.if-sizes-ne0.false)
@@ -23,14 +20,16 @@ flags_good-requires c = sized c
 
 pub returns-then-not-flags_good : goal.returns-then-not-flags_good
 returns-then-not-flags_good c =
-    flags_bad (limits c.args.states c.args.records) c.args.table.now c.sizes_refusal-sizes.ensures c.if-sizes-ne0.false c.flags_good.ensures (not_false c.if-not-flags_good.true)
+    flags_bad (limits c.args.states c.args.records) c.args.table.now c.sizes_refusal-sizes.ensures c.if-sizes-ne0.false
+    c.flags_good.ensures (not_false c.if-not-flags_good.true)
 
 pub records_good-requires : goal.records_good-requires
 records_good-requires c = sized (goal.at.records_good-requires c).Else-sizes-ne0
 
 pub returns-then-not-records_good : goal.returns-then-not-records_good
 returns-then-not-records_good c =
-    records_bad (limits c.args.states c.args.records) c.args.table.now c.sizes_refusal-sizes.ensures c.if-sizes-ne0.false c.flags_good.ensures (not_true c.if-not-flags_good.false)
+    records_bad (limits c.args.states c.args.records) c.args.table.now c.sizes_refusal-sizes.ensures c.if-sizes-ne0.false
+    c.flags_good.ensures (not_true c.if-not-flags_good.false)
     c.records_good.ensures
     (not_false c.if-not-records_good.true)
 
@@ -39,7 +38,8 @@ chains_good-requires c = sized (goal.at.chains_good-requires c).Else-sizes-ne0
 
 pub returns-then-not-chains_good : goal.returns-then-not-chains_good
 returns-then-not-chains_good c =
-    chains_bad (limits c.args.states c.args.records) c.args.table.now c.sizes_refusal-sizes.ensures c.if-sizes-ne0.false c.flags_good.ensures (not_true c.if-not-flags_good.false)
+    chains_bad (limits c.args.states c.args.records) c.args.table.now c.sizes_refusal-sizes.ensures c.if-sizes-ne0.false
+    c.flags_good.ensures (not_true c.if-not-flags_good.false)
     c.records_good.ensures
     (not_true c.if-not-records_good.false)
     c.chains_good.ensures
@@ -47,7 +47,8 @@ returns-then-not-chains_good c =
 
 pub returns : goal.returns
 returns c =
-    table_good (limits c.args.states c.args.records) c.args.table.now c.sizes_refusal-sizes.ensures c.if-sizes-ne0.false c.flags_good.ensures (not_true c.if-not-flags_good.false)
+    table_good (limits c.args.states c.args.records) c.args.table.now c.sizes_refusal-sizes.ensures c.if-sizes-ne0.false
+    c.flags_good.ensures (not_true c.if-not-flags_good.false)
     c.records_good.ensures
     (not_true c.if-not-records_good.false)
     c.chains_good.ensures

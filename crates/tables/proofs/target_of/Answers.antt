@@ -7,4 +7,7 @@ use Rattle.tables.proofs.target_of.Goals as goal
 pub returns : goal.returns
 unfolding target_of record_at
 returns c =
-    record { is = rw (← c.requires.counted); small = omega (arith, c.type_inv.table (3 + 2 * c.args.states + 3 * (c.args.number - 1) + 1)) }
+    record {
+      is = rw (← c.requires.counted);
+      small = omega (arith, c.type_inv.table (3 + 2 * c.args.states + 3 * (c.args.number - 1) + 1));
+    }

@@ -16,7 +16,6 @@ pub lasso_end-end-requires : goal.lasso_end-end-requires
 lasso_end-end-requires c = next_lengths c.loop-filled.invariant c.loop-filled-test.true
 
 -- where the end of a lasso is found: it stands in the list
-
 module _ (c : After-lasso_end-end) where
   more : c.loop-filled.filled < length c.loop-filled.answers
   more = c.loop-filled-test.true
@@ -41,7 +40,12 @@ overflow_add-at c = omega (arith, begins (goal.at.overflow_add-at c).After-lasso
 
 pub offset_bounds-list-at-in-loop-filled : goal.offset_bounds-list-at-in-loop-filled
 offset_bounds-list-at-in-loop-filled c =
-    omega (arith, further (goal.at.offset_bounds-list-at-in-loop-filled c).After-lasso_end-end, ends (goal.at.offset_bounds-list-at-in-loop-filled c).After-lasso_end-end)
+    omega (
+      arith,
+      further (goal.at.offset_bounds-list-at-in-loop-filled c).After-lasso_end-end,
+      ends
+          (goal.at.offset_bounds-list-at-in-loop-filled c).After-lasso_end-end,
+    )
 
 pub slice_bounds-lasso_byte-count : goal.slice_bounds-lasso_byte-count
 slice_bounds-lasso_byte-count c = further (goal.at.slice_bounds-lasso_byte-count c).After-lasso_end-end
@@ -77,7 +81,8 @@ loop-filled-smaller c =
 pub loop-filled-preserved : goal.loop-filled-preserved
 loop-filled-preserved c =
     let byte = c.lasso_byte in
-    deciding_turn c.loop-filled.invariant (more (goal.at.loop-filled-preserved c).After-lasso_end-end) c.lasso_end-end.ensures byte.auto.work byte.auto.letters
+    deciding_turn c.loop-filled.invariant (more (goal.at.loop-filled-preserved c).After-lasso_end-end) c.lasso_end-end.ensures
+    byte.auto.work byte.auto.letters
     (rw c.loop-filled.invariant.room at byte.ensures)
 
 pub shape_of-answers : goal.shape_of-answers

@@ -15,7 +15,6 @@ use Rattle.trays.proofs.lasso_byte.Goals as goal
 use Rattle.trays.proofs.lasso_byte.Goals.{Else-not-copy_letters}
 
 -- where the lengths have passed, all letters have room
-
 short : {prefix words : ℕ} → prefix ≤ words → lengths_refusal prefix (words - prefix) ≡ 0 → words ≤ longest_lasso
 short inside passed =
     let fine = lengths_past _ _ passed in
@@ -23,7 +22,6 @@ short inside passed =
     let l = fine.loop in omega arith
 
 -- where all letters are below k, the bytes begin with them
-
 module _ (c : Else-not-copy_letters) where
   abbrev bytes : List ℕ
   bytes = c.copy_letters.new.letters
@@ -59,7 +57,8 @@ returns-then-not-copy_letters c =
 pub slice_bounds-decide_checked-end : goal.slice_bounds-decide_checked-end
 slice_bounds-decide_checked-end c =
     let inside = c.requires.inside in
-    let room = fits (goal.at.slice_bounds-decide_checked-end c).Else-not-copy_letters in sym (length-take-le c.args.prefix (bytes (goal.at.slice_bounds-decide_checked-end c).Else-not-copy_letters) (omega arith))
+    let room = fits (goal.at.slice_bounds-decide_checked-end c).Else-not-copy_letters in
+    sym (length-take-le c.args.prefix (bytes (goal.at.slice_bounds-decide_checked-end c).Else-not-copy_letters) (omega arith))
 
 pub slice_bounds-decide_checked-end-2 : goal.slice_bounds-decide_checked-end-2
 slice_bounds-decide_checked-end-2 c = fits (goal.at.slice_bounds-decide_checked-end-2 c).Else-not-copy_letters
@@ -70,5 +69,6 @@ in_byte-requires c = rw c.decide_checked.ensures (byte_small wide_range _ _ _ _)
 pub returns : goal.returns
 returns c =
     c.in_byte.ensures
-    ∙ byte_decided wide_range _ _ _ _ c.requires.valid c.requires.inside (bytes (goal.at.returns c).Else-not-copy_letters) (copy (goal.at.returns c).Else-not-copy_letters) (fits (goal.at.returns c).Else-not-copy_letters)
+    ∙ byte_decided wide_range _ _ _ _ c.requires.valid c.requires.inside (bytes (goal.at.returns c).Else-not-copy_letters)
+    (copy (goal.at.returns c).Else-not-copy_letters) (fits (goal.at.returns c).Else-not-copy_letters)
     c.decide_checked.ensures

@@ -33,7 +33,6 @@ returns-then-at-list c =
     list_17 _ _ (counting_over c.loop-at.invariant c.loop-at-test.false (λ e. omega (arith, c.if-at-list.true)))
 
 -- where the walk has ended at the list's end: nothing is left, and all lassos are counted
-
 module _ (c : Else-at-list) where
   at_end : c.loop-at.at ≡ length c.args.list.now
   at_end = let upto = c.loop-at.invariant.upto in omega (arith, c.loop-at-test.false, c.if-at-list.false)
@@ -41,13 +40,15 @@ module _ (c : Else-at-list) where
   nothing_left : length (tray c.args.list.now).left ≡ 0
   nothing_left = counting_exact c.loop-at.invariant c.loop-at-test.false at_end
 
-  all-counted : c.loop-at.lassos ≡ length (tray c.args.list.now).lassos
-  all-counted = counting_all c.loop-at.invariant c.loop-at-test.false at_end
+  all_counted : c.loop-at.lassos ≡ length (tray c.args.list.now).lassos
+  all_counted = counting_all c.loop-at.invariant c.loop-at-test.false at_end
 
 pub returns-then-lassos-bytes : goal.returns-then-lassos-bytes
 returns-then-lassos-bytes c =
-    list_18 _ _ (nothing_left (goal.at.returns-then-lassos-bytes c).Else-at-list) (all-counted (goal.at.returns-then-lassos-bytes c).Else-at-list) (λ e. omega (arith, c.if-lassos-bytes.true))
+    list_18 _ _ (nothing_left (goal.at.returns-then-lassos-bytes c).Else-at-list)
+    (all_counted (goal.at.returns-then-lassos-bytes c).Else-at-list) (λ e. omega (arith, c.if-lassos-bytes.true))
 
 pub returns : goal.returns
 returns c =
-    list_passes _ _ (nothing_left (goal.at.returns c).Else-at-list) (all-counted (goal.at.returns c).Else-at-list) (omega (arith, c.if-lassos-bytes.false))
+    list_passes _ _ (nothing_left (goal.at.returns c).Else-at-list) (all_counted (goal.at.returns c).Else-at-list)
+    (omega (arith, c.if-lassos-bytes.false))

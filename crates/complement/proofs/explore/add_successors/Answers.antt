@@ -14,12 +14,9 @@ use Rattle.complement.proofs.explore.add_successors.Goals as goal
 use Rattle.complement.proofs.explore.add_successors.Goals.{After-meet-progress}
 
 -- its successor is met
-
 module _ (c : After-meet-progress) where
   sizes : SameSizes (lent c.meet-progress.new.words c.meet-progress.new.sets) (lent c.loop-choice.words c.loop-choice.sets)
   sizes = record { words = c.meet-progress.auto.words; sets = c.meet-progress.auto.sets }
-
--- THE NEEDS
 
 pub on_letter-asked-requires : goal.on_letter-asked-requires
 on_letter-asked-requires c = c.requires.0
@@ -67,7 +64,8 @@ returns-then-progress c =
 pub loop-choice-preserved : goal.loop-choice-preserved
 loop-choice-preserved c = (
   omega arith,
-  reach_turn c.loop-choice.invariant.1 (rw c.successor.ensures at c.meet-progress.ensures) (add_all_more same _ _ _ _) (sizes (goal.at.loop-choice-preserved c).After-meet-progress)
+  reach_turn c.loop-choice.invariant.1 (rw c.successor.ensures at c.meet-progress.ensures) (add_all_more same _ _ _ _)
+      (sizes (goal.at.loop-choice-preserved c).After-meet-progress)
       c.if-progress.false,
 )
 

@@ -12,7 +12,8 @@ use Rattle.complement.proofs.explore.add_successors.Given as goal
 abbrev pub invariant-loop-choice : goal.invariant-loop-choice
 invariant-loop-choice l =
     (l.choice ≤ l.choices)
-    × Reaching wide_quadruples (λ n. add_all same l.source l.letter (tabulate n (nth_successor l.x l.asked))) (lent l.initial.words l.initial.sets) l.initial.progress
+    × Reaching wide_quadruples (λ n. add_all same l.source l.letter (tabulate n (nth_successor l.x l.asked)))
+    (lent l.initial.words l.initial.sets) l.initial.progress
     (lent l.words l.sets) l.progress l.choice
 
 abbrev pub decreases-loop-choice : goal.decreases-loop-choice

@@ -11,19 +11,15 @@ use Rattle.complement.proofs.explore.explore.Goals.{In-loop-number}
 use Rattle.complement.proofs.explore.explore.Goals.{After-step-found}
 
 -- there is one
-
 module _ (c : In-loop-number) where
   few : c.loop-number.found.states ≤ wide_range.states
   few =
       let of = c.requires.of_pattern in shows_limit (c.loop-number.invariant.1 of.table of.read_off).shows
 
 -- its edges are added
-
 module _ (c : After-step-found) where
   sizes_step : SameSizes (lent c.step-found.new.words c.step-found.new.sets) (lent c.loop-number.words c.loop-number.sets)
   sizes_step = record { words = c.step-found.auto.words; sets = c.step-found.auto.sets }
-
--- THE NEEDS
 
 pub store_initials-found-requires : goal.store_initials-found-requires
 store_initials-found-requires c = c.requires.sets_clear
@@ -59,7 +55,8 @@ shape_of-words-then-found-2 c =
 
 pub shape_of-sets-then-found-2 : goal.shape_of-sets-then-found-2
 shape_of-sets-then-found-2 c =
-    (sizes_step (goal.at.shape_of-sets-then-found-2 c).After-step-found).sets ∙ c.loop-number.invariant.0.sets ∙ c.store_initials-found.auto.sets
+    (sizes_step (goal.at.shape_of-sets-then-found-2 c).After-step-found).sets ∙ c.loop-number.invariant.0.sets
+    ∙ c.store_initials-found.auto.sets
 
 pub returns-then-found-2 : goal.returns-then-found-2
 returns-then-found-2 c =

@@ -1,4 +1,5 @@
--- `explore` steps from the states in number order. The invariant: what the buffers keep is what exploring has found before this state. Assumes nothing.
+-- `explore` steps from the states in number order. The invariant: what the buffers keep is what exploring has found before this
+-- state. Assumes nothing.
 use mathlib.Core.List.{List}
 use Prim.Native.Nat.{ℕ, ◌-◌}
 use Rattle.tables.specs.Table.{wide_range}

@@ -9,19 +9,16 @@ use Rattle.complement.proofs.explore.meet.Goals as goal
 use Rattle.complement.proofs.explore.meet.Goals.{Else-target-room}
 
 -- there is room: both states' numbers are below what a table can have
-
 module _ (c : Else-target-room) where
-  source-few : c.args.source < wide_range.states
-  source-few =
+  source_few : c.args.source < wide_range.states
+  source_few =
       let inside = c.requires.inside in let most = shows_limit c.requires.shows in omega arith
 
-  target-few : c.place-target.result < wide_range.states
-  target-few =
+  target_few : c.place-target.result < wide_range.states
+  target_few =
       let inside = c.if-target-room.false in
       let room = c.room.ensures in
       let limit = capacity_limit wide_range c.place-target.new.sets in omega arith
-
--- THE NEEDS
 
 pub returns-then-target-room : goal.returns-then-target-room
 unfolding overfull
@@ -31,12 +28,16 @@ returns-then-target-room c =
 pub overflow_cast-source : goal.overflow_cast-source
 unfolding wide_range
 overflow_cast-source c =
-    let source = source-few (goal.at.overflow_cast-source c).Else-target-room in let target = target-few (goal.at.overflow_cast-source c).Else-target-room in omega arith
+    let source = source_few (goal.at.overflow_cast-source c).Else-target-room in
+    let target = target_few (goal.at.overflow_cast-source c).Else-target-room in
+    omega arith
 
 pub overflow_cast-target : goal.overflow_cast-target
 unfolding wide_range
 overflow_cast-target c =
-    let source = source-few (goal.at.overflow_cast-target c).Else-target-room in let target = target-few (goal.at.overflow_cast-target c).Else-target-room in omega arith
+    let source = source_few (goal.at.overflow_cast-target c).Else-target-room in
+    let target = target_few (goal.at.overflow_cast-target c).Else-target-room in
+    omega arith
 
 pub returns-then-target-states : goal.returns-then-target-states
 returns-then-target-states c =

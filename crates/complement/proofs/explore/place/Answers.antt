@@ -8,8 +8,6 @@ use Rattle.complement.proofs.Kept.{capacity_full}
 use Rattle.complement.proofs.Lookup.{looked_all}
 use Rattle.complement.proofs.explore.place.Goals as goal
 
--- THE NEEDS
-
 pub find-number-requires : goal.find-number-requires
 find-number-requires c = capacity_full wide_range c.args.sets.now c.args.states c.requires
 

@@ -15,14 +15,11 @@ use Rattle.complement.proofs.explore.step.Goals as goal
 use Rattle.complement.proofs.explore.step.Goals.{After-add_successors-progress}
 
 -- its edges are added
-
 module _ (c : After-add_successors-progress) where
   sizes :
       SameSizes (lent c.add_successors-progress.new.words c.add_successors-progress.new.sets)
       (lent c.loop-letter.words c.loop-letter.sets)
   sizes = record { words = c.add_successors-progress.auto.words; sets = c.add_successors-progress.auto.sets }
-
--- THE NEEDS
 
 pub load-x-requires : goal.load-x-requires
 load-x-requires c = let inside = c.requires.inside in let room = shows_room c.requires.shows in omega arith
@@ -57,8 +54,11 @@ returns-then-progress c =
 
 pub loop-letter-preserved : goal.loop-letter-preserved
 unfolding by_letters ncsb
-loop-letter-preserved c =
-    (omega arith, reach_turn c.loop-letter.invariant.1 c.add_successors-progress.ensures (λ b. refl) (sizes (goal.at.loop-letter-preserved c).After-add_successors-progress) c.if-progress.false)
+loop-letter-preserved c = (
+  omega arith,
+  reach_turn c.loop-letter.invariant.1 c.add_successors-progress.ensures (λ b. refl)
+      (sizes (goal.at.loop-letter-preserved c).After-add_successors-progress) c.if-progress.false,
+)
 
 pub shape_of-words : goal.shape_of-words
 shape_of-words c = c.loop-letter.invariant.1.sizes.words

@@ -10,7 +10,8 @@ use Rattle.complement.proofs.explore.step.Given as goal
 abbrev pub invariant-loop-letter : goal.invariant-loop-letter
 invariant-loop-letter l =
     (l.letter ≤ l.letters)
-    × Reaching wide_quadruples (λ k. by_letters (ncsb (array_moves l.masks l.shape)) k l.source l.x) (lent l.initial.words l.initial.sets) l.initial.progress
+    × Reaching wide_quadruples (λ k. by_letters (ncsb (array_moves l.masks l.shape)) k l.source l.x)
+    (lent l.initial.words l.initial.sets) l.initial.progress
     (lent l.words l.sets) l.progress l.letter
 
 abbrev pub decreases-loop-letter : goal.decreases-loop-letter

@@ -5,8 +5,6 @@ use Rattle.complement.specs.Found.{overfull}
 use Rattle.complement.proofs.Starting.{start_fits, start_full, store_start, store_asks, store_turn, store_end}
 use Rattle.complement.proofs.explore.store_initials.Goals as goal
 
--- THE NEEDS
-
 pub returns-then-room-choices : goal.returns-then-room-choices
 unfolding overfull
 returns-then-room-choices c =

@@ -5,8 +5,6 @@ use Rattle.complement.specs.Flags.{record_accepts}
 use Rattle.complement.proofs.Flagged.{flags_start, flags_turn, flags_end}
 use Rattle.complement.proofs.flags.set_flags.Goals as goal
 
--- THE NEEDS
-
 pub loop-state-init : goal.loop-state-init
 loop-state-init c =
     let args = c.args in

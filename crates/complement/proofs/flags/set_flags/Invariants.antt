@@ -7,7 +7,9 @@ use Rattle.complement.proofs.flags.set_flags.Given as goal
 
 abbrev pub invariant-loop-state : goal.invariant-loop-state
 invariant-loop-state l =
-    (l.state ≤ l.states) × (length l.words ≡ length l.initial.words) × (l.words ≡ with_flags (record_accepts l.sets) l.initial' l.state l.initial.words)
+    (l.state ≤ l.states)
+    × (length l.words ≡ length l.initial.words)
+    × (l.words ≡ with_flags (record_accepts l.sets) l.initial' l.state l.initial.words)
 
 abbrev pub decreases-loop-state : goal.decreases-loop-state
 decreases-loop-state l = l.states - l.state

@@ -7,8 +7,6 @@ use Rattle.complement.specs.Records.{looked_up}
 use Rattle.complement.proofs.Lookup.{compared}
 use Rattle.complement.proofs.records.find.Goals as goal
 
--- THE NEEDS
-
 pub loop-number-init : goal.loop-number-init
 loop-number-init c = scan_start
 

@@ -1,6 +1,6 @@
 use mathlib.Core.Path.{◌∙◌}
 use native.Mathlib.Omega.{arith}
-use Rattle.decimal.proofs.Placing.{same_length as same-length-of, lining_start, lining_room, lining_turn, lining_end}
+use Rattle.decimal.proofs.Placing.{same_length as same_length_of, lining_start, lining_room, lining_turn, lining_end}
 use Rattle.decimal.proofs.lines.put_line.Goals as goal
 
 pub overflow_sub-last : goal.overflow_sub-last
@@ -31,7 +31,7 @@ pub put_field-requires : goal.put_field-requires
 put_field-requires c = lining_room c.requires.fields_in_bounds c.loop-i.invariant
 
 pub shape_of-buffer : goal.shape_of-buffer
-shape_of-buffer c = same-length-of c.put_field.ensures ∙ c.loop-i.invariant.same
+shape_of-buffer c = same_length_of c.put_field.ensures ∙ c.loop-i.invariant.same
 
 pub returns : goal.returns
 returns c = lining_end c.requires.fields_in_bounds c.loop-i-test.false c.loop-i.invariant c.put_field.ensures

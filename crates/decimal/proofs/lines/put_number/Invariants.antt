@@ -1,4 +1,5 @@
--- `put_number` writes a number's digits from the last to the first. The invariant: the digits before place `i` are still to come. Assumes nothing.
+-- `put_number` writes a number's digits from the last to the first. The invariant: the digits before place `i` are still to come.
+-- Assumes nothing.
 use Rattle.decimal.proofs.Placing.{Writing}
 use Rattle.decimal.proofs.lines.put_number.Given as goal
 

@@ -1,4 +1,5 @@
--- `lasso_search::colouring::colour_of` meets its contract: a shift by as many bits as the colours below it take divides by a power of their number. Assumes nothing.
+-- `lasso_search::colouring::colour_of` meets its contract: a shift by as many bits as the colours below it take divides by a
+-- power of their number. Assumes nothing.
 use Rattle.lasso_search.specs.Width.{width_16}
 use Rattle.lasso_search.proofs.Stores.{colour_read}
 use Rattle.lasso_search.proofs.colouring.colour_of.Goals as goal

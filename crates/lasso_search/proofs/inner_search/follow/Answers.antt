@@ -3,8 +3,6 @@ use native.Mathlib.Omega.{arith}
 use Rattle.lasso_search.proofs.Follows.{follow_record, follow_word, follow_raise, follow_wait, follow_other, follow_grey, follow_black, follow_rest}
 use Rattle.lasso_search.proofs.inner_search.follow.Goals as goal
 
--- where the function begins
-
 pub letter_of-requires : goal.letter_of-requires
 letter_of-requires c = follow_record c.requires
 

@@ -3,8 +3,6 @@ use Rattle.lasso_search.proofs.Chains.{next_less}
 use Rattle.lasso_search.proofs.Follows.{spreading_start, spreading_follow, spreading_record, spreading_met, spreading_turn, spreading_end}
 use Rattle.lasso_search.proofs.inner_search.spread.Goals as goal
 
--- the turn, seen from where its edge was followed
-
 pub loop-at-init : goal.loop-at-init
 loop-at-init c = spreading_start _ c.requires
 

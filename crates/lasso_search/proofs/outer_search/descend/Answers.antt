@@ -32,30 +32,28 @@ returns-then-at-eq0 c =
     none_white c.requires c.node_letter-letter.ensures c.node_base-base.ensures c.next_white-at.ensures c.if-at-eq0.true
 
 -- a record with a white target was found
-
 module _ (c : Else-at-eq0) where
-  reads-white : RecordAsks c.args.table.now c.args.states c.next_white-at.result
-  reads-white =
+  reads_white : RecordAsks c.args.table.now c.args.states c.next_white-at.result
+  reads_white =
       white_record c.requires c.node_letter-letter.ensures c.node_base-base.ensures
       (is_white c.next_white-at.ensures c.if-at-eq0.false)
 
 pub target_of-target-requires : goal.target_of-target-requires
-target_of-target-requires c = reads-white c
+target_of-target-requires c = reads_white c
 
 -- and its target read
-
 module _ (c : After-target_of-target) where
-  reads-target : StateAsks c.args.table.now c.target_of-target.result
-  reads-target =
+  reads_target : StateAsks c.args.table.now c.target_of-target.result
+  reads_target =
       to_state c.requires c.node_letter-letter.ensures c.node_base-base.ensures
       (is_white c.next_white-at.ensures c.if-at-eq0.false)
       c.target_of-target.ensures.is
 
-  enters-white :
+  enters_white :
       {first : ℕ} → first < 2 ^ width_16.work_bits →
       EnterAsks width_16 c.args.work.now c.args.size (c.node_base-base.result + c.target_of-target.result) first
       c.args.depth
-  enters-white fits =
+  enters_white fits =
       to_asks c.requires c.node_letter-letter.ensures c.node_base-base.ensures
       (is_white c.next_white-at.ensures c.if-at-eq0.false)
       c.target_of-target.ensures.is
@@ -64,17 +62,17 @@ module _ (c : After-target_of-target) where
 pub overflow_add-base : goal.overflow_add-base
 overflow_add-base c =
     let fits : 0 < 2 ^ width_16.work_bits = omega arith in
-    let asks = enters-white (goal.at.overflow_add-base c).After-target_of-target fits in omega (arith, asks.inside, asks.small)
+    let asks = enters_white (goal.at.overflow_add-base c).After-target_of-target fits in omega (arith, asks.inside, asks.small)
 
 pub head_of-requires : goal.head_of-requires
-head_of-requires c = reads-target (goal.at.head_of-requires c).After-target_of-target
+head_of-requires c = reads_target (goal.at.head_of-requires c).After-target_of-target
 
 pub enter-requires : goal.enter-requires
 enter-requires c =
-    enters-white (goal.at.enter-requires c).After-target_of-target (let k = c.head_of.ensures.small in omega arith)
+    enters_white (goal.at.enter-requires c).After-target_of-target (let k = c.head_of.ensures.small in omega arith)
 
 pub next_of-requires : goal.next_of-requires
-next_of-requires c = reads-white (goal.at.next_of-requires c).Else-at-eq0
+next_of-requires c = reads_white (goal.at.next_of-requires c).Else-at-eq0
 
 pub overflow_mul-work : goal.overflow_mul-work
 overflow_mul-work c = omega (arith, top_small c.requires)

@@ -34,7 +34,6 @@ loop-depth-preserved-then-descend c =
     c.if-descend.true
 
 -- all targets of the top are visited
-
 module _ (c : Else-descend) where
   finishing :
       Finishing width_16 c.args.table.now c.args.prefix.now c.args.cycle.now c.args.work.now
@@ -56,7 +55,8 @@ returns-then-finish c =
 
 pub loop-depth-smaller : goal.loop-depth-smaller
 loop-depth-smaller c =
-    finishing_less (finishing (goal.at.loop-depth-smaller c).Else-descend) (finishing_same c.descend.ensures c.if-descend.false) c.finish.ensures
+    finishing_less (finishing (goal.at.loop-depth-smaller c).Else-descend) (finishing_same c.descend.ensures c.if-descend.false)
+    c.finish.ensures
     c.if-finish.false
 
 pub loop-depth-preserved : goal.loop-depth-preserved

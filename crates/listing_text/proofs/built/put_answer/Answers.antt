@@ -7,7 +7,10 @@ returns-then-answer-ne0 c = answer_refused c.args.answer _ _ c.if-answer-ne0.tru
 
 pub put_accepted-requires : goal.put_accepted-requires
 put_accepted-requires c =
-    record { printable = c.requires.printable_answer.accepted c.if-answer-ne0.false; output_bytes_in_bounds = c.requires.output_bytes_in_bounds }
+    record {
+      printable = c.requires.printable_answer.accepted c.if-answer-ne0.false;
+      output_bytes_in_bounds = c.requires.output_bytes_in_bounds;
+    }
 
 pub returns : goal.returns
 returns c = answer_accepted c.args.answer _ _ c.if-answer-ne0.false c.put_accepted.ensures

@@ -1,5 +1,5 @@
 use native.Mathlib.Omega.{arith}
-use Rattle.decimal.proofs.Placing.{same_length as same-length-of, rowing_room}
+use Rattle.decimal.proofs.Placing.{same_length as same_length_of, rowing_room}
 use Rattle.listing_text.proofs.Printing.{sourcing_start, record_asked, sourcing_small, sourcing_turn, sourcing_end}
 use Rattle.listing_text.proofs.built.put_edges.Goals as goal
 
@@ -48,7 +48,7 @@ loop-written-preserved c =
     sourcing_turn c.loop-written.invariant c.loop-written-test.true c.put_edge-place.ensures c.source_behind-source.ensures
 
 pub shape_of-output : goal.shape_of-output
-shape_of-output c = same-length-of c.loop-written.invariant.written.put
+shape_of-output c = same_length_of c.loop-written.invariant.written.put
 
 pub returns : goal.returns
 returns c = sourcing_end c.loop-written.invariant c.loop-written-test.false

@@ -1,4 +1,5 @@
--- `put_edges` writes one record behind the other. The invariant: the records passed are written, and `source` is that of the next. Assumes nothing.
+-- `put_edges` writes one record behind the other. The invariant: the records passed are written, and `source` is that of the
+-- next. Assumes nothing.
 use Prim.Native.Nat.{◌-◌}
 use Rattle.listing_text.proofs.Printing.{Sourcing}
 use Rattle.listing_text.proofs.built.put_edges.Given as goal

@@ -1,5 +1,5 @@
 use native.Mathlib.Omega.{arith}
-use Rattle.decimal.proofs.Placing.{same_length as same-length-of, rowing_start, rowing_room, rowing_turn, rowing_end}
+use Rattle.decimal.proofs.Placing.{same_length as same_length_of, rowing_start, rowing_room, rowing_turn, rowing_end}
 use Rattle.listing_text.proofs.Printing.{state_asked}
 use Rattle.listing_text.proofs.built.put_states.Goals as goal
 
@@ -23,7 +23,7 @@ pub loop-state-preserved : goal.loop-state-preserved
 loop-state-preserved c = rowing_turn _ c.loop-state.invariant c.loop-state-test.true c.put_state-place.ensures
 
 pub shape_of-output : goal.shape_of-output
-shape_of-output c = same-length-of c.loop-state.invariant.put
+shape_of-output c = same_length_of c.loop-state.invariant.put
 
 pub returns : goal.returns
 returns c = rowing_end _ c.loop-state.invariant c.loop-state-test.false

@@ -16,7 +16,8 @@ idle moves letter q = eqb (get_or (get_or moves q []) letter 0) 0
 
 abbrev pub invariant-loop-left : goal.invariant-loop-left
 invariant-loop-left l =
-    (l.left < 2 ^ set_states) × (some_member set_states l.left (idle l.moves l.letter) ≡ some_member set_states l.initial.left (idle l.moves l.letter))
+    (l.left < 2 ^ set_states)
+    × (some_member set_states l.left (idle l.moves l.letter) ≡ some_member set_states l.initial.left (idle l.moves l.letter))
 
 abbrev pub decreases-loop-left : goal.decreases-loop-left
 decreases-loop-left l = l.left

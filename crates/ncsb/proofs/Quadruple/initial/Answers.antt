@@ -9,7 +9,6 @@ use Rattle.ncsb.specs.Successors.{initial_for, initial_free, quadruple}
 use Rattle.ncsb.proofs.Quadruple.initial.Goals as goal
 
 -- the sets that the code works out, put together, are the initial quadruple for the choice
-
 parted :
     (starts marks inner i : ℕ) {loose safe rest outer : ℕ} → loose ≡ without (bit_and starts inner) marks → safe ≡ nth_subset loose i →
     rest ≡ without (bit_and starts inner) safe → outer ≡ without starts inner →

@@ -11,7 +11,6 @@ use Rattle.ncsb.specs.declared.Quadruple.{Quadruple}
 use Rattle.ncsb.proofs.Quadruple.on_letter.Goals as goal
 
 -- the sets that the code works out, put together, are what the letter asks
-
 asked_of :
     (m : List (List ℕ)) (f q2 c : ℕ) (x : Quadruple) →
     {reached left apart stay safe outer loose follow : ℕ} →

@@ -11,7 +11,6 @@ use Rattle.ncsb.specs.declared.Quadruple.{Quadruple}
 use Rattle.ncsb.proofs.Quadruple.successor.Goals as goal
 
 -- the two ways of the breakpoint
-
 module _
     (x : Quadruple)
     (a : Asked)

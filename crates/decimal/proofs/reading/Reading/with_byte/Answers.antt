@@ -40,12 +40,17 @@ overflow_add-value c =
 
 pub returns-then-self-words : goal.returns-then-self-words
 returns-then-self-words c =
-    rw c.failed_after-then-self-words.ensures (byte_many c.requires c.args.byte c.if-self.false (no_blank (goal.at.returns-then-self-words c).Else-not-is_digit) (a_digit (goal.at.returns-then-self-words c).Else-not-is_digit) c.if-self-words.true)
+    rw c.failed_after-then-self-words.ensures
+    (byte_many c.requires c.args.byte c.if-self.false (no_blank (goal.at.returns-then-self-words c).Else-not-is_digit)
+    (a_digit (goal.at.returns-then-self-words c).Else-not-is_digit) c.if-self-words.true)
 
 pub returns-then-value-gt-LARGEST : goal.returns-then-value-gt-LARGEST
 returns-then-value-gt-LARGEST c =
-    rw c.failed_after-then-value-gt-LARGEST.ensures (byte_large c.requires c.args.byte c.if-self.false (no_blank (goal.at.returns-then-value-gt-LARGEST c).Else-not-is_digit) (a_digit (goal.at.returns-then-value-gt-LARGEST c).Else-not-is_digit) c.if-value-gt-LARGEST.true)
+    rw c.failed_after-then-value-gt-LARGEST.ensures
+    (byte_large c.requires c.args.byte c.if-self.false (no_blank (goal.at.returns-then-value-gt-LARGEST c).Else-not-is_digit)
+    (a_digit (goal.at.returns-then-value-gt-LARGEST c).Else-not-is_digit) c.if-value-gt-LARGEST.true)
 
 pub returns : goal.returns
 returns c =
-    byte_digit c.requires c.args.byte c.if-self.false (no_blank (goal.at.returns c).Else-not-is_digit) (a_digit (goal.at.returns c).Else-not-is_digit) c.if-self-words.false c.if-value-gt-LARGEST.false
+    byte_digit c.requires c.args.byte c.if-self.false (no_blank (goal.at.returns c).Else-not-is_digit)
+    (a_digit (goal.at.returns c).Else-not-is_digit) c.if-self-words.false c.if-value-gt-LARGEST.false
