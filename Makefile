@@ -10,7 +10,7 @@ VERSION = $(shell sed -n 's/^.define TUBOCHRE_VERSION_[A-Z]* //p' include/tuboch
 # What the proved crates are made into. The archive of the records is installed under a name of the library's own.
 ARCHIVE = target/staticlib/libtubochre.a
 RECORDS = target/staticlib/librecords.a
-LISTING = crates/listing/out/listing
+LISTING = target/bin/listing
 
 # Where the C programs go, and how they are compiled.
 OUT = target/host
@@ -63,10 +63,11 @@ target/staticlib/lib%.a: $(SOURCES)
 	@mkdir -p $(@D)
 	cp crates/$*_c/out/lib$*_c.a $@
 
-# A program is built where it is run; of no input it says that nothing was read.
+# A program is built where it is run, here on no input.
 $(LISTING): $(SOURCES)
-	cd $(@D)/.. && $(RT) run < /dev/null
-	@touch $@
+	cd crates/listing && $(RT) run < /dev/null
+	@mkdir -p $(@D)
+	cp crates/listing/out/listing $@
 
 $(OUT)/tubochre-bench: programs/tubochre_bench.c $(PARTS) $(ARCHIVE)
 $(OUT)/test_header: tests/calls/test_header.c

@@ -5,7 +5,7 @@ set -euo pipefail
 cd "$(dirname "$0")/.."
 archive=${ARCHIVE:-target/staticlib/libtubochre.a}
 records=${RECORDS:-target/staticlib/librecords.a}
-listing=${LISTING:-crates/listing/out/listing}
+listing=${LISTING:-target/bin/listing}
 out=${OUT:-target/host}
 made=(ARCHIVE="$archive" RECORDS="$records" LISTING="$listing")
 

@@ -46,7 +46,8 @@ try_logs() {
     judged nothing "$refused"' ./proofs/Laws.antt:3:5: error: `law`: `rw`: no occurrence of the path'"'"'s left endpoint in the goal'
     judged nothing "$refused"' ./proofs/Laws.antt:3:5: error: `law`: list the missing equation; `cc` met a bound of its own before the equations had joined `a`'
     judged nothing "$refused"' ./proofs/double/Answers.antt:3:5: error: `loop-i-smaller`: expected type `a < b`, but this has type `c < b`'
-    judged nothing "$refused"' ./proofs/double/Answers.antt:3:5: error: `overflow_add-x`: expected type `Fits w32 (a + b)`, but this has type `Fits w32 a`'
+    judged nothing "$refused"' ./proofs/double/Answers.antt:3:5: error: `overflow_add-x`: as printed, the two types differ only where one has `a` (expected)'
+    judged nothing "$refused"' ./proofs/double/Answers.antt:3:5: error: `x_fits`: expected type `Fits w32 (a + b)`, but this has type `Fits w32 a`'
     judged nothing "$refused"' ./proofs/double/Answers.antt:3:5: error: `returns`: something that no log had before'
     echo 'rt: must-fail one/double_y.edit: refused' >"$home/log"
     if "$home/tools/judge_edits.sh" "$home/log" >/dev/null; then wrong 'an edit that was not tried shows something'; fi

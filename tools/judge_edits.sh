@@ -6,13 +6,14 @@
 # An edit shows something only if the checker refuses it for a false fact. rt counts every refusal: also one for a name that is not in
 # scope, for a `rw` that finds nothing to rewrite, or for a measure that no longer falls. So the first error of each edit, which rt
 # prints behind its name, is judged here, by a list of what IS about a fact; a kind of error that is not on the list is never passed
-# over. An edit is good if its first error
+# over. rt cuts a line off behind some 200 characters, so a kind is known by how it begins. An edit is good if its first error
 #
 #   - stands in proofs/, or says of a function that it is not proved to give what it ensures or what it calls asks: an error in src/ or
 #     specs/ means that the edited line itself makes no sense;
 #   - names a goal of its own, and does not miss one that a proof file has a name for;
 #   - is in no goal of the form LOOP-smaller, which asks that a loop ends;
-#   - does not ask that a number fits its word (Fits), which the edited line mostly keeps, and only the proof no longer fits;
+#   - is in no goal of the form overflow_…, which asks that a number fits its word: the edited line mostly keeps that, and only the proof
+#     no longer fits;
 #   - is of one of these kinds:
 #       two types, or the two sides of an equation, differ (what is to be proved, and what the proof proves);
 #       an equation that had to wait for an argument does not hold (rt prints a long error's beginning: of such a one its first term);
@@ -38,7 +39,7 @@ judge() {
             if (text ~ /^note: src\/[a-z_]+\.rt:[0-9:]+ it is not proved that what `[a-z_0-9:]+` requires holds at this call/) return ""
             if (place !~ /^\.\/proofs\//) return "its first error is not in a proof"
             if (name ~ /-smaller(-[0-9]+)?$/) return "its first error is about the end of a loop"
-            if (text ~ /expected type `[^`]*Fits /) return "its first error is about the width of a number"
+            if (name ~ /^overflow_/ || text ~ /expected type `[^`]*Fits /) return "its first error is about the width of a number"
             if (text ~ /^(as printed|computed as far as they go), the two (types|sides) /) return ""
             if (text ~ /^computed as a goal is, one side reads /) return ""
             if (text ~ /^expected type `/) return ""

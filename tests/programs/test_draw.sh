@@ -62,7 +62,7 @@ expect 'a closed output' 1 '' 'draw.py: standard output is closed' sh -c "exec t
 expect 'a closed input' 1 '' 'draw.py: standard input is closed' sh -c "exec tools/draw.py $a <&-"
 help="Draws a pattern and its complement, from the pattern's words and what the listing program prints of it.
 
-    crates/listing/out/listing < PATTERN | tools/draw.py PATTERN > picture.svg
+    target/bin/listing < PATTERN | tools/draw.py PATTERN > picture.svg
 
 States stand in a row. A double ring accepts, an arrow from the left marks an initial state; an edge's label lists its letters.
 For larger automata let \`tubochre-bench --dot\` write a graph, and any viewer of DOT lay it out."

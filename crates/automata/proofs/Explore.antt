@@ -1,4 +1,4 @@
--- Exploring a system finds exactly what docs/RULES.md, "Numbering and result", asks for: `explore-exactly`. Assumes nothing.
+-- Exploring a system finds exactly what docs/RULES.md, "Numbering and result", asks for: `explore_exactly`. Assumes nothing.
 use mathlib.Core.Path.{◌≡◌, refl, sym, ◌∙◌, ap, subst}
 use mathlib.Core.List.{List, [], ◌∷◌, ◌++◌, append_assoc, append-nil}
 use mathlib.Core.Logic.{inl, inr}

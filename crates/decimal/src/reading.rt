@@ -6,7 +6,7 @@ ghost use Rattle.decimal.specs.Reading.{Ready, Became, Fed, between, ended, with
 const LARGEST: u32 = u16::MAX as u32;
 
 // How many numbers have ended; the number under way, zero where none is; whether one is; and whether there was a fault.
-#[derive(Drop)]
+#[derive(Clone, Copy)]
 pub struct Reading {
     pub count: usize,
     pub value: u32,

@@ -8,6 +8,22 @@ use Rattle.sets.proofs.nth_subset.Goals.{then-digits-eq1, else-digits-eq1}
 pub loop-members-init : goal.loop-members-init
 loop-members-init c = (c.ranges.set.fits, omega arith)
 
+pub loop-members-preserved : goal.loop-members-preserved
+loop-members-preserved c =
+    let at = c.loop-members in
+    let args = c.args in
+    let n = c.loop-members-test.true in (
+      clear_lt set_states at.members at.invariant.0,
+      elim c.if-digits-eq1.branch [
+        | then-digits-eq1 w ↦
+            take_turn set_states at.members at.digits at.part args.set args.choice at.invariant.0 n at.invariant.1
+            c.if-digits-eq1.part w.if-digits-eq1.true w.part-is
+        | else-digits-eq1 w ↦
+            leave_turn set_states at.members at.digits at.part args.set args.choice at.invariant.0 n at.invariant.1
+            c.if-digits-eq1.part w.if-digits-eq1.false w.part-is
+      ],
+    )
+
 pub overflow_shl-part : goal.overflow_shl-part
 overflow_shl-part c =
     lowest_lt set_states c.loop-members.members c.loop-members.invariant.0 c.loop-members-test.true
@@ -25,22 +41,6 @@ overflow_add-part c =
 pub loop-members-smaller : goal.loop-members-smaller
 loop-members-smaller c =
     clear_less set_states c.loop-members.members c.loop-members.invariant.0 c.loop-members-test.true
-
-pub loop-members-preserved : goal.loop-members-preserved
-loop-members-preserved c =
-    let at = c.loop-members in
-    let args = c.args in
-    let n = c.loop-members-test.true in (
-      clear_lt set_states at.members at.invariant.0,
-      elim c.if-digits-eq1.branch [
-        | then-digits-eq1 w ↦
-            take_turn set_states at.members at.digits at.part args.set args.choice at.invariant.0 n at.invariant.1
-            c.if-digits-eq1.part w.if-digits-eq1.true w.part-is
-        | else-digits-eq1 w ↦
-            leave_turn set_states at.members at.digits at.part args.set args.choice at.invariant.0 n at.invariant.1
-            c.if-digits-eq1.part w.if-digits-eq1.false w.part-is
-      ],
-    )
 
 pub returns : goal.returns
 unfolding nth_subset
