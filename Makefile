@@ -65,7 +65,7 @@ target/staticlib/lib%.a: $(SOURCES)
 
 # A program is built where it is run, here on no input.
 $(LISTING): $(SOURCES)
-	cd crates/listing && $(RT) run < /dev/null
+	cd crates/listing && $(RT) run < /dev/null > /dev/null
 	@mkdir -p $(@D)
 	cp crates/listing/out/listing $@
 
