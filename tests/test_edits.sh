@@ -48,6 +48,7 @@ try_logs() {
     judged nothing "$refused"' ./proofs/double/Answers.antt:3:5: error: `loop-i-smaller`: expected type `a < b`, but this has type `c < b`'
     judged nothing "$refused"' ./proofs/double/Answers.antt:3:5: error: `overflow_add-x`: as printed, the two types differ only where one has `a` (expected)'
     judged nothing "$refused"' ./proofs/double/Answers.antt:3:5: error: `x_fits`: expected type `Fits w32 (a + b)`, but this has type `Fits w32 a`'
+    judged nothing "$refused"' ./proofs/double/Answers.antt:3:5: error: `loop-i-init`: expected type `a < 2 ^ 32`, but this has type `b < 2 ^ 32`'
     judged nothing "$refused"' ./proofs/double/Answers.antt:3:5: error: `returns`: something that no log had before'
     echo 'rt: must-fail one/double_y.edit: refused' >"$home/log"
     if "$home/tools/judge_edits.sh" "$home/log" >/dev/null; then wrong 'an edit that was not tried shows something'; fi

@@ -12,8 +12,8 @@
 #     specs/ means that the edited line itself makes no sense;
 #   - names a goal of its own, and does not miss one that a proof file has a name for;
 #   - is in no goal of the form LOOP-smaller, which asks that a loop ends;
-#   - is in no goal of the form overflow_…, which asks that a number fits its word: the edited line mostly keeps that, and only the proof
-#     no longer fits;
+#   - does not ask that a number fits its word (a goal of the form overflow_…) or is below a power of 2, as a set of so many states is:
+#     the edited line mostly keeps that, and only the proof no longer fits;
 #   - is of one of these kinds:
 #       two types, or the two sides of an equation, differ (what is to be proved, and what the proof proves);
 #       an equation that had to wait for an argument does not hold (rt prints a long error's beginning: of such a one its first term);
@@ -39,7 +39,7 @@ judge() {
             if (text ~ /^note: src\/[a-z_]+\.rt:[0-9:]+ it is not proved that what `[a-z_0-9:]+` requires holds at this call/) return ""
             if (place !~ /^\.\/proofs\//) return "its first error is not in a proof"
             if (name ~ /-smaller(-[0-9]+)?$/) return "its first error is about the end of a loop"
-            if (name ~ /^overflow_/ || text ~ /expected type `[^`]*Fits /) return "its first error is about the width of a number"
+            if (name ~ /^overflow_/ || text ~ /expected type `[^`]*(Fits |(<|≤|◌<◌|◌≤◌) [^`]*2 \^ )/) return "its first error is about the width of a number"
             if (text ~ /^(as printed|computed as far as they go), the two (types|sides) /) return ""
             if (text ~ /^computed as a goal is, one side reads /) return ""
             if (text ~ /^expected type `/) return ""
