@@ -1,29 +1,35 @@
 -- Laws of filling a buffer, word by word from the front, and of clearing one: that only its length matters, what zero words are, and
 -- clearing a part. Assumes nothing.
 use mathlib.Core.Path.{◌≡◌, refl, sym, ap, ◌∙◌}
-use mathlib.Core.List.{List, ◌++◌, append-nil}
+use mathlib.Core.List.{List, [], ◌∷◌, ◌++◌, append-nil}
+use Rattle.std.proofs.Common.{add-one}
 use Prim.Native.Nat.{ℕ, zero, suc, ◌+◌, ◌-◌, ◌≤◌, ◌<◌}
 use native.Mathlib.Omega.{arith}
-use borrow.Author.Fill.{fill_none, fill_more}
 use borrow.Rule.Slice.PartMut.{put_mid, mid_len, drop_put}
 use lib.ListN.{length, get_or, set, take, drop, replicate, length-replicate, length-drop, length-set, drop_of_length-le, get_or-append}
 use lib.Seq.{length-take-le, get_or-drop, get_or-append-add}
 use Rattle.basics.specs.Buffers.{zeros}
 
--- the first i words are the value, and the others as they were
-pub record Filling (a : ℕ) (w w_now : List ℕ) (i : ℕ) : Type 0 where
+-- one more item is the value
+fill_more : {A : Type 0} → (n : ℕ) (v : A) (d : List A) → n < length d → set (replicate n v ++ drop n d) n v ≡ replicate (suc n) v ++ drop (suc n) d
+fill_more n v [] l = absurd (omega arith)
+fill_more zero v (x ∷ d) l = refl
+fill_more (suc n) v (x ∷ d) l = ap (λ r. v ∷ r) (fill_more n v d (omega arith))
+
+-- the first i items are the value, and the others as they were
+pub record Filling {A : Type 0} (a : A) (w w_now : List A) (i : ℕ) : Type 0 where
   pub upto : i ≤ length w
   pub same : length w_now ≡ length w
   pub is : w_now ≡ replicate i a ++ drop i w
 
-pub filling_start : (a : ℕ) (w : List ℕ) → Filling a w w 0
-filling_start a w = record { upto = omega arith; same = refl; is = fill_none w a }
+pub filling_start : {A : Type 0} (a : A) (w : List A) → Filling a w w 0
+filling_start a w = record { upto = omega arith; same = refl; is = refl }
 
-module _ {a : ℕ} {w w1 : List ℕ} {i : ℕ} (h : Filling a w w1 i) where
+module _ {A : Type 0} {a : A} {w w1 : List A} {i : ℕ} (h : Filling a w w1 i) where
   pub filling_turn : i < length w1 → Filling a w (set w1 i a) (i + 1)
   filling_turn l =
       let b : i < length w = omega arith in
-      record { upto = omega arith; same = length-set w1 i a ∙ h.same; is = rw h.is (fill_more i a w b) }
+      record { upto = omega arith; same = length-set w1 i a ∙ h.same; is = rw (h.is, add-one) (fill_more i a w b) }
 
   pub filling_end : length w1 ≤ i → w1 ≡ replicate (length w) a
   filling_end l =

@@ -11,6 +11,7 @@ pub mod Lists
 pub mod Overwriting
 pub mod Packed
 pub mod Radix
+pub mod Refusals
 pub mod Refusing
 pub mod Rows
 pub mod Scans

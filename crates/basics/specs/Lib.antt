@@ -3,6 +3,7 @@ pub mod Buffers
 pub mod Joined
 pub mod Least
 pub mod Packed
+pub mod Refusals
 pub mod Rows
 pub mod Star
 pub mod Tabulate

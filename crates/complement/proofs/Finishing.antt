@@ -7,6 +7,7 @@ use Prim.Native.Nat.{ℕ, suc, ◌+◌, ◌*◌, ◌≤◌, ◌<◌}
 use native.Mathlib.Omega.{arith}
 use lib.ListN.{length, get_or, get_or-eq_default}
 use lib.Seq.{take_all, take-length}
+use Rattle.std.proofs.Common.{Ok}
 use Rattle.basics.specs.Buffers.{filled}
 use Rattle.basics.proofs.Booleans.{lt_ltb}
 use Rattle.basics.proofs.Rows.{items_at, items_rows}
@@ -14,20 +15,19 @@ use Rattle.basics.proofs.Tabulate.{tabulate_same, tabulate_items}
 use Rattle.automata.specs.System.{an_edge, edge_at, state_at, numbered}
 use Rattle.tables.specs.Table.{Limits, table_words, RangeFits}
 use Rattle.ncsb.specs.Successors.{initials, ncsb}
-use Rattle.patterns.specs.Check.{no_place}
-use Rattle.patterns.specs.declared.Shape.{Shape}
+use Rattle.ncsb.specs.declared.Shape.{Shape}
 use Rattle.layout.specs.Chained.{flags_word, chained_words}
 use Rattle.layout.specs.Steps.{LayOutAsks}
 use Rattle.layout.specs.Triples.{triple_at, triples_of, plain}
 use Rattle.layout.proofs.Indexed.{flagging_end}
 use Rattle.record_words.specs.Record.{record_words, words_of, all_words}
 use Rattle.record_words.proofs.Laws.{all_length, full_words}
-use Rattle.complement.specs.Build.{Lent, lent, too_long, BuildSays}
+use Rattle.complement.specs.Build.{Lent, lent, too_long}
 use Rattle.complement.specs.Complement.{system_of, complement, complement_automaton, complement_words, sets_words}
 use Rattle.complement.specs.Flags.{state_flags, with_flags, record_accepts, FlagsAsk}
-use Rattle.complement.specs.Found.{Begins, quadruples, triple, triples, edge_room, counted_to, Shows, start_moves, ReadOff}
+use Rattle.complement.specs.Found.{Begins, quadruples, triple, triples, edge_room, counted_to, Shows, start_moves, ReadOff, Tried}
 use Rattle.complement.specs.declared.explore.Progress.{Progress}
-use Rattle.complement.proofs.Answers.{length_refuses, says_built, short_enough}
+use Rattle.complement.proofs.Answers.{length_refuses, tried_built, short_enough}
 use Rattle.complement.proofs.Flagged.{flags_flagging}
 use Rattle.complement.proofs.Kept.{kept_at, shows_room, shows_limit, triple_length, triples_length}
 use Rattle.complement.proofs.Numbering.{letters_all, letters_few, starts_same}
@@ -188,12 +188,12 @@ module _
     pub built_flags : FlagsAsk (lent w1 l.sets) p.states
     built_flags = flags_ask read h enough laid size
 
-    pub built_says :
+    pub built_tried :
         {k : ℕ} {v : List ℕ} (lends : Lent) → SameSizes l lends → k ≡ length (initials (start_moves shape)) →
         v ≡ with_flags (record_accepts l.sets) k p.states w1 →
-        BuildSays limits t (record { number = 0; states = p.states; edges = p.edges; place = no_place }) lends (lent v l.sets)
-    built_says lends sizes e f =
+        Tried limits t (Ok (record { states = p.states; edges = p.edges })) lends (lent v l.sets)
+    built_tried lends sizes e f =
         let states = h.states.counted in
         let edges = all_edges read h enough in
-        says_built (length_refuses limits t lends read.passed h sizes tested short) (rw (states, edges) refl)
+        tried_built (length_refuses limits t lends read.passed h sizes tested short) states edges
         (words_built read h enough laid size lends.words e f sizes.words) (sets_built read h lends.sets sizes.sets)

@@ -2,7 +2,8 @@
 use mathlib.Core.Path.{◌≡◌, sym, ◌∙◌}
 use mathlib.Core.Bool.{Bool, true, false}
 use mathlib.Core.List.{List}
-use Prim.Native.Nat.{ℕ, suc, ◌^◌, ◌≤◌, ◌<◌}
+use Rattle.std.proofs.Common.{Some, None}
+use Prim.Native.Nat.{ℕ, suc, ◌^◌, ◌<◌}
 use native.Mathlib.Omega.{arith}
 use lib.ListN.{length, get_or}
 use Rattle.basics.specs.Tabulate.{tabulate}
@@ -17,11 +18,10 @@ use Rattle.ncsb.specs.declared.Asked.{Asked}
 use Rattle.ncsb.specs.declared.Quadruple.{Quadruple}
 use Rattle.ncsb.proofs.Choices.{blocked_same, choices_count, choice_successor}
 use Rattle.ncsb.proofs.Successors.{successors_none}
-use Rattle.patterns.specs.declared.Shape.{Shape}
-use Rattle.complement.specs.Build.{Lent}
-use Rattle.complement.specs.Found.{quadruples, within, Turns, array_moves}
-use Rattle.complement.specs.declared.explore.Progress.{Progress}
-use Rattle.complement.proofs.Reaching.{Reaching, reach_full, reach_end}
+use Rattle.ncsb.specs.declared.Shape.{Shape}
+use Rattle.complement.specs.Found.{quadruples, Turns, array_moves}
+use Rattle.complement.specs.declared.explore.Growth.{Growth}
+use Rattle.complement.proofs.Reaching.{same_self, Reaching, reach_full, reach_end}
 
 module _
     (limits : Limits) (m : List (List ℕ)) (shape : Shape) (x : Quadruple) (i c : ℕ) {asked : Asked} {stopped : Bool}
@@ -33,13 +33,13 @@ module _
 
   -- a blocked step has no successor
   pub letter_blocked :
-      {l : Lent} {p : Progress} → stopped ≡ true →
-      Turns (quadruples limits) (add_all same i c (successors (array_moves m shape) x c)) l p l p
+      {g : Growth} → stopped ≡ true →
+      Turns (quadruples limits) (add_all same i c (successors (array_moves m shape) x c)) g g (Some tt)
   unfolding add_all array_moves
   letter_blocked e =
       record {
-        from = λ b shows.
-            rw (successors_none (from_array m 0 shape.marks shape.inner) x c (sym stops ∙ e)) (within shows);
+        same = same_self;
+        from = λ b shows. rw (successors_none (from_array m 0 shape.marks shape.inner) x c (sym stops ∙ e)) shows;
       }
 
   module _ (goes : stopped ≡ false) {choices : ℕ} (counted : choices ≡ 2 ^ size set_states asked.free) where
@@ -61,18 +61,17 @@ module _
 
     -- so many choices were met: one more does not fit, or it was the last
     module _
-        {l₀ l : Lent} {p₀ p : Progress} {k : ℕ}
-        (h : Reaching (quadruples limits) (λ n. add_all same i c (tabulate n (nth_successor x asked))) l₀ p₀ l p k) where
+        {g₀ g : Growth} {k : ℕ}
+        (h : Reaching (quadruples limits) (λ n. add_all same i c (tabulate n (nth_successor x asked))) g₀ g k) where
       pub letter_full :
-          {l' : Lent} {p' : Progress} {z : Quadruple} → z ≡ nth_successor x asked k →
-          Turns (quadruples limits) (add_edge same i c z) l p l' p' → k < choices → p'.full ≡ true →
-          Turns (quadruples limits) (add_all same i c (successors (array_moves m shape) x c)) l₀ p₀ l' p'
-      letter_full e turn more full =
+          {g' : Growth} {z : Quadruple} → z ≡ nth_successor x asked k →
+          Turns (quadruples limits) (add_edge same i c z) g g' None → k < choices →
+          Turns (quadruples limits) (add_all same i c (successors (array_moves m shape) x c)) g₀ g' None
+      letter_full e turn more =
           rw each_choice at
-          (reach_full h (rw e at turn) (add_all_more same (nth_successor x asked) i c k) choices
-          (λ b. grows_more same (nth_successor x asked) i c (suc k) choices b more) full)
+          (reach_full h (add_all_more same (nth_successor x asked) i c k) (rw e at turn) choices
+          (λ b. grows_more same (nth_successor x asked) i c (suc k) choices b more))
 
       pub letter_end :
-          k ≤ choices → choices ≤ k →
-          Turns (quadruples limits) (add_all same i c (successors (array_moves m shape) x c)) l₀ p₀ l p
-      letter_end few most = rw each_choice at (reach_end h choices few most)
+          k ≡ choices → Turns (quadruples limits) (add_all same i c (successors (array_moves m shape) x c)) g₀ g (Some tt)
+      letter_end e = rw each_choice at (reach_end h choices e)

@@ -3,7 +3,6 @@ pub mod Finishing
 pub mod Flagged
 pub mod Kept
 pub mod Letters
-pub mod Lookup
 pub mod Meeting
 pub mod Numbering
 pub mod Reaching

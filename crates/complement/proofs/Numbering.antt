@@ -1,7 +1,7 @@
 -- Exploring in number order within the room: the buffers keep what was found so far of the complement, until all of it is found or there are more
 -- states than fit. Assumes nothing.
-use mathlib.Core.Path.{◌≡◌, refl, sym, ◌∙◌, ap}
-use mathlib.Core.Bool.{true, false}
+use mathlib.Core.Path.{◌≡◌, refl, sym, ◌∙◌, ap, subst}
+use Rattle.std.proofs.Common.{Some, None}
 use mathlib.Core.List.{List, []}
 use Prim.Native.Nat.{ℕ, suc, ◌+◌, ◌≤◌, ◌<◌}
 use native.Mathlib.Numerals.{add-one}
@@ -24,23 +24,22 @@ use Rattle.patterns.specs.Check.{check_refusal}
 use Rattle.patterns.specs.Masks.{masks_of}
 use Rattle.patterns.specs.Pattern.{moves}
 use Rattle.patterns.specs.Shape.{shape_of}
-use Rattle.patterns.specs.declared.Shape.{Shape}
+use Rattle.ncsb.specs.declared.Shape.{Shape}
 use Rattle.patterns.proofs.Masks.{pattern_fits, mask_move}
 use Rattle.patterns.proofs.Passed.{checked_table, checked_split}
 use Rattle.record_words.specs.Record.{quadruple_at}
-use Rattle.complement.specs.Build.{Lent}
 use Rattle.complement.specs.Complement.{system_of, complement}
-use Rattle.complement.specs.Found.{Begins, quadruples, Shows, Ends, within, Turns, ExpandAsks, array_moves, start_moves, Started}
-use Rattle.complement.specs.declared.explore.Progress.{Progress}
+use Rattle.complement.specs.Found.{Begins, quadruples, StatesKept, Shows, held, Turns, ExpandAsks, array_moves, start_moves}
+use Rattle.complement.specs.declared.explore.Growth.{Growth}
 use Rattle.complement.proofs.Kept.{kept_at}
-use Rattle.complement.proofs.Reaching.{ends_within, ends_grown}
+use Rattle.complement.proofs.Reaching.{over_grown}
 use Rattle.complement.proofs.Second.{system_decides, few_quadruples, starts_apart}
-use Rattle.complement.proofs.Starting.{started_ends}
+use Rattle.complement.proofs.Starting.{started_shows}
 
 -- so many states are expanded
-pub record Exploring (limits : Limits) (t : List ℕ) (l : Lent) (p : Progress) (i : ℕ) : Type 0 where
+pub record Exploring (limits : Limits) (t : List ℕ) (g : Growth) (i : ℕ) : Type 0 where
   pub built : Built Quadruple
-  pub shows : Shows (quadruples limits) built l p
+  pub shows : Shows (quadruples limits) built (held g) g.found
   pub at : AtState (system_of t) (bound (moves (meaning t))) i built
 
 module _ (t : List ℕ) (passed : check_refusal t ≡ 0) where
@@ -85,34 +84,32 @@ module _ (t : List ℕ) (passed : check_refusal t ≡ 0) where
     begins_with =
         ap (λ (xs : List Quadruple). built xs []) starts_same ∙ sym (begin_is (system_of t) (system_decides t) (starts_apart t passed))
 
-    pub begin_full :
-        {limits : Limits} {l : Lent} {p : Progress} → Begins [] l.words → Started limits shape l.sets p → p.full ≡ true →
-        Ends (quadruples limits) (complement t) l p
-    unfolding complement explore
-    begin_full {limits} {l} {p} clear h full =
-        let ends : Ends (quadruples limits) (begin (system_of t)) l p = rw begins_with at (started_ends clear h) in
-        ends_grown full (grows_explore (system_of t) (bound (moves (meaning t))) 0 (begin (system_of t))) ends
+    pub begin_full : {room : ℕ} → room < length (initials (start_moves shape)) → room < length (complement t).states
+    unfolding complement explore built
+    begin_full {room} over =
+        let many : room < length (begin (system_of t)).states =
+        subst (λ (b : Built Quadruple). room < length b.states) begins_with over in
+        over_grown (grows_explore (system_of t) (bound (moves (meaning t))) 0 (begin (system_of t))) many
 
     pub begin_within :
-        {limits : Limits} {l : Lent} {p : Progress} → Begins [] l.words → Started limits shape l.sets p → p.full ≡ false →
-        Exploring limits t l p 0
+        {limits : Limits} {g : Growth} → Begins [] g.words.now →
+        StatesKept (quadruples limits) (initials (start_moves shape)) g.sets.now g.found.states → g.found.edges ≡ 0 → Exploring limits t g 0
     unfolding system_of
-    begin_within {limits} {l} {p} clear h left =
-        let ends : Ends (quadruples limits) (begin (system_of t)) l p = rw begins_with at (started_ends clear h) in
+    begin_within {limits} {g} clear h none =
         record {
           built = begin (system_of t);
-          shows = ends_within left ends;
+          shows = rw (← begins_with, none) (started_shows shape clear h);
           at = state_begin (system_of t) (system_decides t) (few_quadruples t passed) (starts_apart t passed);
         }
 
-    module _ {limits : Limits} {l : Lent} {p : Progress} {i : ℕ} (h : Exploring limits t l p i) (inside : i < p.states) where
-      pub expand_asks : ExpandAsks (quadruples limits) l p i shape.letters
+    module _ {limits : Limits} {g : Growth} {i : ℕ} (h : Exploring limits t g i) (inside : i < g.found.states) where
+      pub expand_asks : ExpandAsks (quadruples limits) g i shape.letters
       expand_asks = record { built = h.built; shows = h.shows; inside = inside; letters_inside = letters_few }
 
       listed : i < length h.built.states
       listed = let e = h.shows.states.counted in let m = inside in omega arith
 
-      at_state : quadruple_at l.sets i ≡ state_at (system_of t) h.built.states i
+      at_state : quadruple_at g.sets.now i ≡ state_at (system_of t) h.built.states i
       unfolding state_at system_of ncsb
       at_state = kept_at h.shows.states i inside
 
@@ -134,7 +131,7 @@ module _ (t : List ℕ) (passed : check_refusal t ≡ 0) where
       nexts c = successors_same (checked_split t passed).0 widens (state_at (system_of t) h.built.states i) small c
 
       -- a state's edges by the code are its edges in the complement
-      expands : by_letters (ncsb (array_moves masks shape)) shape.letters i (quadruple_at l.sets i) h.built ≡ expand (system_of t) i h.built
+      expands : by_letters (ncsb (array_moves masks shape)) shape.letters i (quadruple_at g.sets.now i) h.built ≡ expand (system_of t) i h.built
       unfolding expand array_moves
       expands =
           rw (at_state, letters_all)
@@ -145,26 +142,28 @@ module _ (t : List ℕ) (passed : check_refusal t ≡ 0) where
       unfolding system_of
       next = state_step (system_of t) (system_decides t) (few_quadruples t passed) listed h.at
 
-      module _
-          {l' : Lent} {p' : Progress}
-          (turn : Turns (quadruples limits) (by_letters (ncsb (array_moves masks shape)) shape.letters i (quadruple_at l.sets i)) l p l' p') where
-        pub expand_full : p'.full ≡ true → Ends (quadruples limits) (complement t) l' p'
+      module _ {g' : Growth} where
+        pub expand_full :
+            Turns (quadruples limits) (by_letters (ncsb (array_moves masks shape)) shape.letters i (quadruple_at g.sets.now i)) g g' None →
+            (quadruples limits).capacity g'.sets.now < length (complement t).states
         unfolding complement
-        expand_full full =
-            let ends : Ends (quadruples limits) (expand (system_of t) i h.built) l' p' = rw expands at (turn.from h.built h.shows) in
-            ends_grown full (state_grows (system_of t) (system_decides t) (few_quadruples t passed) next) ends
+        expand_full turn =
+            over_grown (state_grows (system_of t) (system_decides t) (few_quadruples t passed) next)
+            (rw expands at (turn.from h.built h.shows))
 
-        pub expand_turn : p'.full ≡ false → Exploring limits t l' p' (i + 1)
-        expand_turn left =
-            let ends : Ends (quadruples limits) (expand (system_of t) i h.built) l' p' = rw expands at (turn.from h.built h.shows) in
-            rw add-one (record { built = expand (system_of t) i h.built; shows = ends_within left ends; at = next })
+        pub expand_turn :
+            Turns (quadruples limits) (by_letters (ncsb (array_moves masks shape)) shape.letters i (quadruple_at g.sets.now i)) g g'
+            (Some tt) →
+            Exploring limits t g' (i + 1)
+        expand_turn turn =
+            rw add-one (record { built = expand (system_of t) i h.built; shows = rw expands at (turn.from h.built h.shows); at = next })
 
   pub explore_end :
-      {limits : Limits} {l : Lent} {p : Progress} {i : ℕ} → Exploring limits t l p i → p.states ≤ i →
-      Ends (quadruples limits) (complement t) l p
+      {limits : Limits} {g : Growth} {i : ℕ} → Exploring limits t g i → g.found.states ≤ i →
+      Shows (quadruples limits) (complement t) (held g) g.found
   unfolding system_of complement
   explore_end h all_done =
       let e = h.shows.states.counted in
       let all : h.built ≡ complement t =
       state_end (system_of t) (system_decides t) (few_quadruples t passed) (omega arith) h.at in
-      within (rw all at h.shows)
+      rw all at h.shows

@@ -23,9 +23,10 @@ use Rattle.ncsb.specs.Successors.{ncsb, initial_free}
 use Rattle.ncsb.proofs.Bound.{few_reached}
 use Rattle.ncsb.proofs.Initials.{initials_length}
 use Rattle.ncsb.proofs.Reached.{decides, initials_apart}
-use Rattle.patterns.specs.Check.{check_refusal, no_place, check_place}
+use Rattle.basics.specs.Refusals.{no_place}
+use Rattle.patterns.specs.Check.{check_refusal, check_place}
 use Rattle.patterns.specs.Pattern.{moves}
-use Rattle.patterns.specs.declared.Place.{Place}
+use Rattle.basics.specs.declared.Place.{Place}
 use Rattle.patterns.proofs.Answers.{passed_no_place}
 use Rattle.patterns.proofs.Passed.{checked_table, checked_split}
 use Rattle.layout.specs.Orderly.{Orderly, HasEdges}
@@ -117,7 +118,7 @@ unfolding sets_words
 sets_length t = rows_long (length (complement t).states) (λ i. state_at (system_of t) (complement t).states i)
 
 -- WHAT A BUILD SAYS, and an accepted one
-counts_number : (number : ℕ) (p : Place) (n m : ℕ) → (as_counts number p n m).number ≡ number
+pub counts_number : (number : ℕ) (p : Place) (n m : ℕ) → (as_counts number p n m).number ≡ number
 unfolding as_counts
 counts_number zero p n m = refl
 counts_number (suc r) p n m = refl

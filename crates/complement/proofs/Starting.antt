@@ -1,6 +1,5 @@
 -- Storing the initial quadruples by rising choice. Assumes nothing.
 use mathlib.Core.Path.{◌≡◌, refl, sym, ◌∙◌, ap}
-use mathlib.Core.Bool.{false}
 use mathlib.Core.List.{List, [], ◌∷◌, ◌++◌, flat_map}
 use Prim.Native.Nat.{ℕ, suc, ◌+◌, ◌^◌, ◌≤◌, ◌<◌}
 use native.Mathlib.Numerals.{add-one}
@@ -16,12 +15,11 @@ use Rattle.ncsb.specs.Array.{from_array, nth_initial}
 use Rattle.ncsb.specs.Successors.{quadruple, initial_free, initials}
 use Rattle.ncsb.specs.declared.Quadruple.{Quadruple}
 use Rattle.ncsb.proofs.Choices.{choices_fit, initials_count, choice_initial}
-use Rattle.patterns.specs.declared.Shape.{Shape}
+use Rattle.ncsb.specs.declared.Shape.{Shape}
 use Rattle.record_words.specs.Record.{full_records, with_quadruple}
 use Rattle.complement.specs.Build.{Lent}
 use Rattle.complement.specs.Records.{capacity}
-use Rattle.complement.specs.Found.{Begins, quadruples, StatesKept, triples, edge_room, Ends, within, beyond, overfull, start_moves, Started, started, too_many}
-use Rattle.complement.specs.declared.explore.Progress.{Progress}
+use Rattle.complement.specs.Found.{Begins, quadruples, StatesKept, triples, edge_room, Shows, start_moves}
 use Rattle.complement.proofs.Kept.{capacity_full, capacity_kept, kept_more}
 
 module _ (shape : Shape) where
@@ -57,8 +55,9 @@ module _ (limits : Limits) (shape : Shape) where
     start_fits j l = let h = start_few shape in let e = counted in omega arith
 
     -- they do not fit
-    pub start_full : {s : List ℕ} {p : Progress} {room : ℕ} → room ≡ capacity limits s → room < choices → p ≡ overfull → Started limits shape s p
-    start_full e l full = let n = counted in too_many full (omega arith)
+    pub start_full :
+        (s : List ℕ) {room : ℕ} → room ≡ capacity limits s → room < choices → capacity limits s < length (initials (start_moves shape))
+    start_full s e l = let n = counted in omega arith
 
     pub store_start : {s : List ℕ} → Begins [] s → Storing s s 0
     unfolding flat_map
@@ -97,13 +96,11 @@ module _ (limits : Limits) (shape : Shape) where
           }
 
     pub store_end :
-        {s₀ s : List ℕ} {k : ℕ} {p : Progress} → Storing s₀ s k → k ≤ choices → choices ≤ k → p.full ≡ false → p.edges ≡ 0 → p.states ≡ choices →
-        Started limits shape s p
-    store_end {s₀} {s} {k} {p} h l g left none e =
+        {s₀ s : List ℕ} {k : ℕ} → Storing s₀ s k → k ≡ choices →
+        StatesKept (quadruples limits) (initials (start_moves shape)) s choices
+    store_end {s} {k} h e =
         let xs = initials (start_moves shape) in
-        let count = counted in
-        let whole : StatesKept (quadruples limits) xs s k = rw (take_all k xs (omega arith)) at h.kept in
-        let states : p.states ≡ k = omega arith in started left none (rw states whole)
+        let count = counted in rw (← e) (rw (take_all k xs (omega arith)) at h.kept)
 
 -- no edge is kept in words that are zero
 no_edges : (limits : Limits) (w : List ℕ) → Begins [] w → Begins (0 ∷ 0 ∷ 0 ∷ triples (take (edge_room limits w) [])) w
@@ -111,10 +108,10 @@ unfolding flat_map
 no_edges limits w h = rw (take-nil (edge_room limits w)) (record { at = λ i. h.at i ∙ sym (zeros_at 3 i) })
 
 -- what is kept of the initial states is kept of the beginning
-pub started_ends :
-    {limits : Limits} {shape : Shape} {l : Lent} {p : Progress} → Begins [] l.words → Started limits shape l.sets p →
-    Ends (quadruples limits) (built (initials (start_moves shape)) []) l p
+pub started_shows :
+    {limits : Limits} (shape : Shape) {l : Lent} {n : ℕ} → Begins [] l.words →
+    StatesKept (quadruples limits) (initials (start_moves shape)) l.sets n →
+    Shows (quadruples limits) (built (initials (start_moves shape)) []) l (record { states = n; edges = 0 })
 unfolding built
-started_ends {limits} {l} h (started left none kept) =
-    within (record { not_full = left; states = kept; edges = record { counted = omega arith; begins = no_edges limits l.words h } })
-started_ends h (too_many full m) = beyond full m
+started_shows {limits} shape {l} h kept =
+    record { states = kept; edges = record { counted = omega arith; begins = no_edges limits l.words h } }

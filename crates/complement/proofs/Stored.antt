@@ -6,13 +6,13 @@ use Prim.Native.Nat.{ℕ, suc, ◌+◌, ◌*◌, ◌≤◌, ◌<◌}
 use native.Mathlib.Numerals.{add-one, add-two}
 use native.Mathlib.Omega.{arith}
 use lib.Dec.{eqb, ltb}
-use lib.ListN.{length, get_or, set, length-append, length-set, get_or-append, get_or-eq_default}
+use lib.ListN.{length, replicate, get_or, set, length-append, length-set, get_or-append, get_or-eq_default}
 use lib.Seq.{sets, get_or-set_same, get_or-set_other, get_or-append_seam, append_snoc, ext_get_or}
-use Rattle.basics.specs.Buffers.{zeros, filled}
-use Rattle.basics.proofs.Booleans.{either, eqb_eq, eqb_ne, ltb_lt, ltb_ge, lt_ltb, ge_ltb}
+use Rattle.basics.specs.Buffers.{filled}
+use Rattle.basics.proofs.Booleans.{either, eqb_eq, eqb_ne, ltb_lt, ltb_ge, lt_ltb}
 use Rattle.basics.proofs.Clears.{zeros_at}
 use Rattle.basics.proofs.Filled.{filled_length, filled_at}
-use Rattle.automata.specs.System.{Edge, an_edge}
+use Rattle.automata.specs.System.{an_edge}
 use Rattle.tables.specs.Table.{Limits}
 use Rattle.complement.specs.Found.{Begins, triple, edge_room, counted_to, with_edge, one_more}
 
@@ -51,31 +51,17 @@ pub begins_filled : {new w : List ℕ} → length new ≤ length w → Begins ne
 begins_filled {new} {w} l h =
     ext_get_or 0 w (filled new w) (sym (filled_length new w l)) (λ i m. h.at i ∙ sym (filled_at new w i))
 
-pub begins_zeros : (w : List ℕ) → Begins [] (zeros w)
-unfolding zeros
+pub begins_zeros : (w : List ℕ) → Begins [] (replicate (length w) 0)
 begins_zeros w = record { at = zeros_at (length w) }
 
 -- EDGES behind so many others
 module _ (limits : Limits) (w : List ℕ) (m : ℕ) where
-  -- beyond the room for them nothing is written
-  pub edge_past : (e : Edge) → limits.records ≤ m → w ≡ with_edge limits w m e
-  unfolding with_edge edge_room
-  edge_past e l = let out : edge_room limits w ≤ m = omega arith in rw (ge_ltb out) refl
-
-  pub edge_long : (e : Edge) → length w < 3 + 3 * m + 3 → w ≡ with_edge limits w m e
-  unfolding with_edge edge_room
-  edge_long e l = let out : edge_room limits w ≤ m = omega arith in rw (ge_ltb out) refl
-
   pub edge_stored :
       (i c j : ℕ) → m < limits.records → 3 + 3 * m + 3 ≤ length w →
       set (set (set w (3 + 3 * m) c) (3 + 3 * m + 1) j) (3 + 3 * m + 2) i ≡ with_edge limits w m (an_edge i c j)
   unfolding with_edge edge_room triple an_edge
   edge_stored i c j l fits =
       let inside : m < edge_room limits w = omega arith in rw (lt_ltb inside, add-one (3 + 3 * m), add-two (3 + 3 * m)) refl
-
-pub count_stops : (limits : Limits) (m : ℕ) → limits.records ≤ m → limits.records + 1 ≡ one_more limits m
-unfolding one_more counted_to
-count_stops limits m l = omega arith
 
 pub count_more : (limits : Limits) (m : ℕ) → m < limits.records → m + 1 ≡ one_more limits m
 unfolding one_more counted_to

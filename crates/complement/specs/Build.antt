@@ -1,12 +1,15 @@
 -- What the build refuses, answers and leaves (docs/RULES.md, "Refusals": the build uses 2 to 12). Assumes nothing: these are definitions.
-use Rattle.std.specs.Prelude.{◌≡◌, Bool, ◌||◌, cond, List, ℕ, zero, suc, ◌*◌, ltb, length, take}
-use Rattle.basics.specs.Buffers.{or_else, zeros, after_call}
+use Rattle.std.specs.Prelude.{◌≡◌, Bool, ◌||◌, cond, List, ℕ, zero, suc, ◌*◌, ltb, length, take, Result, Ok, Err}
+use Rattle.basics.specs.Buffers.{or_else, after_call}
+use Rattle.basics.specs.Refusals.{number, no_place, place_of}
+use Rattle.basics.specs.declared.Refusal.{Refusal}
 use Rattle.tables.specs.Table.{Limits, table_words}
-use Rattle.patterns.specs.Check.{check_refusal, no_place, check_place}
-use Rattle.patterns.specs.declared.Place.{Place}
+use Rattle.patterns.specs.Check.{check_refusal, check_place}
+use Rattle.basics.specs.declared.Place.{Place}
 use Rattle.record_words.specs.Record.{record_words, full_records}
 use Rattle.complement.specs.Complement.{complement, complement_words, sets_words}
 use Rattle.complement.specs.declared.Counts.{Counts}
+use Rattle.complement.specs.declared.Size.{Size}
 
 -- THE LENT BUFFERS of a build: the words of the table, and the words of the sets
 pub record Lent : Type 0 where
@@ -43,6 +46,11 @@ unfoldable pub as_counts : (number : ℕ) → Place → (states edges : ℕ) →
 as_counts zero p n m = record { number = 0; states = n; edges = m; place = no_place }
 as_counts (suc r) p n m = record { number = suc r; states = 0; edges = 0; place = p }
 
+-- an answer in numbers: zero and both counts, or the refusal's number and place
+abbrev pub counted : Result Size Refusal → Counts
+counted (Ok size) = record { number = 0; states = size.states; edges = size.edges; place = no_place }
+counted (Err r) = record { number = number r; states = 0; edges = 0; place = place_of r }
+
 -- what the build of a table of a range answers, with the check's place, and what it leaves of the lent buffers
 pub record BuildSays (limits : Limits) (t : List ℕ) (r : Counts) (before after : Lent) : Type 0 where
   pub answer :
@@ -50,12 +58,6 @@ pub record BuildSays (limits : Limits) (t : List ℕ) (r : Counts) (before after
       ≡ as_counts (build_refusal limits t (room_of before)) (check_place t) (length (complement t).states) (length (complement t).edges)
   pub words : after.words ≡ after_call (build_refusal limits t (room_of before)) (complement_words t) before.words
   pub sets : after.sets ≡ after_call (build_refusal limits t (room_of before)) (sets_words t) before.sets
-
--- a refusal: its number and place and nothing else, and every buffer is zero
-pub record RefusedWith (number : ℕ) (p : Place) (r : Counts) (before after : Lent) : Type 0 where
-  pub answer : r ≡ record { number = number; states = 0; edges = 0; place = p }
-  pub words : after.words ≡ zeros before.words
-  pub sets : after.sets ≡ zeros before.sets
 
 -- THE COMPLEMENT: the used part of the table words, by the counts answered
 unfoldable pub used : Counts → List ℕ → List ℕ

@@ -1,8 +1,10 @@
 -- What the lent buffers and the counts keep of what was found while exploring. All but the last part holds of any construction: of states of
 -- any type, kept in any format. Assumes nothing: these are definitions.
-use Rattle.std.specs.Prelude.{◌≡◌, true, false, cond, ℕ, suc, ◌+◌, ◌*◌, ◌-◌, ◌/◌, ◌≤◌, ◌<◌, min, ltb, length, get_or, take}
+use Rattle.std.specs.Prelude.{◌≡◌, cond, ℕ, suc, ◌+◌, ◌*◌, ◌-◌, ◌/◌, ◌≤◌, ◌<◌, min, ltb, length, get_or, take, Option, Some, None, option_map, Result, OnOk}
 use mathlib.Core.List.{List, [], ◌∷◌, flat_map}
 use Rattle.std.proofs.lemmas.List.Edits.{sets}
+use Rattle.basics.specs.Buffers.{filled}
+use Rattle.basics.specs.declared.Refusal.{Refusal}
 use Rattle.sets.specs.Sets.{row_letters}
 use Rattle.automata.specs.System.{Edge, Built}
 use Rattle.tables.specs.Table.{Limits, wide_range, meaning}
@@ -10,16 +12,17 @@ use Rattle.ncsb.specs.Array.{from_array}
 use Rattle.ncsb.specs.Moves.{Moves}
 use Rattle.ncsb.specs.Successors.{initials}
 use Rattle.ncsb.specs.declared.Quadruple.{Quadruple}
-use Rattle.patterns.specs.Check.{check_refusal}
+use Rattle.patterns.specs.Check.{check_refusal, check_place}
 use Rattle.patterns.specs.Masks.{masks_of}
 use Rattle.patterns.specs.Pattern.{moves}
 use Rattle.patterns.specs.Shape.{shape_of}
-use Rattle.patterns.specs.declared.Shape.{Shape}
+use Rattle.ncsb.specs.declared.Shape.{Shape}
 use Rattle.record_words.specs.Record.{all_words, with_quadruple}
-use Rattle.complement.specs.Build.{Lent, BuildSays}
-use Rattle.complement.specs.Complement.{complement}
+use Rattle.complement.specs.Build.{Lent, lent, room_of, build_refusal, as_counts, counted}
+use Rattle.complement.specs.Complement.{complement, complement_words, sets_words}
 use Rattle.complement.specs.Records.{capacity, looked_up}
-use Rattle.complement.specs.declared.Counts.{Counts}
+use Rattle.complement.specs.declared.Size.{Size}
+use Rattle.complement.specs.declared.explore.Growth.{Growth}
 use Rattle.complement.specs.declared.explore.Progress.{Progress}
 
 -- a buffer that begins with these words, and is zero beyond them
@@ -66,37 +69,52 @@ one_more limits m = min (suc m) (counted_to limits)
 
 -- BOTH in the lent buffers, while the states fit
 pub record Shows {X : Type 0} (f : Format X) (b : Built X) (l : Lent) (p : Progress) : Type 0 where
-  pub not_full : p.full ≡ false
   pub states : StatesKept f b.states l.sets p.states
   pub edges : EdgesKept f.limits b.edges l.words p.edges
 
--- what is answered where the states do not fit
-unfoldable pub overfull : Progress
-overfull = record { states = 0; edges = 0; full = true }
-
 -- what is left of something found: all of it is kept, or there are more states than fit. The buffers then hold what was found
 -- before that, which nobody reads: the build is refused, and clears them.
-pub data Ends {X : Type 0} (f : Format X) (b : Built X) (l : Lent) (p : Progress) : Type 0 where
-  within : Shows f b l p → Ends f b l p
-  beyond : p ≡ overfull → f.capacity l.sets < length b.states → Ends f b l p
+abbrev pub Ends : {X : Type 0} → Format X → Built X → Lent → Option Progress → Type 0
+Ends f b l (Some p) = Shows f b l p
+Ends f b l None = f.capacity l.sets < length b.states
 
--- WHAT A STEP OF EXPLORING DOES: where the buffers keep something found, they then keep what the step makes of it
-pub record Turns {X : Type 0} (f : Format X) (step : Built X → Built X) (before : Lent) (p : Progress) (after : Lent) (p_now : Progress)
-    : Type 0 where
-  pub from : (b : Built X) → Shows f b before p → Ends f (step b) after p_now
+-- A GROWTH: what its buffers hold
+abbrev pub held : Growth → Lent
+held g = lent g.words.now g.sets.now
+
+-- the buffers are the same ones before and after, and as long as they were
+pub record SameBuffers (before after : Growth) : Type 0 where
+  pub words : after.words.ghost_name ≡ before.words.ghost_name
+  pub sets : after.sets.ghost_name ≡ before.sets.ghost_name
+  pub words_length : length after.words.now ≡ length before.words.now
+  pub sets_length : length after.sets.now ≡ length before.sets.now
+
+-- one more edge, and nothing else
+pub record EdgeAdded (limits : Limits) (e : Edge) (before after : Growth) : Type 0 where
+  pub words : after.words.now ≡ with_edge limits before.words.now before.found.edges e
+  pub sets : after.sets.now ≡ before.sets.now
+  pub states : after.found.states ≡ before.found.states
+  pub edges : after.found.edges ≡ one_more limits before.found.edges
+
+-- WHAT A STEP OF EXPLORING DOES: where the buffers keep something found, they then keep what the step makes of it, or the step
+-- answers that there are more states than fit
+pub record Turns {X : Type 0} (f : Format X) (step : Built X → Built X) (before after : Growth) (answer : Option Unit) : Type 0 where
+  pub same : SameBuffers before after
+  pub from :
+      (b : Built X) → Shows f b (held before) before.found → Ends f (step b) (held after) (option_map (λ _. after.found) answer)
 
 -- what a step asks: the buffers keep something found, and the source and the letter are a state and a letter of it
-pub record StepAsks {X : Type 0} (f : Format X) (l : Lent) (p : Progress) (source letter : ℕ) : Type 0 where
+pub record StepAsks {X : Type 0} (f : Format X) (g : Growth) (source letter : ℕ) : Type 0 where
   pub built : Built X
-  pub shows : Shows f built l p
-  pub inside : source < p.states
+  pub shows : Shows f built (held g) g.found
+  pub inside : source < g.found.states
   pub letter_inside : letter < f.letters
 
 -- the same of all letters of a state
-pub record ExpandAsks {X : Type 0} (f : Format X) (l : Lent) (p : Progress) (source letters : ℕ) : Type 0 where
+pub record ExpandAsks {X : Type 0} (f : Format X) (g : Growth) (source letters : ℕ) : Type 0 where
   pub built : Built X
-  pub shows : Shows f built l p
-  pub inside : source < p.states
+  pub shows : Shows f built (held g) g.found
+  pub inside : source < g.found.states
   pub letters_inside : letters ≤ f.letters
 
 -- QUADRUPLES, in tables of a range
@@ -112,27 +130,27 @@ unfoldable pub array_moves : (masks : List (List ℕ)) → Shape → Moves
 array_moves m s = from_array m 0 s.marks s.inner
 
 -- a quadruple behind so many others, and its number: it is one of them, or new, or new and there is no room for it
-pub data Placed (limits : Limits) (sets_words : List ℕ) (count : ℕ) (x : Quadruple) (sets_now : List ℕ) (number : ℕ) : Type 0 where
+pub data Placed (limits : Limits) (x : Quadruple) (before after : Growth) (number : Option ℕ) : Type 0 where
   known :
-      number < count → number ≡ looked_up sets_words count x → sets_now ≡ sets_words →
-      Placed limits sets_words count x sets_now number
+      (n : ℕ) → number ≡ Some n → n < before.found.states → n ≡ looked_up before.sets.now before.found.states x →
+      after.sets.now ≡ before.sets.now → after.found ≡ before.found → Placed limits x before after number
   fresh :
-      number ≡ count → count ≡ looked_up sets_words count x → count < capacity limits sets_words →
-      sets_now ≡ with_quadruple sets_words count x → Placed limits sets_words count x sets_now number
+      number ≡ Some before.found.states → before.found.states ≡ looked_up before.sets.now before.found.states x →
+      before.found.states < capacity limits before.sets.now →
+      after.sets.now ≡ with_quadruple before.sets.now before.found.states x → after.found.states ≡ before.found.states + 1 →
+      after.found.edges ≡ before.found.edges → Placed limits x before after number
   left_out :
-      number ≡ count → count ≡ looked_up sets_words count x → capacity limits sets_words ≤ count → sets_now ≡ sets_words →
-      Placed limits sets_words count x sets_now number
+      number ≡ None → before.found.states ≡ looked_up before.sets.now before.found.states x →
+      capacity limits before.sets.now ≤ before.found.states → after.sets.now ≡ before.sets.now → after.found ≡ before.found →
+      Placed limits x before after number
 
 -- INITIAL STATES: all of them are kept, or they do not fit
 unfoldable pub start_moves : Shape → Moves
 start_moves s = from_array [] s.starts s.marks s.inner
 
-pub data Started (limits : Limits) (shape : Shape) (sets_words : List ℕ) (p : Progress) : Type 0 where
-  started :
-      p.full ≡ false → p.edges ≡ 0 → StatesKept (quadruples limits) (initials (start_moves shape)) sets_words p.states →
-      Started limits shape sets_words p
-  too_many :
-      p ≡ overfull → capacity limits sets_words < length (initials (start_moves shape)) → Started limits shape sets_words p
+abbrev pub Started : Limits → Shape → (sets_words : List ℕ) → (states : Option ℕ) → Type 0
+Started limits shape s (Some n) = StatesKept (quadruples limits) (initials (start_moves shape)) s n
+Started limits shape s None = capacity limits s < length (initials (start_moves shape))
 
 -- WHAT IS READ OFF a pattern that passes the check
 pub record ReadOff (table : List ℕ) (masks : List (List ℕ)) (shape : Shape) : Type 0 where
@@ -152,9 +170,18 @@ pub record ExploreAsks (masks : List (List ℕ)) (shape : Shape) (l : Lent) : Ty
   pub sets_clear : Begins [] l.sets
 
 -- what exploring says: it ends with the complement of whatever pattern they are read off
-pub record ExploredTo (limits : Limits) (masks : List (List ℕ)) (shape : Shape) (l : Lent) (p : Progress) : Type 0 where
+pub record ExploredTo (limits : Limits) (masks : List (List ℕ)) (shape : Shape) (l : Lent) (p : Option Progress) : Type 0 where
   pub ends : (t : List ℕ) → ReadOff t masks shape → Ends (quadruples limits) (complement t) l p
 
--- what building says: it answers and leaves what is said of whatever pattern they are read off
-pub record BuiltFrom (limits : Limits) (masks : List (List ℕ)) (shape : Shape) (r : Counts) (before after : Lent) : Type 0 where
-  pub says : (t : List ℕ) → ReadOff t masks shape → BuildSays limits t r before after
+-- what a try of building a table says: it answers what the build does, and what it accepts is in the buffers
+pub record Tried (limits : Limits) (t : List ℕ) (r : Result Size Refusal) (before after : Lent) : Type 0 where
+  pub answer :
+      counted r
+      ≡ as_counts (build_refusal limits t (room_of before)) (check_place t) (length (complement t).states) (length (complement t).edges)
+  pub words : OnOk r (after.words ≡ filled (complement_words t) before.words)
+  pub sets : OnOk r (after.sets ≡ filled (sets_words t) before.sets)
+
+-- what building says: it is a try of whatever pattern they are read off
+pub record BuiltFrom
+    (limits : Limits) (masks : List (List ℕ)) (shape : Shape) (r : Result Size Refusal) (before after : Lent) : Type 0 where
+  pub says : (t : List ℕ) → ReadOff t masks shape → Tried limits t r before after

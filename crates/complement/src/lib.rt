@@ -3,12 +3,14 @@
 
 ghost use Rattle.std.specs.Prelude.{◌≤◌, ◌≡◌};
 ghost use Rattle.tables.specs.Table.{wide_range};
-ghost use Rattle.complement.specs.Build.{lent, too_long, BuildSays, RefusedWith};
-ghost use Rattle.complement.specs.Found.{OfPattern, BuiltFrom};
+ghost use Rattle.complement.specs.Build.{lent, counted, too_long, BuildSays};
+ghost use Rattle.complement.specs.Found.{OfPattern, BuiltFrom, Tried};
 
-use basics::{clear16, clear32};
+use basics::{NO_PLACE, Place, Refusal, fill};
+use explore::Progress;
 use layout::lay_out;
-use patterns::{NO_PLACE, PatternReading, Place, Shape, read_pattern};
+use ncsb::Shape;
+use patterns::read_pattern;
 use sets::{ROW_LETTERS, SET_STATES, TargetSets};
 use tables::{WIDE_RECORDS, table_words};
 
@@ -16,9 +18,16 @@ mod explore;
 mod flags;
 mod records;
 
-// What the build answers: the number of a refusal with its place, or zero with both counts.
+// How many states and edges the complement has.
+#[derive(Clone, Copy, PartialEq, Eq)]
+pub struct Size {
+    pub states: u32,
+    pub edges: u32,
+}
+
+// What the build answers C: the number of a refusal with its place, or zero with both counts.
 #[repr(C)]
-#[derive(Clone, Copy)]
+#[derive(Clone, Copy, PartialEq, Eq)]
 pub struct Counts {
     pub number: u32,
     pub states: u32,
@@ -26,64 +35,80 @@ pub struct Counts {
     pub place: Place,
 }
 
-// A refusal: its number and its place, both counts zero, and both buffers clear.
-fn refuse(number: u32, place: Place, words: &mut [u16], sets: &mut [u32]) -> Counts
-    ensures { RefusedWith number place result (lent words.old sets.old) (lent words.new sets.new) }
-{
-    clear16(words);
-    clear32(sets);
-    Counts {
-        number,
-        states: 0,
-        edges: 0,
-        place,
+impl From<Result<Size, Refusal>> for Counts {
+    ghost from_gives = { λ built answer. answer ≡ counted built };
+
+    fn from(built: Result<Size, Refusal>) -> Counts {
+        match built {
+            Ok(size) => Counts {
+                number: 0,
+                states: size.states,
+                edges: size.edges,
+                place: NO_PLACE,
+            },
+            Err(refusal) => Counts {
+                number: refusal.number(),
+                states: 0,
+                edges: 0,
+                place: refusal.place(),
+            },
+        }
     }
 }
 
 // More edges than a table can have, or more words than are lent.
-fn too_long(words: usize, states: usize, edges: usize) -> bool
-    requires { states ≤ wide_range.states }
-    ensures { result ≡ too_long wide_range words states edges }
+#[tactic(auto, unfolding(tables::specs::Table::wide_range))]
+fn too_long(words: usize, found: Progress) -> bool
+    requires { found.states ≤ wide_range.states }
+    ensures { result ≡ too_long wide_range words found.states found.edges }
 {
-    if edges > WIDE_RECORDS {
-        return true;
-    }
-    table_words(states, edges) > words
+    found.edges > WIDE_RECORDS || table_words(found.states, found.edges) > words
 }
 
 // Builds the complement of a pattern that was read: its table in the words, its quadruples in the sets.
-fn build_pattern(masks: TargetSets, shape: Shape, words: &mut [u16], sets: &mut [u32]) -> Counts
+fn build_pattern(
+    masks: TargetSets,
+    shape: Shape,
+    words: &mut [u16],
+    sets: &mut [u32],
+) -> Result<Size, Refusal>
     requires { OfPattern masks shape }
     ensures { BuiltFrom wide_range masks shape result (lent words.old sets.old) (lent words.new sets.new) }
 {
-    clear16(words);
-    clear32(sets);
-    let found = explore::explore(masks, shape, words, sets);
-    if found.full {
-        return refuse(11, NO_PLACE, words, sets);
+    fill(words, 0);
+    fill(sets, 0);
+    let Some(found) = explore::explore(masks, shape, words, sets) else {
+        return Err(Refusal::Room);
+    };
+    if too_long(words.len(), found) {
+        return Err(Refusal::Table);
     }
-    let states = found.states;
-    let edges = found.edges;
-    if too_long(words.len(), states, edges) {
-        return refuse(12, NO_PLACE, words, sets);
-    }
-    lay_out(words, states, shape.letters, edges);
-    flags::set_flags(words, sets, explore::initial_count(shape), states);
-    Counts {
-        number: 0,
-        states: states as u32,
-        edges: edges as u32,
-        place: NO_PLACE,
-    }
+    lay_out(words, found.states, shape.letters, found.edges);
+    flags::set_flags(words, sets, explore::initial_count(shape), found.states);
+    Ok(Size {
+        states: found.states as u32,
+        edges: found.edges as u32,
+    })
 }
 
-// Builds the reachable complement of a pattern in the lent buffers. The table is read once: what the check reads of it is what is built from.
-pub fn build_complement(table: &[u16], words: &mut [u16], sets: &mut [u32]) -> Counts
-    ensures { BuildSays wide_range table.now result (lent words.old sets.old) (lent words.new sets.new) }
+// Tries to build: the table is read once, and what the check reads of it is what is built from. A refused try may leave words behind.
+#[tactic(auto, using(crate::proofs::Answers::refused_check, crate::proofs::Answers::of_reading))]
+fn try_build(table: &[u16], words: &mut [u16], sets: &mut [u32]) -> Result<Size, Refusal>
+    ensures { Tried wide_range table.now result (lent words.old sets.old) (lent words.new sets.new) }
 {
     let mut masks = [[0u32; ROW_LETTERS]; SET_STATES];
-    match read_pattern(table, &mut masks) {
-        PatternReading::Refused(number, place) => refuse(number, place, words, sets),
-        PatternReading::Pattern(shape) => build_pattern(masks, shape, words, sets),
+    let shape = read_pattern(table, &mut masks)?;
+    build_pattern(masks, shape, words, sets)
+}
+
+// Builds the reachable complement of a pattern in the lent buffers, and clears both where it is refused.
+pub fn build_complement(table: &[u16], words: &mut [u16], sets: &mut [u32]) -> Result<Size, Refusal>
+    ensures { BuildSays wide_range table.now (counted result) (lent words.old sets.old) (lent words.new sets.new) }
+{
+    let built = try_build(table, words, sets);
+    if built.is_err() {
+        fill(words, 0);
+        fill(sets, 0);
     }
+    built
 }

@@ -9,8 +9,10 @@ use native.Mathlib.Numerals.{add-one}
 use native.Mathlib.Nat.{mod-eq_of_lt, pow-suc}
 use lib.Dec.{ltb}
 use lib.ListN.{length, length-append}
-use Rattle.basics.proofs.Booleans.{either, ltb_lt, ltb_ge, lt_ltb, ge_ltb, below_or}
-use Rattle.decimal.specs.Lines.{digit_zero, digits, decimal, number_bytes, field_bytes, Places}
+use Rattle.basics.proofs.Booleans.{either, ltb_lt, ltb_ge, lt_ltb, ge_ltb}
+use Rattle.std.specs.Prelude.{Option, None, Some, IfNone, IfSome}
+use Rattle.std.specs.Option.{unwrap_or}
+use Rattle.decimal.specs.Lines.{digit_zero, digits, decimal, number_bytes, Places}
 
 -- by the test
 pub digits_one : (k n : ℕ) → ltb n 10 ≡ true → digits (suc k) n ≡ (digit_zero + n) ∷ []
@@ -51,18 +53,21 @@ one_place n l = rw (decimal_one n l)
 pub one_place_more : (n : ℕ) → 10 ≤ n → length (decimal n) ≡ suc (length (decimal (n / 10)))
 one_place_more n l = rw (decimal_more n l) (length-append (decimal (n / 10)) ((digit_zero + n % 10) ∷ []) ∙ add-one (length (decimal (n / 10))))
 
-few_places : (k n : ℕ) → n < 10 * 10 ^ k → length (decimal n) ≤ suc k
-few_places zero n l = let e = one_place n l in omega arith
-few_places (suc k) n l =
-    elim (below_or n 10) [
-      | inl e ↦ let o = one_place n e in omega arith
-      | inr g ↦
-          let o = one_place_more n g in
-          let p = few_places k (n / 10) (let s = pow-suc 10 k in omega arith) in omega arith
-    ]
+places_by_power : (k n : ℕ) → 10 ^ k ≤ n → n < 10 * 10 ^ k → length (decimal n) ≡ suc k
+places_by_power zero n l m = one_place n (omega arith)
+places_by_power (suc k) n l m =
+    let s = pow-suc 10 k in
+    let low : 10 ^ k ≤ n / 10 = omega arith in
+    let high : n / 10 < 10 * 10 ^ k = omega arith in
+    one_place_more n (omega arith) ∙ ap suc (places_by_power k (n / 10) low high)
 
-pub at_most_ten : (n : ℕ) → n < 2 ^ 32 → length (decimal n) ≤ number_bytes
-at_most_ten n l = few_places 9 n (omega arith)
+pub places_of :
+    (n : ℕ) (power : Option ℕ) → IfNone power (n ≡ 0) → IfSome power (λ k. 10 ^ k ≤ n) → IfSome power (λ k. n < 10 * 10 ^ k) →
+    IfSome power (λ k. k < number_bytes) → Places n (unwrap_or power 0 + 1)
+places_of n None none low high few =
+    let e = one_place n (omega (arith, none)) in record { counted = omega arith; few = omega arith }
+places_of n (Some k) none low high few =
+    let e = places_by_power k n low high in record { counted = omega arith; few = omega arith }
 
 -- the last so many digits
 unfoldable pub last_digits : (count n : ℕ) → List ℕ
@@ -91,21 +96,3 @@ digits_last (suc f) n l =
 pub decimal_last : (n : ℕ) → decimal n ≡ last_digits (length (decimal n)) n
 unfolding decimal
 decimal_last n = digits_last (suc n) n (omega arith)
-
--- THE LOOP OF `places`: what is left has the digits that are not counted yet
-pub record Counting (n left count : ℕ) : Type 0 where
-  pub total : length (decimal n) + 1 ≡ count + length (decimal left)
-  pub few : length (decimal n) ≤ number_bytes
-
-pub counting_start : (n : ℕ) → n < 2 ^ 32 → Counting n n 1
-counting_start n l = record { total = omega arith; few = at_most_ten n l }
-
-pub counting_turn : {n left count : ℕ} → 10 ≤ left → Counting n left count → Counting n (left / 10) (count + 1)
-counting_turn {left = left} g p = let o = one_place_more left g in record { total = omega arith; few = p.few }
-
-pub counting_end : {n left count : ℕ} → left < 10 → Counting n left count → Places n count
-counting_end {left = left} g p = let o = one_place left g in record { counted = omega arith; few = omega arith }
-
--- the count stays small
-pub counting_small : {n left count : ℕ} → 10 ≤ left → Counting n left count → count + 1 ≤ field_bytes
-counting_small {left = left} g p = let o = one_place_more left g in omega arith

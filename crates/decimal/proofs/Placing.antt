@@ -1,15 +1,19 @@
--- Laws of bytes in a lent buffer: texts one behind another, digits, fields, lines and rows of lines. Assumes nothing.
+-- Laws of bytes written into a lent buffer: texts one behind another, rows of them, digits, fields and lines. Assumes nothing.
 use mathlib.Core.Path.{◌≡◌, refl, sym, ◌∙◌}
 use mathlib.Core.List.{List, [], ◌∷◌, ◌++◌, append_assoc}
-use Prim.Native.Nat.{ℕ, suc, ◌+◌, ◌*◌, ◌-◌, ◌/◌, ◌%◌, ◌≤◌, ◌<◌}
+use Prim.Native.Nat.{ℕ, zero, suc, ◌+◌, ◌*◌, ◌-◌, ◌/◌, ◌%◌, ◌≤◌, ◌<◌}
 use native.Mathlib.Omega.{arith}
-use native.Mathlib.Nat.{mul-zero, mul-suc, mul-le-mul_left}
+use native.Mathlib.Nat.{mul-suc}
 use native.Mathlib.Numerals.{add-one}
-use lib.ListN.{length, get_or, take, drop, set, length-append, length-set, drop_of_length-le}
-use lib.Seq.{sets, length-sets, drop-cons, take-suc, take_all, length-take-le}
+use lib.ListN.{length, get_or, take, drop, set, length-append, length-set}
+use Rattle.std.proofs.lemmas.List.{take_more, flat_map_more}
+use Rattle.std.proofs.lemmas.List.Edits.{sets-eq}
+use lib.Seq.{drop-drop, sets, length-sets, take_all, length-take-le}
 use Rattle.basics.specs.Rows.{rows}
+use Rattle.std.specs.List.{flat_map}
 use Rattle.basics.proofs.Lists.{sets_append, sets_last}
-use Rattle.decimal.specs.Lines.{digit_zero, space, newline, number_bytes, field_bytes, Put, Places, line, decimal}
+use Rattle.decimal.specs.Lines.{digit_zero, space, newline, number_bytes, field_bytes, Put, HasRoom, Appended, Places, line, decimal}
+use Rattle.decimal.specs.declared.lines.Output.{Output}
 use Rattle.decimal.proofs.Digits.{last_digits, length_last, decimal_last}
 
 put_made :
@@ -18,77 +22,56 @@ put_made :
 put_made {after = after} {end = end} t e n i =
     record { text = t; ends = e; near = n; inside = i; whole = sym (length-take-le end after i) }
 
--- one text behind another
-pub then_put :
-    {o o' o'' : List ℕ} {at a b mid end : ℕ} {xs ys : List ℕ} → Put o at a xs o' mid → Put o' mid b ys o'' end →
-    Put o at (a + b) (xs ++ ys) o'' end
-then_put {o} {xs = xs} {ys = ys} p q =
-    let e = p.ends in let f = q.ends in let n = p.near in let m = q.near in
-    put_made (q.text ∙ rw (p.text, p.ends) (sym (sets_append xs ys o _))) (simp length-append (omega arith)) (omega arith) q.inside
-
--- nothing
-pub nothing_put : (o : List ℕ) {at : ℕ} → at ≤ length o → Put o at 0 [] o at
-nothing_put o l = put_made refl (omega arith) (omega arith) l
-
 -- a buffer keeps its length
 pub same_length : {o o' xs : List ℕ} {at a end : ℕ} → Put o at a xs o' end → length o' ≡ length o
 same_length {o} {xs = xs} {at = at} p = rw p.text (length-sets o at xs)
 
--- A LOOP OVER ROWS of at most so many bytes each: those below i are written
-pub record Rowing (f : ℕ → List ℕ) (most n : ℕ) (o : List ℕ) (at i place : ℕ) (o_now : List ℕ) : Type 0 where
-  pub within : i ≤ n
-  pub put : Put o at (most * i) (rows i f) o_now place
+-- nothing
+pub nothing_appended : (o : Output) → HasRoom o 0 → Appended o 0 [] o
+nothing_appended o room = record { put = put_made refl (omega arith) (omega arith) (omega arith); same_buffer = refl }
 
-module _ (f : ℕ → List ℕ) {most n : ℕ} {o : List ℕ} {at : ℕ} where
-  pub rowing_start : at ≤ length o → Rowing f most n o at 0 at o
-  unfolding rows
-  rowing_start l = record { within = omega arith; put = rw (mul-zero most) (nothing_put o l) }
-
-  module _ {i place : ℕ} {o' : List ℕ} (p : Rowing f most n o at i place o') where
-    pub rowing_room : at + most * n ≤ length o → i < n → place + most ≤ length o'
-    rowing_room room l =
-        let e = same_length p.put in
-        let near = p.put.near in
-        let more = mul-le-mul_left most l in let one = mul-suc most i in omega arith
-
-    pub rowing_turn :
-        {place' : ℕ} {o'' : List ℕ} → i < n → Put o' place most (f i) o'' place' → Rowing f most n o at (i + 1) place' o''
-    unfolding rows
-    rowing_turn l q = record { within = omega arith; put = rw (add-one, mul-suc most i) (then_put p.put q) }
-
-    pub rowing_end : n ≤ i → Put o at (most * n) (rows n f) o' place
-    rowing_end l = let k = p.within in let e : i ≡ n = omega arith in rw e at p.put
-
--- THE LOOP OF `put_text`: the bytes passed are copied
-pub record Copied (xs o : List ℕ) (at i : ℕ) (o_now : List ℕ) : Type 0 where
-  pub within : i ≤ length xs
-  pub copied : o_now ≡ sets o at (take i xs)
-
-pub copied_start : (xs o : List ℕ) (at : ℕ) → Copied xs o at 0 o
-copied_start xs o at = record { within = omega arith; copied = refl }
-
-pub copied_turn :
-    {xs o : List ℕ} {at i : ℕ} {o' : List ℕ} → i < length xs → Copied xs o at i o' →
-    Copied xs o at (i + 1) (set o' (at + i) (get_or xs i 0))
-copied_turn {xs} {o} {at} {i} l p =
-    let n = length-take-le i xs p.within in
+-- one text behind another
+pub then_appended :
+    {o o' o'' : Output} {a b : ℕ} {xs ys : List ℕ} → Appended o a xs o' → Appended o' b ys o'' → Appended o (a + b) (xs ++ ys) o''
+then_appended {o} {xs = xs} {ys = ys} first second =
+    let p = first.put in let q = second.put in
+    let e = p.ends in let f = q.ends in let n = p.near in let m = q.near in
     record {
-      within = omega arith;
-      copied = rw (add-one, take-suc xs i 0, sets_append (take i xs) (get_or xs i 0 ∷ []) o at, n, p.copied);
+      put =
+          put_made (q.text ∙ rw (p.text, p.ends) (sym (sets_append xs ys o.buffer.now o.at)))
+          (simp length-append (omega arith)) (omega arith) q.inside;
+      same_buffer = second.same_buffer ∙ first.same_buffer;
     }
 
-pub copied_length : {xs o : List ℕ} {at i : ℕ} {o' : List ℕ} → Copied xs o at i o' → length o' ≡ length o
-copied_length {xs} {o} {at} {i} p = rw p.copied (length-sets o at (take i xs))
+-- where there is room for more
+pub appended_wider : {o o' : Output} {a : ℕ} {xs : List ℕ} (b : ℕ) → a ≤ b → Appended o a xs o' → Appended o b xs o'
+appended_wider b l p =
+    let put = p.put in
+    let n = put.near in record { put = put_made put.text put.ends (omega arith) put.inside; same_buffer = p.same_buffer }
 
-pub copied_end :
-    {xs o : List ℕ} {at i : ℕ} {o' : List ℕ} → at + length xs ≤ length o → length xs ≤ i → Copied xs o at i o' →
-    Put o at (length xs) xs o' (at + i)
-copied_end {xs} {o} {at} {i} h l p =
-    let w = p.within in
-    let n = copied_length p in
-    put_made (rw (take_all i xs l) at p.copied) (omega arith) (omega arith) (omega arith)
+-- the room that is left
+pub appended_room : {o o' : Output} {a : ℕ} {xs : List ℕ} (b : ℕ) → Appended o a xs o' → HasRoom o (a + b) → HasRoom o' b
+appended_room b p room = let e = same_length p.put in let n = p.put.near in omega arith
 
--- THE LOOP OF `put_number`: the digits before place i are still to come
+-- one row more
+pub row_appended :
+    (f : ℕ → List ℕ) (i : ℕ) {o o' o'' : Output} {most : ℕ} → Appended o (most * i) (rows i f) o' → Appended o' most (f i) o'' →
+    Appended o (most * (i + 1)) (rows (i + 1) f) o''
+unfolding rows
+row_appended f i {most = most} so_far row = rw (add-one, mul-suc most i) (then_appended so_far row)
+
+-- a text copied into its place
+pub text_put :
+    {o xs : List ℕ} {at : ℕ} → at + length xs ≤ length o →
+    Put o at (length xs) xs (take at o ++ (xs ++ drop ((at + length xs) - at) (drop at o))) (at + length xs)
+text_put {o} {xs} {at} l =
+    let e : (at + length xs) - at ≡ length xs = omega arith in
+    let t = sets-eq xs o at l in
+    let n : length (sets o at xs) ≡ length o = length-sets o at xs in
+    rw (e, drop-drop (length xs) at o, ← append_assoc (take at o) xs (drop (at + length xs) o), ← t)
+    (put_made refl refl (omega arith) (omega arith))
+
+-- THE LOOP OF `number`: the digits before place i are still to come
 pub record Writing (n : ℕ) (o : List ℕ) (at end i left : ℕ) (o_now : List ℕ) : Type 0 where
   pub above : at ≤ i
   pub below : i ≤ end
@@ -123,11 +106,6 @@ writing_turn {n} {o} {at} {end} {i} {left} {o'} l p =
       same = rw (length-set o' (i - 1) (digit_zero + left % 10)) p.same;
     }
 
-pub writing_inside :
-    {n count : ℕ} {o : List ℕ} {at i left : ℕ} {o' : List ℕ} → Places n count → at + number_bytes ≤ length o → at < i →
-    Writing n o at (at + count) i left o' → i - 1 < length o'
-writing_inside c h l p = let f = c.few in let b = p.below in let s = p.same in omega arith
-
 pub writing_end :
     {n count : ℕ} {o : List ℕ} {at i left : ℕ} {o' : List ℕ} → Places n count → at + number_bytes ≤ length o → i ≤ at →
     Writing n o at (at + count) i left o' → Put o at number_bytes (decimal n) o' (at + count)
@@ -139,73 +117,53 @@ writing_end {n} {count} {o} {at} {i} {left} {o'} c h l p =
     put_made (rw z at p.left_over) (omega arith) (omega arith) (omega arith)
 
 -- a number and the byte behind it
-pub field_put :
-    (n b : ℕ) {end : ℕ} {o o' : List ℕ} {at : ℕ} → at + field_bytes ≤ length o → Put o at number_bytes (decimal n) o' end →
-    Put o at field_bytes (decimal n ++ (b ∷ [])) (set o' end b) (end + 1)
-field_put n b {end} {o} {o'} {at} h p =
+pub field_appended :
+    (n b : ℕ) {o o' : Output} → HasRoom o field_bytes → Appended o number_bytes (decimal n) o' →
+    Appended o field_bytes (decimal n ++ (b ∷ []))
+    (record { buffer = record o'.buffer { now = set o'.buffer.now o'.at b }; at = o'.at + 1 })
+field_appended n b {o} {o'} h a =
+    let p = a.put in
     let s = same_length p in let e = p.ends in let f = p.near in
-    put_made (rw (sets_append (decimal n) (b ∷ []) o at, p.text, p.ends)) (simp length-append (omega arith)) (omega arith) (rw (length-set o' end b) (omega arith))
-
--- THE LOOP OF `put_line`: the fields from i on are still to come
-pub record Lining (fields o : List ℕ) (at i place : ℕ) (o_now : List ℕ) : Type 0 where
-  pub within : i + 1 ≤ length fields
-  pub left_over : sets o_now place (line (drop i fields)) ≡ sets o at (line fields)
-  pub ends : place + length (line (drop i fields)) ≡ at + length (line fields)
-  pub near : place ≤ at + field_bytes * i
-  pub same : length o_now ≡ length o
-
-pub lining_start : (fields o : List ℕ) (at : ℕ) → 1 ≤ length fields → Lining fields o at 0 at o
-lining_start fields o at l = record { within = omega arith; left_over = refl; ends = refl; near = omega arith; same = refl }
-
--- a line of two fields and more, and of one
-line_more : (xs : List ℕ) (i : ℕ) → i + 1 < length xs → line (drop i xs) ≡ (decimal (get_or xs i 0) ++ (space ∷ [])) ++ line (drop (i + 1) xs)
-unfolding line
-line_more xs i l =
-    let inside : i < length xs = omega arith in
-    let beside : suc i < length xs = omega arith in
-    rw (add-one, drop-cons xs i 0, drop-cons xs (suc i) 0) (sym (append_assoc (decimal (get_or xs i 0)) (space ∷ []) _))
-
-line_one : (xs : List ℕ) (i : ℕ) → i + 1 ≡ length xs → line (drop i xs) ≡ decimal (get_or xs i 0) ++ (newline ∷ [])
-unfolding line
-line_one xs i l =
-    let inside : i < length xs = omega arith in
-    let end : length xs ≤ suc i = omega arith in
-    rw (drop-cons xs i 0, drop_of_length-le xs end)
-
-pub lining_room :
-    {fields o : List ℕ} {at i place : ℕ} {o' : List ℕ} → at + field_bytes * length fields ≤ length o → Lining fields o at i place o' →
-    place + field_bytes ≤ length o'
-lining_room h p = let w = p.within in let n = p.near in let s = p.same in omega arith
-
-pub lining_turn :
-    {fields o : List ℕ} {at i place place' : ℕ} {o' o'' : List ℕ} → i < length fields - 1 → Lining fields o at i place o' →
-    Put o' place field_bytes (decimal (get_or fields i 0) ++ (space ∷ [])) o'' place' → Lining fields o at (i + 1) place' o''
-lining_turn {fields} {o} {at} {i} {place} {place'} {o'} {o''} l p q =
-    let m = line_more fields i (omega arith) in
-    let e = q.ends in let f = q.near in let g = p.near in let n = p.ends in
-    let k : length (line (drop i fields)) ≡ length (decimal (get_or fields i 0) ++ (space ∷ [])) + length (line (drop (i + 1) fields)) =
-    rw m (length-append (decimal (get_or fields i 0) ++ (space ∷ [])) (line (drop (i + 1) fields))) in
-    let s = sets_append (decimal (get_or fields i 0) ++ (space ∷ [])) (line (drop (i + 1) fields)) o' place in
     record {
-      within = omega arith;
-      left_over = rw (q.text, q.ends) (sym s ∙ (rw m at p.left_over));
-      ends = omega arith;
-      near = omega arith;
-      same = same_length q ∙ p.same;
+      put =
+          put_made (rw (sets_append (decimal n) (b ∷ []) o.buffer.now o.at, p.text, p.ends)) (simp length-append (omega arith))
+          (omega arith) (rw (length-set o'.buffer.now o'.at b) (omega arith));
+      same_buffer = a.same_buffer;
     }
 
-pub lining_end :
-    {fields o : List ℕ} {at i place place' : ℕ} {o' o'' : List ℕ} → at + field_bytes * length fields ≤ length o → length fields - 1 ≤ i →
-    Lining fields o at i place o' → Put o' place field_bytes (decimal (get_or fields (length fields - 1) 0) ++ (newline ∷ [])) o'' place' →
-    Put o at (field_bytes * length fields) (line fields) o'' place'
-lining_end {fields} {o} {at} {i} {place} {place'} {o'} {o''} h l p q =
-    let w = p.within in
-    let j : i ≡ length fields - 1 = omega arith in
-    let m : line (drop i fields) ≡ decimal (get_or fields (length fields - 1) 0) ++ (newline ∷ []) = rw (← j) (line_one fields i (omega arith)) in
-    let e = q.ends in let f = q.near in let g = p.near in let s = same_length q in let t = p.same in
-    let n : place + length (decimal (get_or fields (length fields - 1) 0) ++ (newline ∷ [])) ≡ at + length (line fields) = rw m at p.ends in
-    put_made (q.text ∙ (rw m at p.left_over)) (omega arith) (omega arith) (omega arith)
+-- THE LINE: fields with a space behind each, and the last one with a newline
+abbrev pub spaced : (field : ℕ) → List ℕ
+spaced x = decimal x ++ (space ∷ [])
 
--- room for more
-pub wider : {o o' xs : List ℕ} {at a end : ℕ} (b : ℕ) → a ≤ b → Put o at a xs o' end → Put o at b xs o' end
-wider b l p = let n = p.near in put_made p.text p.ends (omega arith) p.inside
+line_is :
+    (xs : List ℕ) (n : ℕ) → length xs ≡ suc n → line xs ≡ flat_map spaced (take n xs) ++ (decimal (get_or xs n 0) ++ (newline ∷ []))
+unfolding line
+line_is [] n e = cc
+line_is (x ∷ []) zero e = refl
+line_is (x ∷ []) (suc n) e = absurd (omega arith)
+line_is (x ∷ y ∷ ys) zero e = absurd (omega arith)
+line_is (x ∷ y ∷ ys) (suc n) e =
+    let front = flat_map spaced (take n (y ∷ ys)) in
+    let last = decimal (get_or (y ∷ ys) n 0) ++ (newline ∷ []) in
+    rw (line_is (y ∷ ys) n (omega arith))
+    (sym (append_assoc (spaced x) front last ∙ append_assoc (decimal x) (space ∷ []) (front ++ last)))
+
+-- THE LOOP OF `line`: the fields passed are written
+pub line_turn :
+    (front : List ℕ) (i : ℕ) {o o' o'' : Output} → i < length front → Appended o (field_bytes * i) (flat_map spaced (take i front)) o' →
+    Appended o' field_bytes (spaced (get_or front i 0)) o'' → Appended o (field_bytes * (i + 1)) (flat_map spaced (take (i + 1) front)) o''
+line_turn front i l so_far field =
+    let more : field_bytes * (i + 1) ≡ field_bytes * i + field_bytes = omega arith in
+    rw (more, take_more front i 0 l, ← flat_map_more spaced [] (take i front) (get_or front i 0)) (then_appended so_far field)
+
+pub line_end :
+    (xs : List ℕ) (i : ℕ) {o o' o'' : Output} → 1 ≤ length xs → i ≡ length (take (length xs - 1) xs) →
+    Appended o (field_bytes * i) (flat_map spaced (take i (take (length xs - 1) xs))) o' →
+    Appended o' field_bytes (decimal (get_or xs (length xs - 1) 0) ++ (newline ∷ [])) o'' →
+    Appended o (field_bytes * length xs) (line xs) o''
+line_end xs i some all so_far field =
+    let front = take (length xs - 1) xs in
+    let n : length (take (length xs - 1) xs) ≡ length xs - 1 = length-take-le (length xs - 1) xs (omega arith) in
+    let more : field_bytes * length xs ≡ field_bytes * i + field_bytes = omega arith in
+    let t = take_all i front (omega arith) in
+    rw (more, line_is xs (length xs - 1) (omega arith), ← t) (then_appended so_far field)

@@ -3,6 +3,7 @@ use Rattle.std.specs.Prelude.{◌≡◌, true, false, List, [], ◌∷◌, ◌++
 use Prim.Native.Char.{code}
 use Prim.Native.String.{String, [] as no_more, ◌∷◌ as ◌then◌}
 use Rattle.std.proofs.lemmas.List.Edits.{sets}
+use Rattle.decimal.specs.declared.lines.Output.{Output}
 
 -- BYTES in ASCII: the digit 0, what divides fields, and what ends a line
 abbrev pub digit_zero : ℕ
@@ -48,6 +49,15 @@ pub record Put (before : List ℕ) (at most : ℕ) (bytes after : List ℕ) (end
   pub near : end ≤ at + most
   pub inside : end ≤ length after
   pub whole : end ≡ length (take end after)
+
+-- an output with room for so many bytes
+abbrev pub HasRoom : Output → (most : ℕ) → Type 0
+HasRoom o most = o.at + most ≤ length o.buffer.now
+
+-- an output with bytes written behind what stood in it: it is lent the same buffer
+pub record Appended (o : Output) (most : ℕ) (bytes : List ℕ) (o_now : Output) : Type 0 where
+  pub put : Put o.buffer.now o.at most bytes o_now.buffer.now o_now.at
+  pub same_buffer : o_now.buffer.ghost_name ≡ o.buffer.ghost_name
 
 -- how many digits a number of 32 bits has
 pub record Places (n count : ℕ) : Type 0 where

@@ -4,6 +4,8 @@ use Rattle.std.proofs.Math.Option.{Option, none, some}
 use Rattle.basics.specs.Words.{word_bits, largest_word}
 use Rattle.decimal.specs.Lines.{digit_zero, space, newline}
 use Rattle.decimal.specs.declared.reading.Reading.{Reading}
+use Rattle.decimal.specs.declared.reading.State.{State}
+use Rattle.decimal.specs.declared.reading.State.TheVariants.{Between, Within, Failed}
 
 -- WHAT IS TAKEN: the largest number, and the most numbers
 pub record Bounds : Type 0 where
@@ -64,30 +66,54 @@ read_numbers b bs = numbers_of (ended (scan b (between []) bs))
 unfoldable pub bounds_of : (words : List ℕ) → Bounds
 bounds_of w = record { largest = largest_word word_bits; most = length w }
 
+-- a reading's state: the number under way, which is zero where none is
+abbrev pub value_of : State → ℕ
+value_of Between = 0
+value_of (Within v) = v
+value_of Failed = 0
+
+-- whether there is one
+abbrev pub is_within : State → Bool
+is_within Between = false
+is_within (Within v) = true
+is_within Failed = false
+
+-- and whether there was a fault
+abbrev pub is_failed : State → Bool
+is_failed Between = false
+is_failed (Within v) = false
+is_failed Failed = true
+
+-- the state that says the same as a scan
+abbrev pub state_of : Scan → State
+state_of s = cond s.failed Failed (cond s.within (Within s.value) Between)
+
 -- the numbers that have ended stand first, and what is beyond them is as it was
 unfoldable pub reading_of : Scan → Reading
-reading_of s = record { count = length s.numbers; value = s.value; within = s.within; failed = s.failed }
+reading_of s = record { count = length s.numbers; state = state_of s }
 
 unfoldable pub stored : Scan → (before : List ℕ) → List ℕ
 stored s w = s.numbers ++ drop (length s.numbers) w
 
 -- what a reading and its words hold
 unfoldable pub scan_of : Reading → (words : List ℕ) → Scan
-scan_of r w = record { numbers = take r.count w; value = r.value; within = r.within; failed = r.failed }
-
--- a fault behind so many numbers
-unfoldable pub failed_after : (count : ℕ) → Reading
-failed_after k = record { count = k; value = 0; within = false; failed = true }
+scan_of r w =
+    record {
+      numbers = take r.count w;
+      value = value_of r.state;
+      within = is_within r.state;
+      failed = is_failed r.state;
+    }
 
 -- the numbers have their words, and so has the one under way
 pub record Ready (r : Reading) (w : List ℕ) : Type 0 where
   pub counted : r.count ≤ length w
-  pub small : r.value ≤ largest_word word_bits
-  pub placed : r.within ≡ true → r.count < length w
+  pub placed : is_within r.state ≡ true → r.count < length w
 
 -- what is left of a reading and of its words w: they hold this scan, and more can be read
 pub record Became (s : Scan) (w : List ℕ) (r_now : Reading) (w_now : List ℕ) : Type 0 where
   pub reading : r_now ≡ reading_of s
+  pub holds : scan_of r_now w_now ≡ s
   pub words : w_now ≡ stored s w
   pub same : length w_now ≡ length w
   pub ready : Ready r_now w_now

@@ -4,5 +4,5 @@
 mod lines;
 mod reading;
 
-pub use lines::{put_field, put_line, put_text};
-pub use reading::Reading;
+pub use lines::Output;
+pub use reading::{Reading, State};

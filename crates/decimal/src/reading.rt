@@ -1,54 +1,50 @@
 // Reading decimal numbers into lent words. Input comes in chunks, so what is known between two of them is a value.
 ghost use Rattle.std.specs.Prelude.{◌≡◌, []};
-ghost use Rattle.decimal.specs.Reading.{Ready, Became, Fed, between, ended, with_byte, bounds_of, scan_of, reading_of, failed_after, is_blank, is_digit};
+ghost use Rattle.decimal.specs.Reading.{Ready, Became, Fed, between, ended, with_byte, bounds_of, scan_of, reading_of, value_of, is_blank};
 
-// The largest number that a word holds.
-const LARGEST: u32 = u16::MAX as u32;
+// Between two numbers, within one whose digits so far make this value, or behind a fault.
+#[derive(Clone, Copy, PartialEq, Eq)]
+pub enum State {
+    Between,
+    Within(u16),
+    Failed,
+}
 
-// How many numbers have ended; the number under way, zero where none is; whether one is; and whether there was a fault.
+// How many numbers have ended, and where reading stands behind them. The words that it stores them in are lent anew for each piece of the
+// input, so that it is ready for these is asked at each call.
 #[derive(Clone, Copy)]
 pub struct Reading {
     pub count: usize,
-    pub value: u32,
-    pub within: bool,
-    pub failed: bool,
+    pub state: State,
 }
 
 // A space or a newline.
+#[tactic(auto, unfolding(crate::specs::Reading::is_blank))]
 fn is_blank(byte: u8) -> bool
     ensures { result ≡ is_blank byte }
 {
-    byte == b' ' || byte == b'\n'
-}
-
-fn is_digit(byte: u8) -> bool
-    ensures { result ≡ is_digit byte }
-{
-    b'0' <= byte && byte <= b'9'
-}
-
-// A fault behind so many numbers. Nothing that follows changes it.
-fn failed_after(count: usize) -> Reading
-    ensures { result ≡ failed_after count }
-{
-    Reading {
-        count,
-        value: 0,
-        within: false,
-        failed: true,
-    }
+    matches!(byte, b' ' | b'\n')
 }
 
 impl Reading {
     // Before the first byte.
+    #[tactic(auto, unfolding(crate::specs::Reading::reading_of, crate::specs::Reading::between))]
     pub fn start() -> Reading
         ensures { result ≡ reading_of (between []) }
     {
         Reading {
             count: 0,
-            value: 0,
-            within: false,
-            failed: false,
+            state: State::Between,
+        }
+    }
+
+    // The number under way; zero where none is.
+    fn so_far(self) -> u32
+        ensures { result ≡ value_of self.state }
+    {
+        match self.state {
+            State::Within(value) => u32::from(value),
+            _ => 0,
         }
     }
 
@@ -57,45 +53,40 @@ impl Reading {
         requires { Ready self words.old }
         ensures { Became (ended (scan_of self words.old)) words.old result words.new }
     {
-        if !self.within {
+        let State::Within(value) = self.state else {
             return self;
-        }
-        let count = self.count;
-        words[count] = self.value as u16;
+        };
+        words[self.count] = value;
         Reading {
-            count: count + 1,
-            value: 0,
-            within: false,
-            failed: false,
+            count: self.count + 1,
+            state: State::Between,
         }
     }
 
-    // One more byte.
+    // One more byte. Nothing that follows a fault changes it.
     fn with_byte(self, byte: u8, words: &mut [u16]) -> Reading
         requires { Ready self words.old }
         ensures { Became (with_byte (bounds_of words.old) (scan_of self words.old) byte) words.old result words.new }
     {
-        if self.failed {
+        if self.state == State::Failed {
             return self;
         }
         if is_blank(byte) {
             return self.ended(words);
         }
-        if !is_digit(byte) {
-            return failed_after(self.count);
+        let fault = Reading {
+            count: self.count,
+            state: State::Failed,
+        };
+        if !byte.is_ascii_digit() || self.count >= words.len() {
+            return fault;
         }
-        let value = 10 * self.value + (byte - b'0') as u32;
-        if self.count >= words.len() {
-            return failed_after(self.count);
-        }
-        if value > LARGEST {
-            return failed_after(self.count);
-        }
+        let Ok(value) = u16::try_from(10 * self.so_far() + u32::from(byte - b'0')) else {
+            return fault;
+        };
         Reading {
             count: self.count,
-            value,
-            within: true,
-            failed: false,
+            state: State::Within(value),
         }
     }
 
@@ -105,10 +96,8 @@ impl Reading {
         ensures { Fed self words.old chunk.now result words.new }
     {
         let mut reading = self;
-        let mut i = 0;
-        while i < chunk.len() {
-            reading = reading.with_byte(chunk[i], words);
-            i += 1;
+        for &byte in chunk {
+            reading = reading.with_byte(byte, words);
         }
         reading
     }

@@ -11,14 +11,16 @@ use Rattle.basics.specs.Star.{stay, onward}
 use Rattle.basics.proofs.Booleans.{same_or, below_or}
 use Rattle.basics.proofs.Bounded.{one_entry_more}
 use Rattle.lasso_search.specs.Graph.{Graph, Arc, Bounded, Way}
-use Rattle.lasso_search.specs.Search.{colour, waiting, blacks, Redder, RedClosed, InnerAsks, InnerSays, SpreadOver, None, Waiting, Since, Drained, met, none}
+use Rattle.lasso_search.specs.Search.{colour, waiting, blacks, Redder, RedClosed, InnerAsks, InnerSays, SpreadOver, NoneLeft, Waiting, Since, Drained, met, none}
 use Rattle.lasso_search.specs.Width.{Width, white, grey, black, red}
 use Rattle.lasso_search.proofs.Colours.{coloured_le, coloured_less, redder_same, redder_redder, stays_red, was_grey, was_white, was_black, was_finished, stays_visited, red_or_new}
 use Rattle.lasso_search.proofs.Stores.{Reddens}
 
 -- ONE NODE'S EDGES
-pub spread_start : {wd : Width} {n : ℕ} {To : ℕ → Type 0} {w : List ℕ} {a : ℕ} → SpreadOver wd n To To w w a a
-spread_start =
+pub spread_start :
+    {wd : Width} {n : ℕ} {To Left : ℕ → Type 0} {w : List ℕ} {a : ℕ} → ((y : ℕ) → Left y → To y) → ((y : ℕ) → To y → Left y) →
+    SpreadOver wd n To Left w w a a
+spread_start within all =
     record {
       redder = redder_same;
       rises = omega arith;
@@ -29,8 +31,8 @@ spread_start =
       targets = λ i l m. absurd (omega arith);
       reds = λ i l m. absurd (omega arith);
       waits = λ x l p q. absurd (omega arith);
-      within = λ y t. t;
-      passed = λ y t. inl t;
+      within = within;
+      passed = λ y t. inl (all y t);
     }
 
 module _ {wd : Width} {n : ℕ} {To Left Left' : ℕ → Type 0} {w w1 : List ℕ} {a b : ℕ} (h : SpreadOver wd n To Left w w1 a b)
@@ -124,7 +126,7 @@ module _ {wd : Width} {n : ℕ} {To Left Left' : ℕ → Type 0} {w w1 : List �
 module _ {wd : Width} {g : Graph} (closed : Bounded g) where
   -- once its edges were followed, all targets of a node are red
   spread_reds :
-      {To : ℕ → Type 0} {w w1 : List ℕ} {a b : ℕ} → SpreadOver wd g.size To None w w1 a b → ((y : ℕ) → To y → grey ≤ colour wd w y) →
+      {To : ℕ → Type 0} {w w1 : List ℕ} {a b : ℕ} → SpreadOver wd g.size To NoneLeft w w1 a b → ((y : ℕ) → To y → grey ≤ colour wd w y) →
       (y : ℕ) → To y → colour wd w1 y ≡ red
   spread_reds {w = w} {w1 = w1} h visited y t =
       elim (h.passed y t) [
@@ -134,7 +136,7 @@ module _ {wd : Width} {g : Graph} (closed : Bounded g) where
 
   -- what the inner search begins with
   module _ {s : ℕ} {w w1 : List ℕ} {b : ℕ} (asks : InnerAsks wd g s w) (same : length w1 ≡ length w)
-      (h : SpreadOver wd g.size (Arc g s) None w w1 0 b) where
+      (h : SpreadOver wd g.size (Arc g s) NoneLeft w w1 0 b) where
     pub waiting_start : Waiting wd g w1 b
     waiting_start =
         record {
@@ -171,7 +173,7 @@ module _ {wd : Width} {g : Graph} (closed : Bounded g) where
 
   -- one waiting node less, and its black targets more
   module _ {w w1 : List ℕ} {k b : ℕ} (q : Waiting wd g w (suc k)) (same : length w1 ≡ length w)
-      (h : SpreadOver wd g.size (Arc g (waiting g.size w k)) None w w1 k b) where
+      (h : SpreadOver wd g.size (Arc g (waiting g.size w k)) NoneLeft w w1 k b) where
     red_again :
         (x : ℕ) → x < g.size → colour wd w x ≡ red →
         ((i : ℕ) × (i < b) × (waiting g.size w1 i ≡ x)) ⊎ ((y : ℕ) → Arc g x y → colour wd w1 y ≡ red)

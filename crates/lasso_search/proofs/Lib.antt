@@ -1,4 +1,3 @@
-pub mod Chains
 pub mod Colours
 pub mod Descends
 pub mod Drains
@@ -8,6 +7,8 @@ pub mod Given
 pub mod Inner
 pub mod Outer
 pub mod Places
-pub mod Product
+pub mod ProductGraph
+pub mod Shades
 pub mod Stores
+pub mod Walks
 pub mod Width

@@ -1,26 +1,19 @@
 -- Laws of nodes as places: position and state of a node, its letter, and where the next position begins. Assumes nothing.
 use mathlib.Core.Path.{◌≡◌}
 use mathlib.Core.List.{List}
-use Prim.Native.Nat.{ℕ, suc, ◌+◌, ◌*◌, ◌-◌, ◌/◌, ◌^◌, ◌≤◌, ◌<◌}
+use Prim.Native.Nat.{ℕ, suc, ◌+◌, ◌*◌, ◌-◌, ◌/◌, ◌≤◌, ◌<◌}
 use native.Mathlib.Omega.{arith}
-use native.Mathlib.Nat.{div-lt_iff_lt-mul, mul-le-mul_right}
+use native.Mathlib.Nat.{div-lt_iff_lt-mul}
 use native.Mathlib.Numerals.{add-one}
 use lib.ListN.{length, get_or}
 use Rattle.basics.proofs.Booleans.{lt_ltb, ge_ltb}
 use Rattle.automata.specs.Lasso.{positions, position_letter, next_position}
 use Rattle.lasso_search.specs.Product.{node_letter, node_base}
-use Rattle.lasso_search.specs.Steps.{NodeAsks}
-use Rattle.lasso_search.specs.Width.{machine_bits}
 
 -- a node's position is one of the lasso's
-pub position_inside : {u v : List ℕ} {n x : ℕ} → NodeAsks u v n x → x / n < length u + length v
+pub position_inside : (u v : List ℕ) {n x : ℕ} → 1 ≤ n → x < positions u v * n → x / n < length u + length v
 unfolding positions
-position_inside a = (div-lt_iff_lt-mul a.some).1 a.inside
-
--- and the first node of a position is a number of a machine word
-pub node_fits : {u v : List ℕ} {n x : ℕ} → NodeAsks u v n x → (p : ℕ) → p ≤ length u + length v → p * n < 2 ^ machine_bits
-unfolding positions
-node_fits {n = n} a p l = let k = mul-le-mul_right n l in let s = a.small in omega arith
+position_inside u v some l = (div-lt_iff_lt-mul some).1 l
 
 module _ (u v : List ℕ) (n x : ℕ) where
   pub letter_prefix : x / n < length u → get_or u (x / n) 0 ≡ node_letter n u v x

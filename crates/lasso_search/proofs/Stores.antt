@@ -9,7 +9,7 @@ use lib.Seq.{get_or-set_same, get_or-set_other}
 use Rattle.basics.specs.Packed.{digit, packed, raised}
 use Rattle.basics.proofs.Packed.{pow_pow, digit_fits, packed_raised, packed_others, raised_length, raised_beyond}
 use Rattle.lasso_search.specs.Search.{colour, stacked, cursor, waiting, risen, entered, advanced, reddened}
-use Rattle.lasso_search.specs.Steps.{RaiseAsks}
+use Rattle.lasso_search.specs.Steps.{TurnAsks}
 use Rattle.lasso_search.specs.Width.{Width, white, grey, black, red, colour_bits, colours, word_colours, WidthFits}
 use Rattle.lasso_search.proofs.Width.{word_filled, colour_word}
 
@@ -20,32 +20,34 @@ pub colour_read :
 unfolding colour packed digit
 colour_read wd w x = rw (pow_pow 2 colour_bits (x % word_colours wd)) refl
 
-module _ {wd : Width} (fits : WidthFits wd) {w : List ℕ} {x by : ℕ} (a : RaiseAsks wd w x by)
+module _ {wd : Width} (fits : WidthFits wd) {w : List ℕ} {x from to : ℕ} (a : TurnAsks wd w x from to)
     (word : get_or w (x / word_colours wd) 0 < 2 ^ wd.work_bits) where
-  sum_fits : get_or w (x / word_colours wd) 0 + by * colours ^ (x % word_colours wd) < 2 ^ wd.work_bits
+  sum_fits : get_or w (x / word_colours wd) 0 + (to - from) * colours ^ (x % word_colours wd) < 2 ^ wd.work_bits
   unfolding colour packed
   sum_fits =
-      let within = a.within in
+      let is_from = a.is_from in
+      let rises = a.rises in
+      let to_red = a.to_red in
       let filled = word_filled fits in
       rw (← filled)
-      (digit_fits colours (omega arith) by (word_colours wd) (get_or w (x / word_colours wd) 0) (x % word_colours wd)
+      (digit_fits colours (omega arith) (to - from) (word_colours wd) (get_or w (x / word_colours wd) 0) (x % word_colours wd)
       (rw (← filled) at word) (mod-lt x fits.some) (omega arith))
 
-  shifted : by * 2 ^ (colour_bits * (x % word_colours wd)) % 2 ^ wd.work_bits ≡ by * colours ^ (x % word_colours wd)
+  shifted : (to - from) * 2 ^ (colour_bits * (x % word_colours wd)) % 2 ^ wd.work_bits ≡ (to - from) * colours ^ (x % word_colours wd)
   shifted =
-      let small : by * colours ^ (x % word_colours wd) < 2 ^ wd.work_bits = (let k = sum_fits in omega arith) in
+      let small : (to - from) * colours ^ (x % word_colours wd) < 2 ^ wd.work_bits = (let k = sum_fits in omega arith) in
       rw (← pow_pow 2 colour_bits (x % word_colours wd)) (mod-eq_of_lt small)
 
-  pub raise_fits :
-      get_or w (x / word_colours wd) 0 + by * 2 ^ (colour_bits * (x % word_colours wd)) % 2 ^ wd.work_bits < 2 ^ wd.work_bits
-  raise_fits = rw shifted sum_fits
+  pub turn_fits :
+      get_or w (x / word_colours wd) 0 + (to - from) * 2 ^ (colour_bits * (x % word_colours wd)) % 2 ^ wd.work_bits < 2 ^ wd.work_bits
+  turn_fits = rw shifted sum_fits
 
-  pub raise_is :
+  pub turn_is :
       set w (x / word_colours wd)
-      (get_or w (x / word_colours wd) 0 + by * 2 ^ (colour_bits * (x % word_colours wd)) % 2 ^ wd.work_bits)
-      ≡ risen wd w x by
+      (get_or w (x / word_colours wd) 0 + (to - from) * 2 ^ (colour_bits * (x % word_colours wd)) % 2 ^ wd.work_bits)
+      ≡ risen wd w x (to - from)
   unfolding risen raised
-  raise_is = rw shifted refl
+  turn_is = rw shifted refl
 
 -- the colour of one node rises
 pub record Recolours (wd : Width) (n : ℕ) (w w' : List ℕ) (x c : ℕ) : Type 0 where

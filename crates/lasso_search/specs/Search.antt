@@ -1,5 +1,5 @@
 -- The state of the search in the work words, and its invariant. Assumes nothing: these are definitions.
-use Rattle.std.specs.Prelude.{◌≡◌, Bool, true, false, List, ◌⊎◌, ℕ, suc, ◌+◌, ◌*◌, ◌-◌, ◌≤◌, ◌<◌, eqb, length, get_or, set}
+use Rattle.std.specs.Prelude.{◌≡◌, Bool, true, false, List, Option, Some, None, ◌⊎◌, ℕ, suc, ◌+◌, ◌*◌, ◌-◌, ◌≤◌, ◌<◌, eqb, length, get_or, set}
 use Rattle.basics.specs.Bounded.{count}
 use Rattle.basics.specs.Packed.{packed, raised}
 use Rattle.lasso_search.specs.Graph.{Graph, Arc, Way, NodeReached, Cycle}
@@ -125,13 +125,13 @@ pub record SpreadOver (wd : Width) (size : ℕ) (To Left : ℕ → Type 0) (w w_
   pub within : (y : ℕ) → Left y → To y
   pub passed : (y : ℕ) → To y → Left y ⊎ ((colour wd w y ≡ white) ⊎ (colour wd w_now y ≡ red))
 
--- nothing
-pub data None (y : ℕ) : Type 0 where
+-- no target is left
+pub data NoneLeft (y : ℕ) : Type 0 where
 
--- one more than the size where a grey node was met, else how many nodes wait now
-pub data SpreadSays (wd : Width) (size : ℕ) (To : ℕ → Type 0) (w w_now : List ℕ) (from r : ℕ) : Type 0 where
-  met : (y : ℕ) → To y → y < size → colour wd w y ≡ grey → r ≡ size + 1 → SpreadSays wd size To w w_now from r
-  spread : r ≤ size → SpreadOver wd size To None w w_now from r → SpreadSays wd size To w w_now from r
+-- none where a grey node was met, else how many nodes wait now
+pub data SpreadSays (wd : Width) (size : ℕ) (To : ℕ → Type 0) (w w_now : List ℕ) (from : ℕ) : (r : Option ℕ) → Type 0 where
+  met : (y : ℕ) → To y → y < size → colour wd w y ≡ grey → SpreadSays wd size To w w_now from None
+  spread : {to : ℕ} → SpreadOver wd size To NoneLeft w w_now from to → SpreadSays wd size To w w_now from (Some to)
 
 -- THE INVARIANT of the inner search: so many red nodes wait, and the edges of all other red nodes lead to red nodes
 pub record Waiting (wd : Width) (g : Graph) (w : List ℕ) (wait : ℕ) : Type 0 where

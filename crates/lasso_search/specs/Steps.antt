@@ -1,80 +1,37 @@
 -- What the functions of the search ask and answer. Assumes nothing: these are definitions.
-use Rattle.std.specs.Prelude.{◌≡◌, Bool, true, false, ◌&&◌, List, ◌⊎◌, ℕ, suc, ◌+◌, ◌*◌, ◌-◌, ◌/◌, ◌^◌, ◌≤◌, ◌<◌, eqb, length}
-use Rattle.automata.specs.Lasso.{positions}
-use Rattle.tables.specs.Table.{n_of, m_of, letter_of, target_of, next_of, table_refusal}
+use Rattle.std.specs.Prelude.{◌≡◌, Bool, true, false, List, Option, Some, None, ℕ, suc, ◌+◌, ◌*◌, ◌-◌, ◌/◌, ◌^◌, ◌≤◌, ◌<◌, length}
+use Rattle.tables.specs.Table.{n_of, m_of, table_refusal}
 use Rattle.lasso_search.specs.Graph.{Graph, Arc, Found}
-use Rattle.lasso_search.specs.Product.{ChainTo, product_graph}
-use Rattle.lasso_search.specs.Search.{colour, stacked, whites, blacks, risen, reddened, Search, Grows, InnerAsks, InnerSays, Waiting}
+use Rattle.lasso_search.specs.Product.{product_graph}
+use Rattle.lasso_search.specs.Search.{colour, stacked, whites, blacks, risen, reddened, Search, Grows, InnerSays}
 use Rattle.lasso_search.specs.Width.{Width, machine_bits, white, grey, black, red, word_colours, Few}
 
--- A COLOUR that rises to red at most
-pub record RaiseAsks (wd : Width) (w : List ℕ) (node by : ℕ) : Type 0 where
+-- A NODE TURNS from one colour into a later one
+pub record TurnAsks (wd : Width) (w : List ℕ) (node from to : ℕ) : Type 0 where
   pub inside : node / word_colours wd < length w
-  pub within : colour wd w node + by ≤ red
+  pub is_from : colour wd w node ≡ from
+  pub rises : from ≤ to
+  pub to_red : to ≤ red
 
--- A NODE of the product, and numbers small enough to count with
-pub record NodeAsks (u v : List ℕ) (states node : ℕ) : Type 0 where
-  pub some : 1 ≤ states
-  pub inside : node < positions u v * states
-  pub small : positions u v * states < 2 ^ machine_bits
-
--- A CHAIN from a record on, whose targets lie among the nodes of one position
-pub record ChainAsks (wd : Width) (t : List ℕ) (states nodes base number : ℕ) : Type 0 where
-  pub valid : table_refusal wd.range t ≡ 0
-  pub counted : states ≡ n_of t
-  pub number_to : number ≤ m_of t
-  pub fits : base + n_of t ≤ nodes
-  pub small : Few wd.work_bits base
-
--- one record of it
-pub record EdgeAsks (wd : Width) (t : List ℕ) (states nodes base number : ℕ) : Type 0 where
-  pub chain : ChainAsks wd t states nodes base number
-  pub from_one : 1 ≤ number
-
--- the record is an edge on this letter to a white node
-unfoldable pub white_edge : Width → (t w : List ℕ) → (letter base number : ℕ) → Bool
-white_edge wd t w c b r = eqb (letter_of t r) c && eqb (colour wd w (b + target_of t r)) white
-
--- a record of the chain on this letter whose target is white; records before it lead to visited nodes on this letter
-pub record WhiteAt (wd : Width) (t w : List ℕ) (letter base first r : ℕ) : Type 0 where
-  pub from_one : 1 ≤ r
-  pub number_to : r ≤ m_of t
-  pub to_white : colour wd w (base + target_of t r) ≡ white
-  pub edge : ChainTo t letter base (base + target_of t r) first
-  pub rest : (y : ℕ) → ChainTo t letter base y (next_of t r) → ChainTo t letter base y first
-  pub passed :
-      (y : ℕ) → ChainTo t letter base y first →
-      (grey ≤ colour wd w y) ⊎ ((y ≡ base + target_of t r) ⊎ ChainTo t letter base y (next_of t r))
-
--- the first such record, or zero
-pub data NextWhite (wd : Width) (t w : List ℕ) (letter base first : ℕ) (r : ℕ) : Type 0 where
-  no_white : r ≡ 0 → ((y : ℕ) → ChainTo t letter base y first → grey ≤ colour wd w y) → NextWhite wd t w letter base first r
-  white_at : WhiteAt wd t w letter base first r → NextWhite wd t w letter base first r
-
--- ONE EDGE followed by the inner search
-pub record FollowAsks (wd : Width) (t w : List ℕ) (states size base number wait : ℕ) : Type 0 where
-  pub edge : EdgeAsks wd t states size base number
-  pub small : Few wd.work_bits size
+-- ONE EDGE followed by the inner search, from so many waiting nodes on
+pub record FollowAsks (wd : Width) (size : ℕ) (w : List ℕ) (target wait : ℕ) : Type 0 where
+  pub inside : target < size
   pub long : 4 * size ≤ length w
   pub room : wait + blacks wd size w ≤ size
 
-pub data FollowSays (wd : Width) (t : List ℕ) (size letter base number : ℕ) (w w_now : List ℕ) (wait r : ℕ) : Type 0 where
-  other_letter : (letter_of t number ≡ letter → ⊥) → w_now ≡ w → r ≡ wait → FollowSays wd t size letter base number w w_now wait r
-  grey_met : letter_of t number ≡ letter → colour wd w (base + target_of t number) ≡ grey → r ≡ size + 1 → FollowSays wd t size letter base number w w_now wait r
+-- none where it is grey, else how many wait now: one more where it was black
+pub data FollowSays (wd : Width) (size target : ℕ) (w w_now : List ℕ) (wait : ℕ) : (r : Option ℕ) → Type 0 where
+  grey_met : colour wd w target ≡ grey → FollowSays wd size target w w_now wait None
   black_met :
-      letter_of t number ≡ letter → colour wd w (base + target_of t number) ≡ black →
-      w_now ≡ reddened wd size w (base + target_of t number) wait → r ≡ wait + 1 →
-      FollowSays wd t size letter base number w w_now wait r
+      colour wd w target ≡ black → w_now ≡ reddened wd size w target wait → FollowSays wd size target w w_now wait (Some (wait + 1))
   other_met :
-      (colour wd w (base + target_of t number) ≡ grey → ⊥) → (colour wd w (base + target_of t number) ≡ black → ⊥) →
-      w_now ≡ w → r ≡ wait → FollowSays wd t size letter base number w w_now wait r
+      (colour wd w target ≡ grey → ⊥) → (colour wd w target ≡ black → ⊥) → w_now ≡ w → FollowSays wd size target w w_now wait (Some wait)
 
--- all edges of a chain
-pub record SpreadAsks (wd : Width) (t w : List ℕ) (states size base number wait : ℕ) : Type 0 where
-  pub chain : ChainAsks wd t states size base number
-  pub small : Few wd.work_bits size
-  pub long : 4 * size ≤ length w
-  pub room : wait + blacks wd size w ≤ size
+-- ALL EDGES OF A NODE followed
+pub record SpreadAsks (wd : Width) (g : Graph) (w : List ℕ) (node wait : ℕ) : Type 0 where
+  pub inside : node < g.size
+  pub long : 4 * g.size ≤ length w
+  pub room : wait + blacks wd g.size w ≤ g.size
 
 -- A TABLE AND A LASSO that were not refused
 pub record Given (wd : Width) (t u v : List ℕ) (states size : ℕ) : Type 0 where
@@ -86,20 +43,6 @@ pub record Given (wd : Width) (t u v : List ℕ) (states size : ℕ) : Type 0 wh
   pub machine : Few machine_bits size
   pub records : m_of t < 2 ^ wd.work_bits
 
-pub record SpreadNodeAsks (wd : Width) (t u v w : List ℕ) (states size node wait : ℕ) : Type 0 where
-  pub given : Given wd t u v states size
-  pub inside : node < (product_graph t u v).size
-  pub long : 4 * (product_graph t u v).size ≤ length w
-  pub room : wait + blacks wd (product_graph t u v).size w ≤ (product_graph t u v).size
-
-pub record DrainAsks (wd : Width) (t u v w : List ℕ) (states size wait : ℕ) : Type 0 where
-  pub given : Given wd t u v states size
-  pub waiting : Waiting wd (product_graph t u v) w wait
-
-pub record MeetsAsks (wd : Width) (t u v w : List ℕ) (states size node : ℕ) : Type 0 where
-  pub given : Given wd t u v states size
-  pub asks : InnerAsks wd (product_graph t u v) node w
-
 -- A WHITE NODE ENTERS
 pub record EnterAsks (wd : Width) (w : List ℕ) (size node first depth : ℕ) : Type 0 where
   pub is_white : colour wd w node ≡ white
@@ -107,14 +50,12 @@ pub record EnterAsks (wd : Width) (w : List ℕ) (size node first depth : ℕ) :
   pub inside : node < size
   pub room : depth < size
   pub long : 4 * size ≤ length w
-  pub small : Few wd.work_bits size
 
 -- THE TOP of the stack
-pub record TopAsks (wd : Width) (t u v w : List ℕ) (states size node depth : ℕ) : Type 0 where
-  pub given : Given wd t u v states size
-  pub search : Search wd (product_graph t u v) w depth
+pub record TopAsks (wd : Width) (g : Graph) (w : List ℕ) (node depth : ℕ) : Type 0 where
+  pub search : Search wd g w depth
   pub from_one : 1 ≤ depth
-  pub top : node ≡ stacked (product_graph t u v).size w (depth - 1)
+  pub top : node ≡ stacked g.size w (depth - 1)
 
 -- a white target of the top enters, or all its targets are visited
 pub data Descended (wd : Width) (g : Graph) (w w_now : List ℕ) (node depth : ℕ) : (r : Bool) → Type 0 where
@@ -130,20 +71,16 @@ pub data Finished (wd : Width) (g : Graph) (node : ℕ) (w w_now : List ℕ) : (
   turns_red : (w_red : List ℕ) → length w_red ≡ length w → InnerSays wd g node w w_red false → w_now ≡ risen wd w_red node (red - grey) → Finished wd g node w w_now false
 
 -- THE SEARCH from the nodes on the stack
-pub record SearchAsks (wd : Width) (t u v w : List ℕ) (states size depth : ℕ) : Type 0 where
-  pub given : Given wd t u v states size
-  pub search : Search wd (product_graph t u v) w depth
-
 pub data Explored (wd : Width) (g : Graph) (w w_now : List ℕ) : (r : Bool) → Type 0 where
   found : Found g → Explored wd g w w_now true
   exhausted : Search wd g w_now 0 → Grows wd g.size w w_now → Explored wd g w w_now false
 
--- and from one state at the first position
-pub record TryAsks (wd : Width) (t u v w : List ℕ) (states size state : ℕ) : Type 0 where
-  pub given : Given wd t u v states size
-  pub search : Search wd (product_graph t u v) w 0
+-- and from one state at the first position, with an empty stack
+pub record TryAsks (wd : Width) (g : Graph) (w : List ℕ) (states state : ℕ) : Type 0 where
+  pub search : Search wd g w 0
   pub inside : state < states
 
+-- its node is visited then, if it is initial
 pub data TrySays (wd : Width) (g : Graph) (w w_now : List ℕ) (state : ℕ) : (r : Bool) → Type 0 where
   found : Found g → TrySays wd g w w_now state true
   tried :

@@ -1,29 +1,18 @@
 // The colours of the nodes, packed into the work words, so that they stay in the caches. Every change of a colour is a rise.
-ghost use Rattle.std.specs.Prelude.{◌≡◌, ◌/◌, ◌<◌, length};
+ghost use Rattle.std.specs.Prelude.{◌≡◌, ◌-◌, ◌/◌, ◌<◌, length};
 ghost use Rattle.lasso_search.specs.Search.{colour, risen};
-ghost use Rattle.lasso_search.specs.Steps.{RaiseAsks};
-ghost use Rattle.lasso_search.specs.Width.{width_16, word_colours};
+ghost use Rattle.lasso_search.specs.Shades.{shade};
+ghost use Rattle.lasso_search.specs.Steps.{TurnAsks};
+ghost use Rattle.lasso_search.specs.Width.{width_16, colours, word_colours};
 
-// A node that was not met is white.
-pub(crate) const WHITE: u32 = 0;
-
-// One on the stack is grey.
-pub(crate) const GREY: u32 = 1;
-
-// A finished one is black.
-pub(crate) const BLACK: u32 = 2;
-
-// Or red, if it leads to red nodes only.
-pub(crate) const RED: u32 = 3;
-
-// By how much a node's colour rises that turns from one into the other.
-pub(crate) const WHITE_TO_GREY: u32 = GREY - WHITE;
-
-pub(crate) const GREY_TO_BLACK: u32 = BLACK - GREY;
-
-pub(crate) const GREY_TO_RED: u32 = RED - GREY;
-
-pub(crate) const BLACK_TO_RED: u32 = RED - BLACK;
+// A node that was not met is white, one on the stack grey, a finished one black, or red, if it leads to red nodes only.
+#[derive(Clone, Copy, PartialEq, Eq)]
+pub(crate) enum Colour {
+    White,
+    Grey,
+    Black,
+    Red,
+}
 
 // The bits of a colour.
 const COLOUR_BITS: usize = 2;
@@ -37,19 +26,44 @@ const WORK_BITS: usize = 32;
 // How many colours a work word holds.
 pub const WORD_COLOURS: usize = WORK_BITS / COLOUR_BITS;
 
-// The colour of a node.
-pub(crate) fn colour_of(work: &[u32], node: usize) -> u32
-    requires { node / word_colours width_16 < length work.now }
-    ensures { result ≡ colour width_16 work.now node }
-{
-    (work[node / WORD_COLOURS] >> (COLOUR_BITS * (node % WORD_COLOURS))) % COLOURS
+// A colour in its bits.
+impl From<Colour> for u32 {
+    ghost from_gives = { λ colour bits. bits ≡ shade colour };
+
+    fn from(colour: Colour) -> u32 {
+        colour as u32
+    }
 }
 
-// The colour of a node rises by so much.
-pub(crate) fn raise(work: &mut [u32], node: usize, by: u32)
-    requires { RaiseAsks width_16 work.old node by }
-    ensures { work.new ≡ risen width_16 work.old node by }
+impl Colour {
+    // The colour in these bits.
+    fn of_bits(bits: u32) -> Colour
+        requires { bits < colours }
+        ensures { shade result ≡ bits }
+    {
+        match bits {
+            0 => Colour::White,
+            1 => Colour::Grey,
+            2 => Colour::Black,
+            _ => Colour::Red,
+        }
+    }
+}
+
+// The colour of a node.
+pub(crate) fn colour_of(work: &[u32], node: usize) -> Colour
+    requires { node / word_colours width_16 < length work.now }
+    ensures { shade result ≡ colour width_16 work.now node }
 {
+    Colour::of_bits((work[node / WORD_COLOURS] >> (COLOUR_BITS * (node % WORD_COLOURS))) % COLOURS)
+}
+
+// A node turns from one colour into a later one.
+pub(crate) fn turn(work: &mut [u32], node: usize, from: Colour, to: Colour)
+    requires { TurnAsks width_16 work.old node (shade from) (shade to) }
+    ensures { work.new ≡ risen width_16 work.old node (shade to - shade from) }
+{
+    let by = u32::from(to) - u32::from(from);
     let word = work[node / WORD_COLOURS];
     work[node / WORD_COLOURS] = word + (by << (COLOUR_BITS * (node % WORD_COLOURS)));
 }

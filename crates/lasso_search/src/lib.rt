@@ -2,9 +2,10 @@
 #![tactic(auto)]
 
 mod colouring;
+mod edges;
 mod inner_search;
-mod nodes;
 mod outer_search;
+mod product;
 
 pub use colouring::WORD_COLOURS;
-pub use outer_search::search;
+pub use product::Product;

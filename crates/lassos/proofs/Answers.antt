@@ -16,10 +16,8 @@ use Rattle.automata.specs.Lasso.{letter_at, all_below, Lasso}
 use Rattle.automata.proofs.Decision.{takes_right}
 use Rattle.tables.specs.Table.{Limits, n_of, k_of, meaning, table_refusal}
 use Rattle.tables.proofs.Laws.{valid, meaning_closed}
-use Rattle.lassos.specs.Decision.{as_decision, decision, LassoSays}
+use Rattle.lassos.specs.Decision.{Decision, Taken, NotTaken, Refused, as_decision, decision, LassoSays}
 use Rattle.lassos.specs.Refusals.{longest_part, lengths_refusal, parts_refusal, lasso_refusal}
-use Rattle.lassos.specs.declared.Decision.{Decision}
-use Rattle.lassos.specs.declared.Decision.TheVariants.{Taken, NotTaken, Refused}
 use Rattle.lassos.proofs.Decides.{as_refused}
 use Rattle.lassos.proofs.Parts.{accepted, parts_own}
 

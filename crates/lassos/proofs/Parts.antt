@@ -1,50 +1,37 @@
 -- Laws of refusals 13 to 16: what each test finds, and what holds of a table and a lasso that none refuses. Assumes nothing.
-use mathlib.Core.Path.{◌≡◌, refl, sym, ◌∙◌}
+use mathlib.Core.Path.{◌≡◌, refl, sym, ap, ◌∙◌}
 use mathlib.Core.Bool.{Bool, true, false, cond, ◌&&◌, ◌||◌, not}
 use mathlib.Core.List.{List}
 use mathlib.Core.Logic.{◌⊎◌, inl, inr}
-use Prim.Native.Nat.{ℕ, ◌+◌, ◌*◌, ◌^◌, ◌≤◌, ◌<◌}
+use Prim.Native.Nat.{ℕ, zero, suc, ◌+◌, ◌*◌, ◌^◌, ◌≤◌, ◌<◌}
+use native.Mathlib.Numerals.{add-one}
 use native.Mathlib.Omega.{arith}
 use native.Mathlib.Nat.{mul-le-mul}
 use lib.Dec.{ltb, eqb}
-use lib.ListN.{length, get_or}
+use lib.ListN.{length, get_or, take}
+use Rattle.std.proofs.lemmas.List.{take_all}
+use Rattle.std.proofs.lemmas.List.Folds.{list_all_more}
+use Rattle.std.specs.List.{list_all}
+use Rattle.basics.specs.Bounded.{each}
 use Rattle.basics.specs.Buffers.{or_else}
-use Rattle.basics.proofs.Booleans.{either, and_l, and_r, and_false_l, and_false_r, false_not, eq_eqb, eqb_ne, ne_eqb, lt_ltb, ge_ltb, ltb_ge, or_false, both_within}
+use Rattle.basics.proofs.Booleans.{either, and_l, and_r, false_not, eq_eqb, eqb_ne, ltb_ge, both_within}
 use Rattle.basics.proofs.Refusing.{passed, answer_most, answer_least, or_else_none, or_else_most, or_else_least, or_else_first, or_else_second}
-use Rattle.basics.proofs.Scans.{scan_fails}
 use Rattle.automata.specs.Lasso.{all_below, Lasso}
 use Rattle.tables.specs.Table.{Limits, n_of, k_of, table_refusal}
 use Rattle.tables.proofs.Refusals.{table_most}
 use Rattle.lasso_search.specs.Width.{machine_bits, Few}
 use Rattle.lassos.specs.Refusals.{longest_part, lengths_refusal, parts_refusal, lasso_refusal}
 
--- A LETTER of a part that is none
-pub not_below : (k : ℕ) (u : List ℕ) (i : ℕ) → i < length u → k ≤ get_or u i 0 → false ≡ all_below k u
+-- EACH LETTER of a part, as a list of letters
+letters_to : (k : ℕ) (u : List ℕ) (n : ℕ) → n ≤ length u → list_all (λ x. ltb x k) (take n u) ≡ each n (λ i. ltb (get_or u i 0) k)
+unfolding each
+letters_to k u zero l = refl
+letters_to k u (suc n) l =
+    rw (← add-one n) (list_all_more (λ x. ltb x k) u n 0 (omega arith) ∙ ap (λ (b : Bool). b && ltb (get_or u n 0) k) (letters_to k u n (omega arith)))
+
+pub letters_all : (k : ℕ) (u : List ℕ) → list_all (λ x. ltb x k) u ≡ all_below k u
 unfolding all_below
-not_below k u i l b = scan_fails (λ j. ltb (get_or u j 0) k) (length u) i l (ge_ltb b)
-
--- THE LENGTHS one after the other
-module _ (p l : ℕ) where
-  pub lengths_13 : l ≡ 0 → 13 ≡ lengths_refusal p l
-  unfolding lengths_refusal
-  lengths_13 e = cc (eq_eqb e)
-
-  module _ (some : l ≡ 0 → ⊥) where
-    past_13 : eqb l 0 ≡ false
-    past_13 = ne_eqb l 0 some
-
-    pub lengths_14_prefix : longest_part < p → 14 ≡ lengths_refusal p l
-    unfolding lengths_refusal
-    lengths_14_prefix long = cc (past_13, lt_ltb long)
-
-    module _ (short : p ≤ longest_part) where
-      pub lengths_14_loop : longest_part < l → 14 ≡ lengths_refusal p l
-      unfolding lengths_refusal
-      lengths_14_loop long = cc (past_13, ge_ltb short, lt_ltb long)
-
-      pub lengths_pass : l ≤ longest_part → 0 ≡ lengths_refusal p l
-      unfolding lengths_refusal
-      lengths_pass short' = cc (past_13, or_false (ge_ltb short) (ge_ltb short'))
+letters_all k u = ap (list_all (λ x. ltb x k)) (sym (take_all (length u) u (omega arith))) ∙ letters_to k u (length u) (omega arith)
 
 -- lengths that are not refused
 pub record Short (p l : ℕ) : Type 0 where
@@ -67,30 +54,9 @@ module _ (n k : ℕ) (u v : List ℕ) (w : ℕ) {x : ℕ} (is_lengths : x ≡ le
   unfolding parts_refusal
   parts_lengths met = is_lengths ∙ sym (or_else_first (lengths_refusal (length u) (length v)) _ (λ z. met (is_lengths ∙ z)))
 
-  module _ (fine : x ≡ 0) where
-    past_14 : eqb (lengths_refusal (length u) (length v)) 0 ≡ true
-    past_14 = eq_eqb (sym is_lengths ∙ fine)
-
-    pub parts_15 : (all_below k u && all_below k v) ≡ false → 15 ≡ parts_refusal n k u v w
-    unfolding parts_refusal or_else
-    parts_15 far = cc past_14
-
-    module _ {p : Bool} (is_p : p ≡ all_below k u) where
-      pub parts_15_prefix : p ≡ false → 15 ≡ parts_refusal n k u v w
-      parts_15_prefix e = parts_15 (and_false_l (all_below k v) (sym is_p ∙ e))
-
-      module _ (yes_p : p ≡ true) {q : Bool} (is_q : q ≡ all_below k v) where
-        pub parts_15_loop : q ≡ false → 15 ≡ parts_refusal n k u v w
-        parts_15_loop e = parts_15 (and_false_r (all_below k u) (sym is_q ∙ e))
-
-        module _ (yes_q : q ≡ true) where
-          pub parts_16 : w < 4 * n * (length u + length v) → 16 ≡ parts_refusal n k u v w
-          unfolding parts_refusal or_else
-          parts_16 l = cc (past_14, lt_ltb l)
-
-          pub parts_pass : 4 * n * (length u + length v) ≤ w → 0 ≡ parts_refusal n k u v w
-          unfolding parts_refusal or_else
-          parts_pass l = cc (past_14, ge_ltb l)
+  pub parts_15 : x ≡ 0 → (all_below k u && all_below k v) ≡ false → 15 ≡ parts_refusal n k u v w
+  unfolding parts_refusal or_else
+  parts_15 fine far = let passed : eqb (lengths_refusal (length u) (length v)) 0 ≡ true = eq_eqb (sym is_lengths ∙ fine) in cc
 
 -- for fewer states than some number with which the largest product can be counted through, the words that are needed can be counted too
 pub needed_fits :

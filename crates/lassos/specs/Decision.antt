@@ -1,11 +1,23 @@
 -- What the lasso decision answers and leaves. Assumes nothing: these are definitions.
-use Rattle.std.specs.Prelude.{◌≡◌, Bool, true, false, List, ℕ, zero, suc, length}
+use Rattle.std.specs.Prelude.{◌≡◌, Bool, true, false, List, Result, Ok, Err, ℕ, zero, suc, length}
 use Rattle.basics.specs.Buffers.{zeros}
+use Rattle.basics.specs.Refusals.{number}
+use Rattle.basics.specs.declared.Refusal.{Refusal}
 use Rattle.automata.specs.Decision.{takes?}
 use Rattle.tables.specs.Table.{Limits, meaning}
 use Rattle.lassos.specs.Refusals.{lasso_refusal}
-use Rattle.lassos.specs.declared.Decision.{Decision}
-use Rattle.lassos.specs.declared.Decision.TheVariants.{Taken, NotTaken, Refused}
+
+-- WHAT THE DECISION ANSWERS: taken, not taken, or the number of the refusal
+pub data Decision : Type 0 where
+  Taken : Decision
+  NotTaken : Decision
+  Refused : (number : ℕ) → Decision
+
+-- the same of what a call gives: whether the lasso is taken, or a refusal
+abbrev pub decided : Result Bool Refusal → Decision
+decided (Ok true) = Taken
+decided (Ok false) = NotTaken
+decided (Err r) = Refused (number r)
 
 -- the answer for a refusal's number, zero where nothing is refused, and for whether the lasso is taken
 unfoldable pub as_decision : (number : ℕ) → (taken : Bool) → Decision

@@ -4,6 +4,5 @@ pub mod Laying
 pub mod Linking
 pub mod Meaning
 pub mod Rising
-pub mod Shifting
 pub mod Valid
 pub mod Words

@@ -1,127 +1,130 @@
 -- Laws of the listing's lines in the lent output: each line, the states, the edges, and all of them behind each other. Assumes nothing.
-use mathlib.Core.Path.{◌≡◌, ◌∙◌}
+use mathlib.Core.Path.{◌≡◌}
+use Rattle.std.specs.Prelude.{Option, Some}
 use mathlib.Core.List.{List, [], ◌∷◌, ◌++◌, append_assoc}
 use Prim.Native.Nat.{ℕ, suc, ◌+◌, ◌*◌, ◌≤◌, ◌<◌}
+use native.Mathlib.Nat.{mul-suc, mul-le-mul_left}
 use native.Mathlib.Numerals.{add-one}
 use native.Mathlib.Omega.{arith}
-use lib.ListN.{length}
 use Rattle.basics.specs.Rows.{rows}
 use Rattle.basics.proofs.Booleans.{eq_eqb, ne_eqb}
 use Rattle.automata.specs.System.{an_edge}
-use Rattle.tables.specs.Access.{RecordAsks}
-use Rattle.tables.specs.Table.{flags_of, letter_of, target_of}
-use Rattle.tables.proofs.Laws.{record_inside}
+use Rattle.tables.specs.Table.{n_of, m_of, flags_of, letter_of, target_of}
 use Rattle.ncsb.specs.declared.Quadruple.{Quadruple}
 use Rattle.record_words.specs.Record.{quadruple_at}
 use Rattle.complement.specs.declared.Counts.{Counts}
-use Rattle.decimal.specs.Lines.{space, newline, field_bytes, line, decimal, ascii, Put}
-use Rattle.decimal.proofs.Placing.{then_put, same_length, wider, Rowing, rowing_start, rowing_turn, rowing_end}
-use Rattle.listing_text.specs.Built.{first_source, source_behind, source_of, built_state, built_edge, built_edges, built_text, printed, LineAsks, Stated, Sourced, Printable}
-use Rattle.listing_text.specs.Listing.{most_states, refused_line, counts_line, state_line, edge_line}
+use Rattle.basics.specs.Refusals.{number}
+use Rattle.basics.specs.declared.Refusal.{Refusal}
+use Rattle.decimal.specs.Lines.{space, newline, field_bytes, line, decimal, ascii, HasRoom, Appended}
+use Rattle.decimal.specs.declared.lines.Output.{Output}
+use Rattle.decimal.proofs.Placing.{nothing_appended, then_appended, appended_wider, appended_room, row_appended}
+use Rattle.listing_text.specs.Built.{IsSource, first_source, source_behind, source_of, built_state, built_edge, built_edges, built_text, printed, Printable, PrintableBuild}
+use Rattle.listing_text.specs.Listing.{refused_line, counts_line, state_line, edge_line}
 use Rattle.listing_text.specs.Output.{refused_bytes, counts_bytes, state_bytes, edge_bytes, text_bytes, output_bytes}
-use Rattle.listing_text.proofs.Sources.{source_reads}
 
 -- LINES
-pub refused_put :
-    (n : ℕ) {o o' o'' : List ℕ} {place end : ℕ} → Put o 0 8 (ascii "refused ") o' place →
-    Put o' place field_bytes (decimal n ++ (newline ∷ [])) o'' end → Put o 0 refused_bytes (refused_line n) o'' end
+pub refused_appended :
+    (r : Refusal) {n : ℕ} {o o' o'' : Output} → n ≡ number r → Appended o 8 (ascii "refused ") o' →
+    Appended o' field_bytes (decimal n ++ (newline ∷ [])) o'' → Appended o refused_bytes (refused_line (number r)) o''
 unfolding refused_line line
-refused_put n p q = then_put p q
+refused_appended r e p q = rw (← e) (then_appended p q)
 
-pub counts_put :
-    (n m : ℕ) {o o₁ o₂ o₃ o₄ : List ℕ} {p₁ p₂ p₃ p₄ : ℕ} → Put o 0 7 (ascii "states ") o₁ p₁ →
-    Put o₁ p₁ field_bytes (decimal n ++ (space ∷ [])) o₂ p₂ → Put o₂ p₂ 6 (ascii "edges ") o₃ p₃ →
-    Put o₃ p₃ field_bytes (decimal m ++ (newline ∷ [])) o₄ p₄ → Put o 0 counts_bytes (counts_line n m) o₄ p₄
+pub counts_appended :
+    (n m : ℕ) {o o₁ o₂ o₃ o₄ : Output} → Appended o 7 (ascii "states ") o₁ →
+    Appended o₁ field_bytes (decimal n ++ (space ∷ [])) o₂ → Appended o₂ 6 (ascii "edges ") o₃ →
+    Appended o₃ field_bytes (decimal m ++ (newline ∷ [])) o₄ → Appended o counts_bytes (counts_line n m) o₄
 unfolding counts_line line ascii
-counts_put n m p q r s =
-    rw (append_assoc (decimal n) (space ∷ []) (ascii "edges " ++ (decimal m ++ (newline ∷ [])))) at (then_put p (then_put q (then_put r s)))
+counts_appended n m p q r s =
+    rw (append_assoc (decimal n) (space ∷ []) (ascii "edges " ++ (decimal m ++ (newline ∷ [])))) at
+    (then_appended p (then_appended q (then_appended r s)))
 
-pub state_put :
-    (w s : List ℕ) (i : ℕ) {x : Quadruple} {f at end : ℕ} {o o' : List ℕ} → x ≡ quadruple_at s i → f ≡ flags_of w i →
-    Put o at state_bytes (line (i ∷ x.N ∷ x.C ∷ x.S ∷ x.B ∷ f ∷ [])) o' end → Put o at state_bytes (built_state w s i) o' end
+pub state_appended :
+    (w s : List ℕ) (i : ℕ) {x : Quadruple} {f : ℕ} {o o' : Output} → x ≡ quadruple_at s i → f ≡ flags_of w i →
+    Appended o state_bytes (line (i ∷ x.N ∷ x.C ∷ x.S ∷ x.B ∷ f ∷ [])) o' → Appended o state_bytes (built_state w s i) o'
 unfolding built_state state_line
-state_put w s i d e p = rw (← d, ← e) p
+state_appended w s i d e p = rw (← d, ← e) p
 
-pub edge_put :
-    (w : List ℕ) (i r : ℕ) {l t at end : ℕ} {o o' : List ℕ} → l ≡ letter_of w r → t ≡ target_of w r →
-    Put o at edge_bytes (line (i ∷ l ∷ t ∷ [])) o' end → Put o at edge_bytes (built_edge w i r) o' end
+pub edge_appended :
+    (w : List ℕ) (i r : ℕ) {l t : ℕ} {o o' : Output} → l ≡ letter_of w r → t ≡ target_of w r →
+    Appended o edge_bytes (line (i ∷ l ∷ t ∷ [])) o' → Appended o edge_bytes (built_edge w i r) o'
 unfolding built_edge edge_line an_edge
-edge_put w i r e f p = rw (← e, ← f) p
+edge_appended w i r e f p = rw (← e, ← f) p
 
--- THE LOOP OF `put_states`: the states passed are written
-abbrev pub Stating : (w s : List ℕ) → (n : ℕ) → (o : List ℕ) → (at i place : ℕ) → (o_now : List ℕ) → Type 0
-Stating w s n = Rowing (built_state w s) state_bytes n
-
-pub state_asked : {w s : List ℕ} {n i : ℕ} → Stated w s n → i < n → LineAsks w s i
-state_asked asked l =
-    let few = asked.few in
-    let there = asked.stored in
-    record { reads = source_reads asked.asks l; few = omega arith; stored = omega arith }
+-- room for one row of those that are still to be written
+pub row_room :
+    (most : ℕ) {n i : ℕ} {xs : List ℕ} {o o' : Output} → HasRoom o (most * n) → i < n → Appended o (most * i) xs o' → HasRoom o' most
+row_room most {n} {i} room l so_far =
+    let more = mul-le-mul_left most l in let one = mul-suc most i in appended_room most so_far (omega arith)
 
 -- THE LOOP OF `put_edges`: the records passed are written, and `source` is that of the one to be written next
 abbrev pub edge_row : (w : List ℕ) → (r : ℕ) → List ℕ
 edge_row w r = built_edge w (source_of w r) (suc r)
 
-pub record Sourcing (w : List ℕ) (m : ℕ) (o : List ℕ) (at i source place : ℕ) (o_now : List ℕ) : Type 0 where
-  pub source_is : source ≡ source_of w i
-  pub written : Rowing (edge_row w) edge_bytes m o at i place o_now
+pub record Sourcing (w : List ℕ) (o : Output) (i : ℕ) (source : Option ℕ) (o_now : Output) : Type 0 where
+  pub within : i ≤ m_of w
+  pub source_is : IsSource w source (source_of w i)
+  pub written : Appended o (edge_bytes * i) (rows i (edge_row w)) o_now
 
--- record i + 1 is one of them
-pub record_asked : {w : List ℕ} {n m i : ℕ} → Sourced w n m → i < m → RecordAsks w n (i + 1)
-record_asked asked l =
-    let e = asked.records in record_inside asked.asks.counted asked.asks.sized (omega arith)
+pub sourcing_start : {w : List ℕ} (o : Output) {x : Option ℕ} → HasRoom o 0 → IsSource w x (first_source w 0) → Sourcing w o 0 x o
+unfolding source_of rows
+sourcing_start o room e = record { within = omega arith; source_is = e; written = nothing_appended o room }
 
-pub sourcing_start : {w o : List ℕ} {m at x : ℕ} → at ≤ length o → x ≡ first_source w 0 → Sourcing w m o at 0 x at o
-unfolding source_of
-sourcing_start {w} l e = record { source_is = e; written = rowing_start (edge_row w) l }
+module _ {w : List ℕ} {o : Output} {i : ℕ} {x : Option ℕ} {o' : Output} (p : Sourcing w o i x o') where
+  module _ {source : ℕ} (e : x ≡ Some source) where
+    sourcing_is : IsSource w (Some source) (source_of w i)
+    sourcing_is = rw e at p.source_is
 
-module _ {w o : List ℕ} {m at i source place : ℕ} {o' : List ℕ} (p : Sourcing w m o at i source place o') where
-  pub sourcing_small : {n : ℕ} → Sourced w n m → i < m → source < most_states
-  sourcing_small asked l = let b = asked.source i l in let few = asked.few in let e = p.source_is in omega arith
+    pub sourcing_small : source < n_of w
+    sourcing_small = let is = sourcing_is in omega (arith, is.0, is.1)
 
-  pub sourcing_turn :
-      {source' place' : ℕ} {o'' : List ℕ} → i < m → Put o' place edge_bytes (built_edge w source (i + 1)) o'' place' →
-      source' ≡ source_behind w source (i + 1) → Sourcing w m o at (i + 1) source' place' o''
-  unfolding source_of
-  sourcing_turn l q e =
-      let s = p.source_is in
-      record {
-        source_is = rw (add-one, ← s) (e ∙ rw add-one);
-        written = rowing_turn (edge_row w) p.written l (rw (s, add-one) at q);
-      }
+    pub sourcing_turn :
+        {number : ℕ} {x' : Option ℕ} {o'' : Output} → number ≡ i + 1 → i < m_of w →
+        Appended o' edge_bytes (built_edge w source number) o'' → IsSource w x' (source_behind w source number) →
+        Sourcing w o number x' o''
+    unfolding source_of
+    sourcing_turn number_is l q behind =
+        let s = sourcing_is.1 in
+        rw number_is
+        (record {
+          within = omega arith;
+          source_is = rw add-one (rw (number_is, s, add-one) at behind);
+          written = row_appended (edge_row w) i p.written (rw (s, number_is, add-one) at q);
+        })
 
-  pub sourcing_end : m ≤ i → Put o at (edge_bytes * m) (built_edges w m) o' place
+  pub sourcing_end : m_of w ≤ i → Appended o (edge_bytes * m_of w) (built_edges w (m_of w)) o'
   unfolding built_edges
-  sourcing_end l = rowing_end (edge_row w) p.written l
+  sourcing_end l = let k = p.within in let e : i ≡ m_of w = omega arith in rw e at p.written
 
 -- THE WHOLE TEXT
-module _ {w s : List ℕ} {n m : ℕ} (all : Printable w s n m) {o o₁ : List ℕ} {p₁ : ℕ} (counted : Put o 0 counts_bytes (counts_line n m) o₁ p₁) where
-  pub states_room : output_bytes ≤ length o → p₁ + state_bytes * n ≤ length o₁
+module _
+    {w s : List ℕ} {n m : ℕ} (states_are : n ≡ n_of w) (edges_are : m ≡ m_of w) (all : Printable w s) {o o₁ : Output}
+    (counted : Appended o counts_bytes (counts_line n m) o₁) where
+  pub states_room : HasRoom o output_bytes → HasRoom o₁ (state_bytes * n)
   unfolding text_bytes
-  states_room k = let l = all.room in let e = same_length counted in let f = counted.near in omega arith
+  states_room room = let l = all.room in appended_room (state_bytes * n) counted (omega arith)
 
-  module _ {o₂ : List ℕ} {p₂ : ℕ} (stated : Put o₁ p₁ (state_bytes * n) (rows n (built_state w s)) o₂ p₂) where
-    pub edges_room : output_bytes ≤ length o → p₂ + edge_bytes * m ≤ length o₂
+  module _ {o₂ : Output} (stated : Appended o₁ (state_bytes * n) (rows n (built_state w s)) o₂) where
+    pub edges_room : HasRoom o output_bytes → HasRoom o₂ (edge_bytes * m_of w)
     unfolding text_bytes
-    edges_room k =
-        let l = all.room in
-        let e = same_length counted in let f = counted.near in
-        let g = same_length stated in let h = stated.near in omega arith
+    edges_room room = let l = all.room in appended_room (edge_bytes * m_of w) (then_appended counted stated) (omega arith)
 
-    pub text_put :
-        {o₃ : List ℕ} {p₃ : ℕ} → Put o₂ p₂ (edge_bytes * m) (built_edges w m) o₃ p₃ → Put o 0 output_bytes (built_text n m w s) o₃ p₃
+    pub text_appended :
+        {o₃ : Output} → Appended o₂ (edge_bytes * m_of w) (built_edges w (m_of w)) o₃ →
+        Appended o output_bytes (built_text (n_of w) (m_of w) w s) o₃
     unfolding built_text text_bytes
-    text_put r = wider output_bytes all.room (then_put counted (then_put stated r))
+    text_appended edges =
+        appended_wider output_bytes all.room
+        (rw (states_are, edges_are) at (then_appended counted (then_appended stated edges)))
 
 -- by the answer's number
 pub answer_accepted :
-    (r : Counts) (w s : List ℕ) {o o' : List ℕ} {end : ℕ} → r.number ≡ 0 → Put o 0 output_bytes (built_text r.states r.edges w s) o' end →
-    Put o 0 output_bytes (printed r w s) o' end
+    (r : Counts) (w s : List ℕ) {o o' : Output} → r.number ≡ 0 → PrintableBuild r.states r.edges w s →
+    Appended o output_bytes (built_text (n_of w) (m_of w) w s) o' → Appended o output_bytes (printed r w s) o'
 unfolding printed
-answer_accepted r w s z p = let e = eq_eqb z in rw e p
+answer_accepted r w s z b p = let e = eq_eqb z in rw (e, b.states_are, b.edges_are) p
 
 pub answer_refused :
-    (r : Counts) (w s : List ℕ) {o o' : List ℕ} {end : ℕ} → (r.number ≡ 0 → ⊥) → Put o 0 refused_bytes (refused_line r.number) o' end →
-    Put o 0 output_bytes (printed r w s) o' end
+    (r : Counts) (w s : List ℕ) {o o' : Output} → (r.number ≡ 0 → ⊥) → Appended o refused_bytes (refused_line r.number) o' →
+    Appended o output_bytes (printed r w s) o'
 unfolding printed
-answer_refused r w s z p = let e = ne_eqb r.number 0 z in rw e (wider output_bytes (omega arith) p)
+answer_refused r w s z p = let e = ne_eqb r.number 0 z in rw e (appended_wider output_bytes (omega arith) p)

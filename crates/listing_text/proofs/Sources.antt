@@ -7,19 +7,19 @@ use Prim.Native.Nat.{ℕ, zero, suc, ◌+◌, ◌≤◌, ◌<◌}
 use native.Mathlib.Numerals.{add-one}
 use native.Mathlib.Omega.{arith}
 use lib.Dec.{eqb}
+use Rattle.std.specs.Prelude.{Option, None, Some}
 use lib.ListN.{length}
 use Rattle.basics.specs.Least.{least_from}
 use Rattle.basics.proofs.Booleans.{eq_eqb, ne_eqb, below_or}
 use Rattle.basics.proofs.Least.{least_from_is, least_here, least_later, least_past}
 use Rattle.automata.specs.Automaton.{Automaton}
 use Rattle.automata.specs.System.{Edge, edge_at}
-use Rattle.tables.specs.Access.{StateAsks}
 use Rattle.tables.specs.Table.{n_of, head_of, next_of}
 use Rattle.layout.specs.Chained.{next_record}
 use Rattle.layout.specs.Orderly.{Orderly}
 use Rattle.layout.proofs.Firsts.{first_is, absent, first_at, Next, next_is, ends, goes_on, rising}
 use Rattle.layout.proofs.Indexed.{Indexed, indexed_n, indexed_head, indexed_next}
-use Rattle.listing_text.specs.Built.{has_chain, first_source, source_behind, source_of, StatesAsk}
+use Rattle.listing_text.specs.Built.{IsSource, has_chain, first_source, source_behind, source_of}
 
 -- a state has a chain exactly if its head is not zero
 has_one : (w : List ℕ) (q : ℕ) → (head_of w q ≡ 0 → ⊥) → has_chain w q ≡ true
@@ -30,36 +30,37 @@ has_none : (w : List ℕ) (q : ℕ) → head_of w q ≡ 0 → has_chain w q ≡ 
 unfolding has_chain
 has_none w q h = let e = eq_eqb h in rw e
 
--- what reading a state's head asks
-pub source_reads : {w : List ℕ} {n i : ℕ} → StatesAsk w n → i < n → StateAsks w i
-source_reads a l = let e = a.counted in record { inside = omega arith; sized = a.sized }
-
 -- THE LOOP OF `first_source`: what is looked for lies from `state` on
-module _ {w : List ℕ} {n : ℕ} (a : StatesAsk w n) (from : ℕ) where
+module _ (w : List ℕ) (from : ℕ) where
   pub source_found :
-      {i x : ℕ} → i < n → x ≡ head_of w i → (x ≡ 0 → ⊥) → least_from (n_of w) i (has_chain w) ≡ first_source w from →
-      i ≡ first_source w from
+      {i x : ℕ} → i < n_of w → x ≡ head_of w i → (x ≡ 0 → ⊥) → least_from (n_of w) i (has_chain w) ≡ first_source w from →
+      IsSource w (Some i) (first_source w from)
   source_found {i} l e h p =
-      let count = a.counted in sym (least_here (n_of w) i (has_chain w) (omega arith) (has_one w i (λ q. h (e ∙ q)))) ∙ p
+      let is : i ≡ first_source w from = sym (least_here (n_of w) i (has_chain w) l (has_one w i (λ q. h (e ∙ q)))) ∙ p in
+      (omega arith, is)
 
   pub source_turn :
-      {i x : ℕ} → i < n → x ≡ head_of w i → x ≡ 0 → least_from (n_of w) i (has_chain w) ≡ first_source w from →
+      {i x : ℕ} → i < n_of w → x ≡ head_of w i → x ≡ 0 → least_from (n_of w) i (has_chain w) ≡ first_source w from →
       least_from (n_of w) (i + 1) (has_chain w) ≡ first_source w from
   source_turn {i} l e h p =
-      let count = a.counted in
-      rw add-one (sym (least_later (n_of w) i (has_chain w) (omega arith) (has_none w i (sym e ∙ h))) ∙ p)
+      rw add-one (sym (least_later (n_of w) i (has_chain w) l (has_none w i (sym e ∙ h))) ∙ p)
 
-  pub source_end : {i : ℕ} → n ≤ i → least_from (n_of w) i (has_chain w) ≡ first_source w from → i ≡ first_source w from
-  source_end {i} l p = let count = a.counted in sym (least_past (n_of w) i (has_chain w) (omega arith)) ∙ p
+  pub source_none :
+      {i : ℕ} → n_of w ≤ i → least_from (n_of w) i (has_chain w) ≡ first_source w from → IsSource w None (first_source w from)
+  source_none {i} l p = λ small. let is = sym (least_past (n_of w) i (has_chain w) l) ∙ p in omega arith
 
 -- EACH WAY OF `source_behind`
-pub behind_same : (w : List ℕ) (i r : ℕ) {x : ℕ} → x ≡ next_of w r → (x ≡ 0 → ⊥) → i ≡ source_behind w i r
+pub behind_same :
+    (w : List ℕ) (i r : ℕ) {x : ℕ} → i < n_of w → x ≡ next_of w r → (x ≡ 0 → ⊥) → IsSource w (Some i) (source_behind w i r)
 unfolding source_behind
-behind_same w i r e h = let t = ne_eqb (next_of w r) 0 (λ q. h (e ∙ q)) in cc
+behind_same w i r l e h = let t = ne_eqb (next_of w r) 0 (λ q. h (e ∙ q)) in rw t (l, refl)
 
-pub behind_next : (w : List ℕ) (i r : ℕ) {x : ℕ} → x ≡ next_of w r → x ≡ 0 → first_source w (i + 1) ≡ source_behind w i r
+pub behind_next :
+    (w : List ℕ) (i r : ℕ) {x : ℕ} (source : Option ℕ) → x ≡ next_of w r → x ≡ 0 → IsSource w source (first_source w (i + 1)) →
+    IsSource w source (source_behind w i r)
 unfolding source_behind
-behind_next w i r e h = let t : eqb (next_of w r) 0 ≡ true = eq_eqb (sym e ∙ h) in rw (add-one, t)
+behind_next w i r source e h p =
+    let t : eqb (next_of w r) 0 ≡ true = eq_eqb (sym e ∙ h) in rw t (rw add-one at p)
 
 -- THE SOURCES OF ORDERLY EDGES
 module _ {a : Automaton} {es : List Edge} (o : Orderly a es) {w : List ℕ} (x : Indexed a es w) where

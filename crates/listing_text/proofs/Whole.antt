@@ -9,7 +9,8 @@ use Rattle.basics.specs.Buffers.{filled}
 use Rattle.basics.proofs.Booleans.{eq_eqb, ne_eqb}
 use Rattle.basics.proofs.Rows.{rows_same}
 use Rattle.automata.specs.System.{an_edge, edge_at, state_at, numbered}
-use Rattle.tables.specs.Table.{Limits, table_words, wide_range, m_of, flags_of}
+use Rattle.tables.specs.Access.{Sized}
+use Rattle.tables.specs.Table.{Limits, table_words, wide_range, n_of, m_of, flags_of}
 use Rattle.layout.specs.Chained.{flags_word}
 use Rattle.layout.specs.Orderly.{Orderly}
 use Rattle.layout.proofs.Indexed.{Indexed, indexed_n, indexed_m, indexed_letter, indexed_target, filled_indexed}
@@ -19,14 +20,16 @@ use Rattle.complement.specs.Build.{Lent, lent, Room, room_of, build_refusal, Bui
 use Rattle.complement.specs.Complement.{system_of, complement, complement_automaton, complement_words, sets_words}
 use Rattle.complement.specs.declared.Counts.{Counts}
 use Rattle.complement.proofs.Second.{complement_orderly, words_length, sets_length, words_left, sets_left, build_number, build_states, build_edges, build_passed}
-use Rattle.decimal.specs.Lines.{Put}
-use Rattle.decimal.specs.Reading.{Scan, ended, numbers_of, read_numbers, bounds_of, reading_of, scan_of, Became, Reads}
+use Rattle.decimal.specs.Lines.{Appended}
+use Rattle.decimal.specs.Reading.{Scan, ended, numbers_of, read_numbers, is_failed, bounds_of, scan_of, Became, Reads}
+use Rattle.decimal.specs.declared.lines.Output.{Output}
 use Rattle.decimal.specs.declared.reading.Reading.{Reading}
-use Rattle.decimal.proofs.Placing.{wider}
-use Rattle.decimal.proofs.Scanning.{holds}
-use Rattle.listing_text.specs.Built.{source_of, built_state, built_edge, built_edges, built_text, printed, StatesAsk, PrintableAnswer}
+use Rattle.decimal.specs.declared.reading.State.TheVariants.{Failed}
+use Rattle.decimal.proofs.Placing.{appended_wider}
+use Rattle.decimal.proofs.Scanning.{not_failed}
+use Rattle.listing_text.specs.Built.{source_of, built_state, built_edge, built_edges, built_text, printed, PrintableAnswer}
 use Rattle.listing_text.specs.Listing.{listing_bounds, most_states, most_words, listing_room, refused_line, state_line, edge_line, accepted_text, answered, listing_of, listing}
-use Rattle.listing_text.specs.Output.{refused_bytes, text_bytes, output_bytes, text_of, Listed}
+use Rattle.listing_text.specs.Output.{refused_bytes, text_bytes, output_bytes, text_of}
 use Rattle.listing_text.proofs.Sources.{source_right}
 
 -- AN ACCEPTED BUILD
@@ -55,26 +58,28 @@ module _
       let e = simp length-append at (ap length (sets_left says accepted)) in
       words_full after.sets r.states (rw n (omega arith))
 
-  -- the words are all there
-  all_words : StatesAsk after.words r.states
-  unfolding filled complement_automaton numbered
-  all_words =
-      let n = build_states says accepted in
-      let k = indexed_n indexed in
-      let m = indexed_m indexed in
-      let long = words_length t in
-      let e = simp length-append at (ap length (words_left says accepted)) in
-      record { counted = n ∙ sym k; sized = omega arith }
+  -- the counts are those of the words, which are all there
+  states_are : r.states ≡ n_of after.words
+  unfolding complement_automaton numbered
+  states_are = build_states says accepted ∙ sym (indexed_n indexed)
 
   edges_are : r.edges ≡ m_of after.words
   edges_are = build_edges says accepted ∙ sym (indexed_m indexed)
 
+  all_words : Sized after.words
+  unfolding filled complement_automaton numbered
+  all_words =
+      let k = indexed_n indexed in
+      let m = indexed_m indexed in
+      let long = words_length t in
+      let e = simp length-append at (ap length (words_left says accepted)) in omega arith
+
   -- each record has a source
-  sources : (i : ℕ) → i < r.edges → source_of after.words i < r.states
+  sources : (i : ℕ) → i < m_of after.words → source_of after.words i < n_of after.words
   unfolding complement_automaton numbered
   sources i l =
-      let n = build_states says accepted in
-      let m = build_edges says accepted in
+      let n = indexed_n indexed in
+      let m = indexed_m indexed in
       let e = source_right orderly indexed i (omega arith) in let b = orderly.source i (omega arith) in omega arith
 
   state_same :
@@ -144,60 +149,58 @@ module _
       record {
         accepted =
             λ accepted.
-            let all = all_words says accepted in
-            let n = all.counted in
+            let n = states_are says accepted in
             let m = edges_are says accepted in
+            let sized = all_words says accepted in
             let there = stored says accepted in
             let kept = full_kept before.sets after.sets same_sets in
             let lent_words = words_room in
             let lent_sets = sets_room in
-            let sized = all.sized in
-            let few : r.states ≤ most_states = omega arith in
+            let few : n_of after.words ≤ most_states = omega arith in
             record {
-              stated = record { asks = all; few = few; stored = there };
-              sourced = record { asks = all; few = few; records = m; source = sources says accepted };
-              few = omega arith;
-              room = text_fits r.states r.edges few (omega arith);
+              states_are = n;
+              edges_are = m;
+              sized = sized;
+              printable =
+                  record {
+                    stated = record { few = few; stored = omega arith };
+                    sourced = record { few = few; source = sources says accepted };
+                    room = text_fits (n_of after.words) (m_of after.words) few (omega arith);
+                  };
             };
       }
 
 -- THE ANSWER to a table
-pub answer_put :
-    {limits : Limits} {t : List ℕ} {r : Counts} {before after : Lent} {output output_now : List ℕ} {end : ℕ} →
+pub answer_appended :
+    {limits : Limits} {t : List ℕ} {r : Counts} {before after : Lent} {o o' : Output} →
     BuildSays limits t r before after →
-    room_of before ≡ listing_room → Put output 0 output_bytes (printed r after.words after.sets) output_now end →
-    Put output 0 output_bytes (answered (build_refusal limits t listing_room) t) output_now end
-answer_put says room p = let e = rw room at (printed_right says) in rw (← e) p
+    room_of before ≡ listing_room → Appended o output_bytes (printed r after.words after.sets) o' →
+    Appended o output_bytes (answered (build_refusal limits t listing_room) t) o'
+answer_appended says room p = let e = rw room at (printed_right says) in rw (← e) p
 
 -- WHAT WAS READ decides what is listed
 module _ (s : Scan) {w w' : List ℕ} {r : Reading} (b : Became (ended s) w r w') where
-  failed_is : r.failed ≡ (ended s).failed
-  unfolding reading_of
-  failed_is = ap (λ (x : Reading). x.failed) b.reading
+  failed_is : is_failed r.state ≡ (ended s).failed
+  unfolding scan_of
+  failed_is = ap (λ (x : Scan). x.failed) b.holds
 
   numbers_are : take r.count w' ≡ (ended s).numbers
   unfolding scan_of
-  numbers_are = ap (λ (x : Scan). x.numbers) (holds b)
+  numbers_are = ap (λ (x : Scan). x.numbers) b.holds
 
-  pub text_failed : r.failed ≡ true → text_of s ≡ refused_line 1
+  pub listed_failed :
+      {o o' : Output} → r.state ≡ Failed → Appended o refused_bytes (refused_line 1) o' → Appended o output_bytes (text_of s) o'
   unfolding text_of numbers_of listing_of
-  text_failed e = let f : (ended s).failed ≡ true = sym failed_is ∙ e in rw f
-
-  pub text_read : r.failed ≡ false → text_of s ≡ answered (build_refusal wide_range (take r.count w') listing_room) (take r.count w')
-  unfolding text_of numbers_of listing_of
-  text_read e = let f : (ended s).failed ≡ false = sym failed_is ∙ e in rw (f, numbers_are)
-
--- both ways of `list_read`
-module _ {r r' : Reading} {t t' output output_now : List ℕ} {end : ℕ} (b : Became (ended (scan_of r t)) t r' t') where
-  pub listed_failed : r'.failed ≡ true → Put output 0 refused_bytes (refused_line 1) output_now end → Listed r t t' output output_now end
   listed_failed e p =
-      record { ended_table = b.words; text = rw (text_failed (scan_of r t) b e) (wider output_bytes (omega arith) p) }
+      let f : (ended s).failed ≡ true = sym failed_is ∙ ap is_failed e in rw f (appended_wider output_bytes (omega arith) p)
 
   pub listed_read :
-      r'.failed ≡ false →
-      Put output 0 output_bytes (answered (build_refusal wide_range (take r'.count t') listing_room) (take r'.count t')) output_now end →
-      Listed r t t' output output_now end
-  listed_read e p = record { ended_table = b.words; text = rw (text_read (scan_of r t) b e) p }
+      {o o' : Output} → (r.state ≡ Failed → ⊥) →
+      Appended o output_bytes (answered (build_refusal wide_range (take r.count w') listing_room) (take r.count w')) o' →
+      Appended o output_bytes (text_of s) o'
+  unfolding text_of numbers_of listing_of
+  listed_read e p =
+      let f : (ended s).failed ≡ false = sym failed_is ∙ not_failed r.state e in rw (f, ← numbers_are) p
 
 -- THE WHOLE PROGRAM: of whatever input was read into words for the largest pattern, the text is the listing of that input
 bounds_are : (w : List ℕ) → length w ≡ listing_bounds.most → bounds_of w ≡ listing_bounds

@@ -1,13 +1,13 @@
 -- The lines of an accepted build, from the words and the sets that it left. Assumes nothing: these are definitions.
-use Rattle.std.specs.Prelude.{◌≡◌, Bool, not, cond, List, ◌++◌, ℕ, zero, suc, ◌≤◌, ◌<◌, eqb}
+use Rattle.std.specs.Prelude.{◌≡◌, Bool, not, cond, List, ◌++◌, ℕ, zero, suc, ◌≤◌, ◌<◌, eqb, Option, SomeIff}
 use Rattle.basics.specs.Least.{least_from}
 use Rattle.basics.specs.Rows.{rows}
 use Rattle.automata.specs.System.{an_edge}
-use Rattle.tables.specs.Access.{Sized, StateAsks}
+use Rattle.tables.specs.Access.{Sized}
 use Rattle.tables.specs.Table.{n_of, m_of, flags_of, head_of, letter_of, target_of, next_of}
 use Rattle.record_words.specs.Record.{full_records, quadruple_at}
 use Rattle.complement.specs.declared.Counts.{Counts}
-use Rattle.listing_text.specs.Listing.{most_states, most_words, refused_line, counts_line, state_line, edge_line}
+use Rattle.listing_text.specs.Listing.{most_states, refused_line, counts_line, state_line, edge_line}
 use Rattle.listing_text.specs.Output.{text_bytes, output_bytes}
 
 -- SOURCES. A build's chains run through consecutive records, so the sources of its records rise.
@@ -27,6 +27,10 @@ source_behind w i r = cond (eqb (next_of w r) 0) (first_source w (suc i)) i
 unfoldable pub source_of : (words : List ℕ) → (r : ℕ) → ℕ
 source_of w zero = first_source w 0
 source_of w (suc r) = source_behind w (source_of w r) (suc r)
+
+-- an answered source: it is one of the states, or there is none
+abbrev pub IsSource : (words : List ℕ) → Option ℕ → (source : ℕ) → Type 0
+IsSource w answer i = SomeIff answer (i < n_of w) i
 
 -- LINES
 unfoldable pub built_state : (words sets : List ℕ) → (state : ℕ) → List ℕ
@@ -48,37 +52,29 @@ unfoldable pub printed : Counts → (words sets : List ℕ) → List ℕ
 printed r w s =
     cond (eqb r.number 0) (built_text r.states r.edges w s) (refused_line r.number)
 
--- WHAT THE FUNCTIONS ASK: a state of the table whose record is there
-pub record LineAsks (words sets : List ℕ) (state : ℕ) : Type 0 where
-  pub reads : StateAsks words state
-  pub few : state < most_states
-  pub stored : state < full_records sets
-
--- the table's state count, and all its words
-pub record StatesAsk (words : List ℕ) (states : ℕ) : Type 0 where
-  pub counted : states ≡ n_of words
-  pub sized : Sized words
-
--- all states, each with its record
-pub record Stated (words sets : List ℕ) (states : ℕ) : Type 0 where
-  pub asks : StatesAsk words states
+-- WHAT THE FUNCTIONS ASK: no more states than there is room for, each with its record
+pub record Stated (sets : List ℕ) (states : ℕ) : Type 0 where
   pub few : states ≤ most_states
   pub stored : states ≤ full_records sets
 
--- all edges, each with a source
-pub record Sourced (words : List ℕ) (states edges : ℕ) : Type 0 where
-  pub asks : StatesAsk words states
-  pub few : states ≤ most_states
-  pub records : edges ≡ m_of words
-  pub source : (r : ℕ) → r < edges → source_of words r < states
+-- all records of a table, each with a source
+pub record Sourced (words : List ℕ) : Type 0 where
+  pub few : n_of words ≤ most_states
+  pub source : (r : ℕ) → r < m_of words → source_of words r < n_of words
 
 -- all of a table that was built, whose listing has room
-pub record Printable (words sets : List ℕ) (states edges : ℕ) : Type 0 where
-  pub stated : Stated words sets states
-  pub sourced : Sourced words states edges
-  pub few : edges ≤ most_words
-  pub room : text_bytes states edges ≤ output_bytes
+pub record Printable (words sets : List ℕ) : Type 0 where
+  pub stated : Stated sets (n_of words)
+  pub sourced : Sourced words
+  pub room : text_bytes (n_of words) (m_of words) ≤ output_bytes
+
+-- a build's counts are those of the words that it left, which are all there, and these can be printed
+pub record PrintableBuild (states edges : ℕ) (words sets : List ℕ) : Type 0 where
+  pub states_are : states ≡ n_of words
+  pub edges_are : edges ≡ m_of words
+  pub sized : Sized words
+  pub printable : Printable words sets
 
 -- what a build left can be printed where it was accepted
 pub record PrintableAnswer (r : Counts) (words sets : List ℕ) : Type 0 where
-  pub accepted : r.number ≡ 0 → Printable words sets r.states r.edges
+  pub accepted : r.number ≡ 0 → PrintableBuild r.states r.edges words sets

@@ -1,145 +1,132 @@
 // Lines of what an accepted build left: a table's words, and its states' sets.
-ghost use Rattle.std.specs.Prelude.{◌≡◌, ◌+◌, ◌*◌, ◌≤◌, ◌<◌, length};
+ghost use Rattle.std.specs.Prelude.{◌*◌, ◌<◌};
 ghost use Rattle.basics.specs.Rows.{rows};
-ghost use Rattle.tables.specs.Access.{RecordAsks};
-ghost use Rattle.decimal.specs.Lines.{Put};
-ghost use Rattle.listing_text.specs.Built.{LineAsks, StatesAsk, Stated, Sourced, Printable, PrintableAnswer, first_source, source_behind, built_state, built_edge, built_edges, built_text, printed};
+ghost use Rattle.tables.specs.Access.{Numbered};
+ghost use Rattle.tables.specs.Table.{n_of, m_of};
+ghost use Rattle.complement.specs.Build.{counted};
+ghost use Rattle.decimal.specs.Lines.{HasRoom, Appended};
+ghost use Rattle.listing_text.specs.Built.{IsSource, Stated, Sourced, Printable, PrintableAnswer, first_source, source_behind, built_state, built_edge, built_edges, built_text, printed};
 ghost use Rattle.listing_text.specs.Listing.{most_states};
 ghost use Rattle.listing_text.specs.Output.{state_bytes, edge_bytes, output_bytes};
 
 use crate::lines::{put_counts, put_refused};
-use complement::Counts;
-use decimal::put_line;
+use basics::Refusal;
+use complement::Size;
+use decimal::Output;
 use record_words::load;
-use tables::{flags_of, head_of, letter_of, next_of, target_of};
+use tables::Table;
 
 // STATES
 
 // A state: its number, N, C, S, B and flags.
-fn put_state(words: &[u16], sets: &[u32], state: usize, output: &mut [u8], at: usize) -> usize
-    requires line_asks { LineAsks words.now sets.now state }
-    requires state_bytes_in_bounds { at + state_bytes ≤ length output.old }
-    ensures { Put output.old at state_bytes (built_state words.now sets.now state) output.new result }
+fn put_state(table: Table, sets: &[u32], state: usize, output: &mut Output)
+    requires stated { Stated sets.now table.states }
+    requires state_lt_states { state < table.states }
+    requires room { HasRoom output.old state_bytes }
+    ensures { Appended output.old state_bytes (built_state table.entry.words.now sets.now state) output.new }
 {
     let x = load(sets, state);
-    let flags = flags_of(words, state);
-    let fields = [state as u32, x.N, x.C, x.S, x.B, flags as u32];
-    put_line(&fields, output, at)
+    let flags = table.flags(state);
+    output.line(&[state as u32, x.N, x.C, x.S, x.B, flags as u32]);
 }
 
-fn put_states(words: &[u16], sets: &[u32], states: usize, output: &mut [u8], at: usize) -> usize
-    requires stated { Stated words.now sets.now states }
-    requires states_in_bounds { at + state_bytes * states ≤ length output.old }
-    ensures { Put output.old at (state_bytes * states) (rows states (built_state words.now sets.now)) output.new result }
+fn put_states(table: Table, sets: &[u32], output: &mut Output)
+    requires stated { Stated sets.now table.states }
+    requires room { HasRoom output.old (state_bytes * table.states) }
+    ensures { Appended output.old (state_bytes * table.entry.states)
+        (rows table.entry.states (built_state table.entry.words.now sets.now)) output.new }
 {
-    let mut place = at;
-    let mut state = 0;
-    while state < states {
-        place = put_state(words, sets, state, output, place);
-        state += 1;
+    for state in 0..table.states {
+        put_state(table, sets, state, output);
     }
-    place
 }
 
 // EDGES
 
-// The first state from one on that has a chain; the state count where none has.
-fn first_source(words: &[u16], states: usize, from: usize) -> usize
-    requires { StatesAsk words.now states }
-    ensures { result ≡ first_source words.now from }
+// The first state from one on that has a chain.
+fn first_source(table: Table, from: usize) -> Option<usize>
+    ensures { IsSource table.entry.words.now result (first_source table.entry.words.now from) }
 {
-    let mut state = from;
-    while state < states {
-        if head_of(words, state) != 0 {
-            return state;
+    for state in from..table.states {
+        if table.head(state) != 0 {
+            return Some(state);
         }
-        state += 1;
     }
-    state
+    None
 }
 
 // The source of the record behind one with this source: chains run through consecutive records.
-fn source_behind(words: &[u16], states: usize, source: usize, number: usize) -> usize
-    requires record_asks { RecordAsks words.now states number }
-    requires source_lt_most_states { source < most_states }
-    ensures { result ≡ source_behind words.now source number }
+fn source_behind(table: Table, source: usize, number: usize) -> Option<usize>
+    requires numbered { Numbered table.words.now number }
+    requires source_lt_states { source < table.states }
+    ensures { IsSource table.entry.words.now result (source_behind table.entry.words.now source number) }
 {
-    if next_of(words, states, number) != 0 {
-        return source;
+    if table.next(number) != 0 {
+        return Some(source);
     }
-    first_source(words, states, source + 1)
+    first_source(table, source + 1)
 }
 
 // An edge: its source, letter and target.
-fn put_edge(
-    words: &[u16],
-    states: usize,
-    source: usize,
-    number: usize,
-    output: &mut [u8],
-    at: usize,
-) -> usize
-    requires record_asks { RecordAsks words.now states number }
+fn put_edge(table: Table, source: usize, number: usize, output: &mut Output)
+    requires numbered { Numbered table.words.now number }
     requires source_lt_most_states { source < most_states }
-    requires edge_bytes_in_bounds { at + edge_bytes ≤ length output.old }
-    ensures { Put output.old at edge_bytes (built_edge words.now source number) output.new result }
+    requires room { HasRoom output.old edge_bytes }
+    ensures { Appended output.old edge_bytes (built_edge table.entry.words.now source number) output.new }
 {
-    let letter = letter_of(words, states, number);
-    let target = target_of(words, states, number);
-    let fields = [source as u32, letter as u32, target as u32];
-    put_line(&fields, output, at)
+    let letter = table.letter(number);
+    let target = table.target(number);
+    output.line(&[source as u32, letter as u32, target as u32]);
 }
 
-// In record order: from record to record the source stays, or moves on to the next state that has edges.
-fn put_edges(words: &[u16], states: usize, edges: usize, output: &mut [u8], at: usize) -> usize
-    requires sourced { Sourced words.now states edges }
-    requires edges_in_bounds { at + edge_bytes * edges ≤ length output.old }
-    ensures { Put output.old at (edge_bytes * edges) (built_edges words.now edges) output.new result }
+// In record order: from record to record the source stays, or moves on to the next state that has edges. Each record has one.
+fn put_edges(table: Table, output: &mut Output)
+    requires sourced { Sourced table.words.now }
+    requires room { HasRoom output.old (edge_bytes * m_of table.words.now) }
+    ensures { let w = table.entry.words.now in
+        Appended output.old (edge_bytes * m_of w) (built_edges w (m_of w)) output.new }
 {
-    let mut source = first_source(words, states, 0);
-    let mut place = at;
-    let mut written = 0;
-    while written < edges {
-        place = put_edge(words, states, source, written + 1, output, place);
-        source = source_behind(words, states, source, written + 1);
-        written += 1;
+    let mut next = first_source(table, 0);
+    for number in 1..=table.records() {
+        let source = next.unwrap();
+        put_edge(table, source, number, output);
+        next = source_behind(table, source, number);
     }
-    place
 }
 
 // THE WHOLE TEXT
 
 // Both counts, the states, and the edges.
-fn put_accepted(
-    words: &[u16],
-    sets: &[u32],
-    states: usize,
-    edges: usize,
-    output: &mut [u8],
-) -> usize
-    requires printable { Printable words.now sets.now states edges }
-    requires output_bytes_in_bounds { output_bytes ≤ length output.old }
-    ensures { Put output.old 0 output_bytes (built_text states edges words.now sets.now) output.new result }
+fn put_accepted(table: Table, sets: &[u32], output: &mut Output)
+    requires printable { Printable table.words.now sets.now }
+    requires room { HasRoom output.old output_bytes }
+    ensures { let w = table.entry.words.now in
+        Appended output.old output_bytes (built_text (n_of w) (m_of w) w sets.now) output.new }
 {
-    let counted = put_counts(states as u32, edges as u32, output);
-    let stated = put_states(words, sets, states, output, counted);
-    put_edges(words, states, edges, output, stated)
+    put_counts(table.states as u32, table.records() as u32, output);
+    put_states(table, sets, output);
+    put_edges(table, output);
 }
 
-// A build's answer and what it left, or the number of the refusal.
-pub(crate) fn put_answer(answer: Counts, words: &[u16], sets: &[u32], output: &mut [u8]) -> usize
-    requires printable_answer { PrintableAnswer answer words.now sets.now }
-    requires output_bytes_in_bounds { output_bytes ≤ length output.old }
-    ensures { Put output.old 0 output_bytes (printed answer words.now sets.now) output.new result }
+// A build's answer and what it left, or the refusal.
+pub(crate) fn put_answer(
+    answer: Result<Size, Refusal>,
+    words: &[u16],
+    sets: &[u32],
+    output: &mut Output,
+)
+    requires printable_answer { PrintableAnswer (counted answer) words.now sets.now }
+    requires room { HasRoom output.old output_bytes }
+    ensures { Appended output.old output_bytes (printed (counted answer) words.now sets.now) output.new }
 {
-    if answer.number != 0 {
-        return put_refused(answer.number, output);
+    match answer {
+        Err(refusal) => put_refused(refusal, output),
+        Ok(size) => {
+            let table = Table {
+                words,
+                states: size.states as usize,
+            };
+            put_accepted(table, sets, output);
+        }
     }
-    put_accepted(
-        words,
-        sets,
-        answer.states as usize,
-        answer.edges as usize,
-        output,
-    )
 }

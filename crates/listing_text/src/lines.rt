@@ -1,27 +1,28 @@
-// The lines that have words in them, at the output's start.
-ghost use Rattle.std.specs.Prelude.{◌≤◌, length};
-ghost use Rattle.decimal.specs.Lines.{Put};
+// The lines that have words in them.
+ghost use Rattle.basics.specs.Refusals.{number};
+ghost use Rattle.decimal.specs.Lines.{HasRoom, Appended};
 ghost use Rattle.listing_text.specs.Listing.{refused_line, counts_line};
 ghost use Rattle.listing_text.specs.Output.{refused_bytes, counts_bytes};
 
-use decimal::{put_field, put_text};
+use basics::Refusal;
+use decimal::Output;
 
 // The whole answer to a refusal.
-pub(crate) fn put_refused(number: u32, output: &mut [u8]) -> usize
-    requires { refused_bytes ≤ length output.old }
-    ensures { Put output.old 0 refused_bytes (refused_line number) output.new result }
+pub(crate) fn put_refused(refusal: Refusal, output: &mut Output)
+    requires { HasRoom output.old refused_bytes }
+    ensures { Appended output.old refused_bytes (refused_line (number refusal)) output.new }
 {
-    let place = put_text(b"refused ", output, 0);
-    put_field(number, b'\n', output, place)
+    output.text(b"refused ");
+    output.field(refusal.number(), b'\n');
 }
 
 // The first line of an accepted build.
-pub(crate) fn put_counts(states: u32, edges: u32, output: &mut [u8]) -> usize
-    requires { counts_bytes ≤ length output.old }
-    ensures { Put output.old 0 counts_bytes (counts_line states edges) output.new result }
+pub(crate) fn put_counts(states: u32, edges: u32, output: &mut Output)
+    requires { HasRoom output.old counts_bytes }
+    ensures { Appended output.old counts_bytes (counts_line states edges) output.new }
 {
-    let mut place = put_text(b"states ", output, 0);
-    place = put_field(states, b' ', output, place);
-    place = put_text(b"edges ", output, place);
-    put_field(edges, b'\n', output, place)
+    output.text(b"states ");
+    output.field(states, b' ');
+    output.text(b"edges ");
+    output.field(edges, b'\n');
 }

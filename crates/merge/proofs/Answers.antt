@@ -3,31 +3,40 @@ use mathlib.Core.Path.{◌≡◌, sym, ap, ◌∙◌}
 use mathlib.Core.List.{List}
 use Prim.Native.Nat.{ℕ, ◌-◌}
 use borrow.Rule.Slice.PartMut.{mid_of, put_mid}
-use lib.ListN.{length, take}
+use native.Mathlib.Omega.{arith}
+use lib.ListN.{length, take, replicate}
+use Rattle.std.specs.Prelude.{Ok, Err}
 use Rattle.basics.specs.Buffers.{as_written, zeros, filled, overwritten}
+use Rattle.basics.specs.Refusals.{number, written}
+use Rattle.basics.specs.declared.Refusal.{Refusal}
 use Rattle.basics.specs.declared.Written.{Written}
 use Rattle.basics.proofs.Filled.{filled_take}
 use Rattle.basics.proofs.Overwriting.{overwritten_cleared}
+use Rattle.basics.proofs.Refusals.{numbered}
 use Rattle.basics.proofs.Refusing.{written_number, written_count, written_none, written_refused, after_accepted, after_refused}
 use Rattle.merge.specs.Merge.{merge_refusal, MergeSays}
 use Rattle.merge.specs.Merged.{merged_words}
 
 -- SAYING IT: a refusal, and an accepted merge
-module _ (t s w : List ℕ) {number : ℕ} (told : number ≡ merge_refusal t s (length w)) {v : List ℕ} where
-  pub says_refused : (number ≡ 0 → ⊥) → v ≡ zeros w → MergeSays t s (record { number = number; count = 0 }) w v
-  says_refused met cleared =
+module _ (t s w : List ℕ) where
+  pub says_refused :
+      (r : Refusal) {v : List ℕ} → number r ≡ merge_refusal t s (length w) → v ≡ replicate (length w) 0 →
+      MergeSays t s (written (Err r)) w v
+  unfolding zeros
+  says_refused r told cleared =
+      let met : number r ≡ 0 → ⊥ = λ none. let some = (numbered r).from_one in omega arith in
       record {
-        answer = written_refused number (merge_refusal t s (length w)) told met (length (merged_words t s));
+        answer = written_refused (number r) (merge_refusal t s (length w)) told met (length (merged_words t s));
         words = cleared ∙ sym (after_refused (merge_refusal t s (length w)) (λ none. met (told ∙ none)) (merged_words t s) w);
       }
 
   pub says_merged :
-      number ≡ 0 → {end : ℕ} {part : List ℕ} → end ≡ length (merged_words t s) → v ≡ overwritten (merged_words t s) w →
-      part ≡ zeros (mid_of end (length v - end) v) →
-      MergeSays t s (record { number = 0; count = end }) w (put_mid end (length v - end) v part)
-  unfolding as_written
-  says_merged none ends laid cleared =
-      let accepted : merge_refusal t s (length w) ≡ 0 = sym told ∙ none in
+      {end : ℕ} {v part : List ℕ} → 0 ≡ merge_refusal t s (length w) → end ≡ length (merged_words t s) →
+      v ≡ overwritten (merged_words t s) w → part ≡ replicate (length (mid_of end (length v - end) v)) 0 →
+      MergeSays t s (written (Ok end)) w (put_mid end (length v - end) v part)
+  unfolding as_written zeros
+  says_merged told ends laid cleared =
+      let accepted : merge_refusal t s (length w) ≡ 0 = sym told in
       record {
         answer = rw (accepted, ends);
         words =

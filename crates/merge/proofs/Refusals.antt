@@ -1,27 +1,15 @@
 -- Refusals of a merge: each where it is met and none before it is; which is met; and what holds where none is. Assumes nothing.
-use mathlib.Core.Path.{◌≡◌, refl, sym, ◌∙◌}
+use mathlib.Core.Path.{◌≡◌, sym, ◌∙◌}
 use mathlib.Core.List.{List}
 use mathlib.Core.Logic.{◌⊎◌, ◌↔◌, inl, inr}
-use Prim.Native.Nat.{ℕ, zero, suc, ◌+◌, ◌≤◌, ◌<◌}
+use Prim.Native.Nat.{ℕ, ◌+◌, ◌≤◌, ◌<◌}
 use native.Mathlib.Omega.{arith}
 use Rattle.basics.proofs.Booleans.{eq_eqb, ne_eqb, lt_ltb, ge_ltb, same_or, below_or}
 use Rattle.basics.proofs.Refusing.{or_else_first, or_else_second}
 use Rattle.tables.specs.Table.{Limits, pattern_range, n_of, k_of, m_of}
-use Rattle.patterns.specs.Check.{check_refusal, check_place, as_checked, checked}
-use Rattle.patterns.specs.declared.Place.{Place}
+use Rattle.patterns.specs.Check.{check_refusal}
 use Rattle.patterns.proofs.Answers.{check_most}
 use Rattle.merge.specs.Merge.{merged_size, pair_refusal, merge_refusal, BothPass, SameLetters, FewStates, FewRecords}
-use Rattle.merge.specs.Steps.{number_of}
-
--- the number of the check's answer is that of its refusal
-as_number : (number : ℕ) (p : Place) → number_of (as_checked number p) ≡ number
-unfolding number_of as_checked
-as_number zero p = refl
-as_number (suc r) p = refl
-
-pub checked_number : (t : List ℕ) → number_of (checked t) ≡ check_refusal t
-unfolding checked
-checked_number t = as_number (check_refusal t) (check_place t)
 
 -- 19 TO 22, each where those before it are not met
 module _ (r : Limits) (t s : List ℕ) (w : ℕ) where
@@ -257,3 +245,8 @@ mergeable {t} {s} {w} none =
     let (few, room) = (none_right t s w).0 none in
     let (((both, letters), states), records) = few in
     record { first = both.0; second = both.1; letters = letters; states = states; records = records; room = room }
+
+-- both patterns have passed their checks before
+pub paired :
+    {t s : List ℕ} {w : ℕ} → check_refusal t ≡ 0 → check_refusal s ≡ 0 → pair_refusal pattern_range t s w ≡ 0 → Mergeable t s w
+paired {t} {s} {w} passes passes' none = mergeable (sym (refused_pair t s w passes passes') ∙ none)

@@ -1,4 +1,3 @@
 pub mod Merge
 pub mod Merged
 pub mod Rows
-pub mod Steps

@@ -10,6 +10,7 @@ pub mod Initials
 pub mod Parting
 pub mod Rational
 pub mod Reached
+pub mod Same
 pub mod Successors
 pub mod Targets
 pub mod Tracked

@@ -14,9 +14,8 @@ use Rattle.basics.proofs.Booleans.{either, lt_ltb, eqb_eq, eqb_ne, leb_le, leb_g
 use Rattle.basics.proofs.Packed.{shift_one}
 use Rattle.sets.specs.Sets.{set_states, set_of}
 use Rattle.sets.proofs.Members.{set_of_lt}
-use Rattle.tables.specs.Access.{StateAsks}
 use Rattle.tables.specs.Table.{pattern_range, table_refusal, n_of, flags_of, is_initial, is_accepting, meaning}
-use Rattle.tables.proofs.Laws.{valid, state_asked}
+use Rattle.tables.proofs.Laws.{valid}
 use Rattle.patterns.specs.Pattern.{initial_states, accepting_states}
 use Rattle.patterns.proofs.Masks.{pattern_few}
 
@@ -61,9 +60,6 @@ module _ (f : ℕ → Bool) (n : ℕ) where
 
 -- the states of a pattern
 module _ (t : List ℕ) (pattern : table_refusal pattern_range t ≡ 0) (states state : ℕ) (counted : states ≡ n_of t) where
-  pub gathered_reads : state < states → StateAsks t state
-  gathered_reads l = state_asked pattern_range t pattern (omega arith)
-
   module _ (flags : ℕ) (read : flags ≡ flags_of t state) (l : state < states) where
     below : ltb state (n_of t) ≡ true
     below = lt_ltb {m = state} {n = n_of t} (omega arith)

@@ -18,7 +18,7 @@ use Rattle.sets.proofs.Members.{empty, set_of_lt}
 use Rattle.tables.specs.Table.{pattern_range, table_refusal, n_of, meaning}
 use Rattle.tables.proofs.Laws.{valid, meaning_closed}
 use Rattle.patterns.specs.Pattern.{targets_of, moves}
-use Rattle.patterns.specs.Masks.{row_of, masks_of, RowAsks}
+use Rattle.patterns.specs.Masks.{row_of, masks_of}
 use Rattle.patterns.proofs.Split.{has_targets}
 
 -- an automaton that the table has room for
@@ -86,10 +86,6 @@ pub pattern_few : (t : List ℕ) → table_refusal pattern_range t ≡ 0 → n_o
 unfolding meaning
 pattern_few t h = (pattern_fits t h).states
 
-pub state_small :
-    (t : List ℕ) → table_refusal pattern_range t ≡ 0 → (states state : ℕ) → states ≡ n_of t → state < states → state < set_states
-state_small t h states state e l = let n = pattern_few t h in omega arith
-
 -- FILLING THE TABLE: rows below `state` are filled, the others are empty
 pub record Filled (t : List ℕ) (masks : List (List ℕ)) (state : ℕ) : Type 0 where
   pub whole : length masks ≡ set_states
@@ -109,11 +105,6 @@ module _ (t : List ℕ) (pattern : table_refusal pattern_range t ≡ 0) where
         done = λ q l. absurd (omega arith);
         rest = λ q _ l. get_or-replicate set_states q (replicate row_letters 0) [] l;
       }
-
-  -- what one turn asks
-  pub filled_asks :
-      (states state : ℕ) → states ≡ n_of t → state < states → RowAsks t states state
-  filled_asks states state e l = record { pattern = pattern; counted = e; inside = l }
 
   pub filled_turn :
       (masks : List (List ℕ)) (states state : ℕ) (row : List ℕ) → states ≡ n_of t → state < states →

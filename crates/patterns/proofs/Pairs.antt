@@ -1,43 +1,28 @@
 -- Laws of the first pair of a state and a letter of which a test holds: what a search that leaves at the first pair finds is it; it is the one pair
 -- that the test holds of with no smaller state and no smaller letter; and there is none exactly where the test holds of no pair. Assumes nothing.
-use mathlib.Core.Path.{◌≡◌, refl, sym, ◌∙◌, ap}
+use mathlib.Core.Path.{◌≡◌, refl, ◌∙◌, ap}
 use mathlib.Core.Bool.{Bool, true, false}
 use mathlib.Core.Logic.{◌⊎◌, inl, inr}
 use Prim.Native.Nat.{ℕ, ◌<◌, ◌≤◌}
+use Rattle.std.specs.Prelude.{Option, Some, None}
 use Rattle.basics.specs.Bounded.{any}
 use Rattle.basics.specs.Least.{least}
-use Rattle.basics.proofs.Booleans.{either, clash}
+use Rattle.basics.specs.declared.Place.{Place}
+use Rattle.basics.proofs.Booleans.{either}
 use Rattle.basics.proofs.Bounded.{any_make, any_find, any_no}
 use Rattle.basics.proofs.Least.{least_below, least_holds, least_none, least_is}
 use Rattle.basics.proofs.Scans.{Scan, scan_none}
-use Rattle.patterns.specs.Check.{place_of_fork}
 use Rattle.patterns.specs.Forks.{smallest_pair, first_pair}
-use Rattle.patterns.specs.declared.Fork.{Fork}
-use Rattle.patterns.specs.declared.Fork.TheVariants.{Nowhere, At}
-use Rattle.patterns.specs.declared.Place.{Place}
-
--- what tells a place from none
-found_in : Fork → Bool
-found_in Nowhere = false
-found_in (At p) = true
-
-at_same : {p q : Place} → At p ≡ At q → p ≡ q
-unfolding place_of_fork
-at_same e = ap place_of_fork e
-
-pub at_nowhere : {p : Place} → At p ≡ Nowhere → ⊥
-unfolding found_in
-at_nowhere e = clash {b = true} refl (ap found_in e)
 
 -- places with the same state and letter are the same
 place_same : {p q : Place} → p.state ≡ q.state → p.letter ≡ q.letter → p ≡ q
 place_same {p} {q} e g =
     ap (λ (x : ℕ). record { state = x; letter = p.letter }) e ∙ ap (λ (y : ℕ). record { state = q.state; letter = y }) g
 
--- a fork is at a place or nowhere
-pub at_or_nowhere : (f : Fork) → ((p : Place) × (f ≡ At p)) ⊎ (f ≡ Nowhere)
-at_or_nowhere Nowhere = inr refl
-at_or_nowhere (At p) = inl (p, refl)
+-- there is a place or none
+pub some_or_none : (f : Option Place) → ((p : Place) × (f ≡ Some p)) ⊎ (f ≡ None)
+some_or_none None = inr refl
+some_or_none (Some p) = inl (p, refl)
 
 -- some letter of a state passes
 abbrev pub row : (letters : ℕ) → (test : (state letter : ℕ) → Bool) → (state : ℕ) → Bool
@@ -61,7 +46,7 @@ module _ (n k : ℕ) (f : (state letter : ℕ) → Bool) where
       let is_letter : least k (f p.state) ≡ p.letter = least_is k (f p.state) p.letter h.letter h.holds h.no_letter in
       place_same {p = smallest_pair n k f} is_state (ap (λ (q : ℕ). least k (f q)) is_state ∙ is_letter)
 
-  pub first_is : (p : Place) → First p → At p ≡ first_pair n k f
+  pub first_is : (p : Place) → First p → Some p ≡ first_pair n k f
   unfolding first_pair
   first_is p h =
       let some = any_make k (f p.state) p.letter h.letter h.holds in
@@ -84,37 +69,38 @@ module _ (n k : ℕ) (f : (state letter : ℕ) → Bool) where
         no_letter = least_none k (f (least n (row k f)));
       }
 
-  pub is_first : (p : Place) → first_pair n k f ≡ At p → First p
+  pub is_first : (p : Place) → first_pair n k f ≡ Some p → First p
   unfolding first_pair
   is_first p e =
       elim (either (any n (row k f))) [
         | inl some ↦
-            let at : At (smallest_pair n k f) ≡ At p = rw some at e in rw (← at_same at) (smallest_first some)
-        | inr none ↦ let no : Nowhere ≡ At p = rw none at e in absurd (at_nowhere (sym no))
+            let found : Some (smallest_pair n k f) ≡ Some p = rw some at e in
+            let same : smallest_pair n k f ≡ p = cc in rw (← same) (smallest_first some)
+        | inr none ↦ let no : None ≡ Some p = rw none at e in cc
       ]
 
   -- where no state passes there is none
-  pub first_none : any n (row k f) ≡ false → Nowhere ≡ first_pair n k f
+  pub first_none : any n (row k f) ≡ false → None ≡ first_pair n k f
   unfolding first_pair
   first_none e = rw e
 
   -- and where there is none no pair passes
-  pub none_first : first_pair n k f ≡ Nowhere → (q c : ℕ) → q < n → c < k → f q c ≡ false
+  pub none_first : first_pair n k f ≡ None → (q c : ℕ) → q < n → c < k → f q c ≡ false
   unfolding first_pair
   none_first e q c l m =
       elim (either (any n (row k f))) [
-        | inl some ↦ let at : At (smallest_pair n k f) ≡ Nowhere = rw some at e in absurd (at_nowhere at)
+        | inl some ↦ let no : Some (smallest_pair n k f) ≡ None = rw some at e in cc
         | inr none ↦ any_no k (f q) (any_no n (row k f) none q l) c m
       ]
 
   -- THE SEARCH, state by state, and in a state letter by letter: it leaves at a pair
   pub search_found :
       (q c : ℕ) → q < n → c < k → Scan false (row k f) n q → Scan false (f q) k c → f q c ≡ true →
-      At (record { state = q; letter = c }) ≡ first_pair n k f
+      Some (record { state = q; letter = c }) ≡ first_pair n k f
   search_found q c l m states letters h =
       first_is (record { state = q; letter = c })
       (record { state = l; letter = m; holds = h; no_state = states.passed; no_letter = letters.passed })
 
   -- or behind the last state
-  pub search_ended : (q : ℕ) → n ≤ q → Scan false (row k f) n q → Nowhere ≡ first_pair n k f
+  pub search_ended : (q : ℕ) → n ≤ q → Scan false (row k f) n q → None ≡ first_pair n k f
   search_ended q l s = first_none (scan_none s l)

@@ -1,21 +1,21 @@
 -- What the place says where an automaton forks: a state of Q2 with two targets on a letter, no smaller state and no smaller letter; it is the only
 -- such place; and there is none exactly if the automaton is semi-deterministic. Assumes nothing.
-use mathlib.Core.Path.{◌≡◌, sym, ◌∙◌}
+use mathlib.Core.Path.{◌≡◌, sym}
 use mathlib.Core.Bool.{true, false, not}
 use mathlib.Core.Logic.{◌↔◌, inl, inr}
 use Prim.Native.Nat.{ℕ, ◌<◌}
 use lib.Dec.{ltb}
+use Rattle.std.specs.Prelude.{Some, None}
 use Rattle.basics.specs.Bounded.{each, any}
+use Rattle.basics.specs.declared.Place.{Place}
 use Rattle.basics.proofs.Booleans.{clash, and_l, and_r, and_make, not_false, not_both}
 use Rattle.basics.proofs.Bounded.{each_make, any_none, any_no}
 use Rattle.automata.specs.Automaton.{Automaton, Closed}
 use Rattle.sets.specs.Sets.{has, size}
 use Rattle.patterns.specs.Forks.{fork_place, Forks, SomeFork, ForksFirst}
 use Rattle.patterns.specs.Pattern.{targets_of, inner_of, forks, semi_deterministic}
-use Rattle.patterns.specs.declared.Fork.TheVariants.{Nowhere, At}
-use Rattle.patterns.specs.declared.Place.{Place}
 use Rattle.patterns.proofs.Inner.{inner_right}
-use Rattle.patterns.proofs.Pairs.{at_nowhere, at_or_nowhere, first_is, is_first, first_none, none_first}
+use Rattle.patterns.proofs.Pairs.{some_or_none, first_is, is_first, first_none, none_first}
 use Rattle.patterns.proofs.Split.{even_forks, two_right}
 
 module _ (a : Automaton) where
@@ -27,9 +27,9 @@ module _ (a : Automaton) where
       (λ q l. each_make a.letters (λ c. not (forks a q c)) (λ c m. not_false (none q c l m)))
 
   -- there is no place exactly if it is
-  pub nowhere_right : (fork_place a ≡ Nowhere) ↔ (semi_deterministic a ≡ true)
+  pub none_right : (fork_place a ≡ None) ↔ (semi_deterministic a ≡ true)
   unfolding fork_place
-  nowhere_right = (
+  none_right = (
     λ e. forks_even (none_first a.states a.letters (forks a) e),
     λ e.
         sym (first_none a.states a.letters (forks a)
@@ -38,12 +38,12 @@ module _ (a : Automaton) where
   )
 
   -- and one exactly if it is not
-  pub place_uneven : {p : Place} → fork_place a ≡ At p → semi_deterministic a ≡ false
-  place_uneven e = not_both (semi_deterministic a) (λ h. at_nowhere (sym e ∙ nowhere_right.1 h))
+  pub place_uneven : {p : Place} → fork_place a ≡ Some p → semi_deterministic a ≡ false
+  place_uneven e = not_both (semi_deterministic a) (λ h. let none = none_right.1 h in cc)
 
-  pub uneven_place : semi_deterministic a ≡ false → (p : Place) × (fork_place a ≡ At p)
+  pub uneven_place : semi_deterministic a ≡ false → (p : Place) × (fork_place a ≡ Some p)
   uneven_place e =
-      elim (at_or_nowhere (fork_place a)) [ inl found ↦ found | inr none ↦ absurd (clash (nowhere_right.0 none) e) ]
+      elim (some_or_none (fork_place a)) [ inl found ↦ found | inr none ↦ absurd (clash (none_right.0 none) e) ]
 
 -- BY EDGES
 module _ (a : Automaton) (closed : Closed a) where
@@ -64,7 +64,7 @@ module _ (a : Automaton) (closed : Closed a) where
   forks_inside q c f = let ends = closed.edge q c f.targets.one f.targets.to_one in (ends.0, ends.1)
 
   -- THE PLACE is the one where it forks first
-  pub place_right : (p : Place) → (fork_place a ≡ At p) ↔ ForksFirst a p
+  pub place_right : (p : Place) → (fork_place a ≡ Some p) ↔ ForksFirst a p
   unfolding fork_place
   place_right p = (
     (λ e.

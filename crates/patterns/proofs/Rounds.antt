@@ -7,7 +7,7 @@ use Prim.Native.Nat.{ℕ, zero, suc, ◌+◌, ◌^◌, ◌≤◌, ◌<◌}
 use native.Mathlib.Omega.{arith}
 use native.Mathlib.Numerals.{add-one}
 use lib.Dec.{ltb}
-use lib.Bits.{bit_or, or_lt}
+use lib.Bits.{or_lt}
 use lib.ListN.{get_or}
 use Rattle.basics.specs.Bounded.{any}
 use Rattle.basics.proofs.Booleans.{and_l, and_make, and_r, lt_ltb, or_assoc, or_none, same_truth}
@@ -22,39 +22,14 @@ use Rattle.patterns.proofs.Inner.{led, led_make, led_find, has_grown, grown_lt, 
 use Rattle.patterns.proofs.Masks.{FitsMasks, mask_right, targets_lt}
 use Rattle.patterns.proofs.Split.{has_targets}
 
--- THE LOOPS
+-- THE LOOP OF ROUNDS
 module _ (masks : List (List ℕ)) (letters : ℕ) where
-  -- a round: the set joined with its targets on the letters so far
-  pub joined_start : (set : ℕ) → set ≡ joined 0 masks set
-  unfolding joined
-  joined_start set = refl
-
-  pub joined_turn :
-      (set all letter : ℕ) → all ≡ joined letter masks set →
-      (more : ℕ) → more ≡ union set_states set (λ q. get_or (get_or masks q []) letter 0) →
-      bit_or all more ≡ joined (letter + 1) masks set
-  unfolding joined
-  joined_turn set all letter e more h = rw (add-one letter, e, h)
-
-  pub joined_end :
-      (set all letter : ℕ) → letter ≤ letters → letters ≤ letter → all ≡ joined letter masks set → all ≡ joined letters masks set
-  joined_end set all letter l m e = let same : letter ≡ letters = omega arith in rw same at e
-
   -- a round more
-  pub rounds_start : (set : ℕ) → set ≡ joined_in 0 letters masks set
-  unfolding joined_in
-  rounds_start set = refl
-
   pub round_turn :
       (set reached round next : ℕ) → reached ≡ joined_in round letters masks set → next ≡ joined letters masks reached →
       next ≡ joined_in (round + 1) letters masks set
   unfolding joined_in
   round_turn set reached round next e n = rw (add-one round, ← e) n
-
-  pub rounds_end :
-      (rounds set reached round : ℕ) → round ≤ rounds → rounds ≤ round → reached ≡ joined_in round letters masks set →
-      reached ≡ joined_in rounds letters masks set
-  rounds_end rounds set reached round l m e = let same : round ≡ rounds = omega arith in rw same at e
 
   -- once a round adds nothing, no later one does
   pub rounds_stop :

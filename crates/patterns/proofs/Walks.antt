@@ -17,12 +17,11 @@ use Rattle.basics.proofs.Packed.{shift_one}
 use Rattle.basics.proofs.Tabulate.{tabulate_at, tabulate_length}
 use Rattle.sets.specs.Sets.{set_states, row_letters, has}
 use Rattle.sets.proofs.Members.{has_zero, has_or, has_single, ext, set_of_lt}
-use Rattle.tables.specs.Access.{StateAsks, RecordAsks}
-use Rattle.tables.specs.Table.{pattern_range, n_of, m_of, head_of, letter_of, target_of, next_of, chain_has, edge, meaning}
+use Rattle.tables.specs.Table.{pattern_range, table_refusal, n_of, m_of, head_of, letter_of, target_of, next_of, chain_has, edge, meaning}
 use Rattle.tables.proofs.Chains.{left, left_less}
-use Rattle.tables.proofs.Laws.{Valid, valid, state_asked, record_asked, chain_ends, chain_step, meaning_closed}
+use Rattle.tables.proofs.Laws.{Valid, valid, chain_ends, chain_step, meaning_closed}
 use Rattle.patterns.specs.Pattern.{targets_of, moves}
-use Rattle.patterns.specs.Masks.{row_of, RowAsks}
+use Rattle.patterns.specs.Masks.{row_of}
 use Rattle.patterns.proofs.Masks.{pattern_few}
 use Rattle.patterns.proofs.Split.{has_targets}
 
@@ -33,29 +32,19 @@ pub record Walked (t : List ℕ) (state : ℕ) (row : List ℕ) (at : ℕ) : Typ
   pub small : (c : ℕ) → get_or row c 0 < 2 ^ n_of t
   pub rest : (c q : ℕ) → c < row_letters → (has (get_or row c 0) q || chain_has (m_of t) t at c q) ≡ edge t state c q
 
-module _ (t : List ℕ) (states s : ℕ) (asks : RowAsks t states s) where
+module _ (t : List ℕ) (pattern : table_refusal pattern_range t ≡ 0) (s : ℕ) where
   v : Valid pattern_range t
-  v = valid pattern_range t asks.pattern
-
-  inside : s < n_of t
-  inside = omega arith
-
-  -- what reading the state, and a record of its chain, asks and answers
-  pub walk_state : StateAsks t s
-  walk_state = state_asked pattern_range t asks.pattern inside
-
-  pub walk_record : (row : List ℕ) (at : ℕ) → (at ≡ 0 → ⊥) → Walked t s row at → RecordAsks t states at
-  walk_record row at some w = record_asked pattern_range t asks.pattern asks.counted (omega arith) w.link
+  v = valid pattern_range t pattern
 
   pub walk_letter : (row : List ℕ) (at l : ℕ) → (at ≡ 0 → ⊥) → Walked t s row at → l ≡ letter_of t at → l < row_letters
   walk_letter row at l some w e = let a = v.letter at (omega arith) w.link in let k = v.letters_to in omega arith
 
   pub walk_target : (row : List ℕ) (at q : ℕ) → (at ≡ 0 → ⊥) → Walked t s row at → q ≡ target_of t at → q < set_states
-  walk_target row at q some w e = let a = v.target at (omega arith) w.link in let n = pattern_few t asks.pattern in omega arith
+  walk_target row at q some w e = let a = v.target at (omega arith) w.link in let n = pattern_few t pattern in omega arith
 
-  pub walk_start : (at : ℕ) → at ≡ head_of t s → Walked t s (replicate row_letters 0) at
+  pub walk_start : (at : ℕ) → s < n_of t → at ≡ head_of t s → Walked t s (replicate row_letters 0) at
   unfolding edge
-  walk_start at e =
+  walk_start at inside e =
       record {
         whole = length-replicate {A = ℕ} row_letters 0;
         link = let h = v.head s inside in omega arith;
@@ -127,9 +116,9 @@ module _ (t : List ℕ) (states s : ℕ) (asks : RowAsks t states s) where
   walk_less row at x some w ex = left_less v some w.link ex
 
   -- past the end of the chain the sets are the state's targets
-  pub walk_end : (row : List ℕ) (at : ℕ) → at ≡ 0 → Walked t s row at → row ≡ row_of (moves (meaning t)) s
+  pub walk_end : (row : List ℕ) (at : ℕ) → s < n_of t → at ≡ 0 → Walked t s row at → row ≡ row_of (moves (meaning t)) s
   unfolding row_of moves targets_of meaning
-  walk_end row at none w =
+  walk_end row at inside none w =
       ext_get_or 0 row (tabulate row_letters (targets_of (meaning t) s)) (w.whole ∙ sym (tabulate_length row_letters (targets_of (meaning t) s)))
       (λ c l.
       let below : c < row_letters = let e = w.whole in omega arith in

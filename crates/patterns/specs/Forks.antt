@@ -1,25 +1,23 @@
 -- Where a pattern forks (docs/RULES.md, "Refusals": the place of refusal 10): the smallest state of Q2 that has two targets on one letter, and
 -- the smallest such letter. Assumes nothing: these are definitions.
-use Rattle.std.specs.Prelude.{◌≡◌, Bool, true, cond, ℕ, ◌<◌}
+use Rattle.std.specs.Prelude.{◌≡◌, Bool, true, cond, ℕ, Option, Some, None, ◌<◌}
 use Rattle.basics.specs.Bounded.{any}
 use Rattle.basics.specs.Least.{least}
+use Rattle.basics.specs.declared.Place.{Place}
 use Rattle.automata.specs.Automaton.{Automaton}
 use Rattle.patterns.specs.Pattern.{forks}
 use Rattle.patterns.specs.Reach.{FromAccepting}
-use Rattle.patterns.specs.declared.Fork.{Fork}
-use Rattle.patterns.specs.declared.Fork.TheVariants.{Nowhere, At}
-use Rattle.patterns.specs.declared.Place.{Place}
 
 -- the smallest state that has a letter of which a test holds, and the smallest such letter; asked for only where there is one
 unfoldable pub smallest_pair : (states letters : ℕ) → (test : (state letter : ℕ) → Bool) → Place
 smallest_pair n k f = let q = least n (λ s. any k (f s)) in record { state = q; letter = least k (f q) }
 
 -- that pair, where there is one
-unfoldable pub first_pair : (states letters : ℕ) → (test : (state letter : ℕ) → Bool) → Fork
-first_pair n k f = cond (any n (λ s. any k (f s))) (At (smallest_pair n k f)) Nowhere
+unfoldable pub first_pair : (states letters : ℕ) → (test : (state letter : ℕ) → Bool) → Option Place
+first_pair n k f = cond (any n (λ s. any k (f s))) (Some (smallest_pair n k f)) None
 
 -- THE PLACE where an automaton forks: the first pair of a state and a letter of it at which it does
-unfoldable pub fork_place : Automaton → Fork
+unfoldable pub fork_place : Automaton → Option Place
 fork_place a = first_pair a.states a.letters (forks a)
 
 -- WHAT IT MEANS, by edges. Two edges lead from a state on a letter to different states

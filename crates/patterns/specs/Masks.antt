@@ -1,10 +1,9 @@
 -- The edges spread out by state and by letter (docs/RULES.md, "Semi-determinism": "a table by state and by letter of target sets"): 32 rows
 -- of 16 sets, and what is computed over them. Assumes nothing: these are definitions.
-use Rattle.std.specs.Prelude.{◌≡◌, List, [], ℕ, zero, suc, ◌<◌, get_or}
+use Rattle.std.specs.Prelude.{List, [], ℕ, zero, suc, get_or}
 use Rattle.std.specs.Int.Bits.{bit_or}
 use Rattle.basics.specs.Tabulate.{tabulate}
 use Rattle.sets.specs.Sets.{set_states, row_letters, union}
-use Rattle.tables.specs.Table.{pattern_range, table_refusal, n_of}
 use Rattle.ncsb.specs.Moves.{Moves}
 
 -- a state's targets for each letter; a letter that the pattern lacks has none
@@ -23,9 +22,3 @@ joined (suc c) m s = bit_or (joined c m s) (union set_states s (λ q. get_or (ge
 unfoldable pub joined_in : (rounds letters : ℕ) → (masks : List (List ℕ)) → (set : ℕ) → ℕ
 joined_in zero k m s = s
 joined_in (suc r) k m s = joined k m (joined_in r k m s)
-
--- what the walk along a state's chain asks: a pattern, its state count, and one of its states
-pub record RowAsks (table : List ℕ) (states state : ℕ) : Type 0 where
-  pub pattern : table_refusal pattern_range table ≡ 0
-  pub counted : states ≡ n_of table
-  pub inside : state < states

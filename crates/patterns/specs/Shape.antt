@@ -1,13 +1,10 @@
 -- What the step reads of a pattern beside its masks, and where a pattern forks, over both. Assumes nothing: these are definitions.
-use Rattle.std.specs.Prelude.{◌≡◌, Bool, ◌&&◌, List, [], ℕ, ◌≤◌, ltb, get_or}
+use Rattle.std.specs.Prelude.{Bool, ◌&&◌, List, [], ℕ, Option, ◌≤◌, ltb, get_or}
+use Rattle.basics.specs.declared.Place.{Place}
 use Rattle.sets.specs.Sets.{set_states, row_letters, has, size}
-use Rattle.tables.specs.Table.{pattern_range, table_refusal, meaning}
 use Rattle.ncsb.specs.Moves.{Moves}
+use Rattle.ncsb.specs.declared.Shape.{Shape}
 use Rattle.patterns.specs.Forks.{first_pair}
-use Rattle.patterns.specs.Masks.{masks_of}
-use Rattle.patterns.specs.Pattern.{moves}
-use Rattle.patterns.specs.declared.Fork.{Fork}
-use Rattle.patterns.specs.declared.Shape.{Shape}
 
 -- the state and letter counts, I, F in Q2, and Q2
 unfoldable pub shape_of : Moves → Shape
@@ -23,13 +20,8 @@ unfoldable pub mask_forks : (masks : List (List ℕ)) → (inner state letter : 
 mask_forks m i q c = has i q && two_targets (get_or (get_or m q []) c 0)
 
 -- where the pattern of these masks forks first
-unfoldable pub masks_place : (masks : List (List ℕ)) → Shape → Fork
+unfoldable pub masks_place : (masks : List (List ℕ)) → Shape → Option Place
 masks_place m s = first_pair s.states s.letters (mask_forks m s.inner)
-
--- what is read off a pattern: it is one, and the masks are its own
-pub record ShapeAsks (table : List ℕ) (masks : List (List ℕ)) : Type 0 where
-  pub pattern : table_refusal pattern_range table ≡ 0
-  pub spread : masks ≡ masks_of (moves (meaning table))
 
 -- no more states and letters than the masks have rows and columns
 pub record SmallShape (s : Shape) : Type 0 where

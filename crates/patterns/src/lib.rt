@@ -1,100 +1,33 @@
 // The pattern check: refusals 2 to 10, and what the construction reads of a pattern, spread out by state and by letter.
 #![tactic(auto)]
 
-ghost use Rattle.std.specs.Prelude.{◌≡◌};
-ghost use Rattle.sets.specs.Sets.{Narrow};
+ghost use Rattle.std.specs.Prelude.{◌≡◌, ◌<◌, IfOk};
+ghost use Rattle.basics.specs.Refusals.{refused};
 ghost use Rattle.tables.specs.Table.{pattern_range, table_refusal, meaning};
 ghost use Rattle.patterns.specs.Check.{checked, reading, masks_read};
-ghost use Rattle.patterns.specs.Masks.{row_of, masks_of, joined, joined_in, RowAsks};
+ghost use Rattle.patterns.specs.Masks.{row_of, masks_of, joined, joined_in};
 ghost use Rattle.patterns.specs.Pattern.{initial_states, accepting_states, moves};
-ghost use Rattle.patterns.specs.Shape.{shape_of, two_targets, masks_place, ShapeAsks, SmallShape};
+ghost use Rattle.patterns.specs.Reading.{read_as};
+ghost use Rattle.patterns.specs.Shape.{shape_of, two_targets, masks_place, SmallShape};
 
+use basics::{Place, Refusal};
+use ncsb::Shape;
 use sets::{ROW_LETTERS, SET_STATES, TargetSets, targets};
-use tables::{
-    PATTERN_RECORDS, PATTERN_STATES, flags_of, head_of, letter_of, letters_of, next_of, states_of,
-    table_refusal, target_of,
-};
+use tables::{PATTERN_RECORDS, PATTERN_STATES, Table};
 
-// A place in a pattern: a state and a letter together.
-#[repr(C)]
-#[derive(Clone, Copy)]
-pub struct Place {
-    pub state: u32,
-    pub letter: u32,
-}
-
-// The place of every answer but refusal 10.
-pub const NO_PLACE: Place = Place {
-    state: 0,
-    letter: 0,
-};
-
-// Where a pattern forks first, if it does.
-#[derive(Clone, Copy)]
-pub(crate) enum Fork {
-    Nowhere,
-    At(Place),
-}
-
-// What the check answers: it passed, or the number of the refusal and its place.
-#[derive(Clone, Copy)]
+// What the check answers: it passed, or the number of the refusal and its place, a state and a letter together (docs/DECISIONS.md, "Forms").
+#[derive(Clone, Copy, PartialEq, Eq)]
 pub enum Checked {
     Passed,
     Refused(u32, Place),
 }
 
-// What the step reads of a pattern beside the table of target sets: I, F in Q2, and Q2, each as a set of states.
+// A PATTERN whose table has passed refusals 2 to 9.
 #[derive(Clone, Copy)]
-pub struct Shape {
-    pub states: usize,
-    pub letters: usize,
-    pub starts: u32,
-    pub marks: u32,
-    pub inner: u32,
+struct Pattern<'a> {
+    table: Table<'a>,
+    ghost passed: { table_refusal pattern_range table.words.now ≡ 0 },
 }
-
-// What a reading of a table answers: the refusal as the check has it, or what the step reads of the pattern beside the masks.
-#[derive(Clone, Copy)]
-pub enum PatternReading {
-    Refused(u32, Place),
-    Pattern(Shape),
-}
-
-// THE TABLE BY STATE AND BY LETTER OF TARGET SETS
-
-// The targets of one state, by letter: one walk along its chain. A record that repeats an edge adds nothing.
-fn row_of(table: &[u16], states: usize, state: usize) -> [u32; ROW_LETTERS]
-    requires { RowAsks table.now states state }
-    ensures { result ≡ row_of (moves (meaning table.now)) state }
-{
-    let mut row = [0u32; ROW_LETTERS];
-    let mut at = head_of(table, state);
-    while at != 0 {
-        // The next record is read before the set is stored: the walk need not wait for that.
-        let letter = letter_of(table, states, at);
-        let target = target_of(table, states, at);
-        at = next_of(table, states, at);
-        row[letter] = row[letter] | (1 << target);
-    }
-    row
-}
-
-// Lays out the rows of all states. Each chain is walked once; every later test and step reads these sets alone.
-fn spread_out(table: &[u16], masks: &mut TargetSets)
-    requires { table_refusal pattern_range table.now ≡ 0 }
-    ensures { masks.new ≡ masks_of (moves (meaning table.now)) }
-{
-    let states = states_of(table);
-    let empty = [0u32; ROW_LETTERS];
-    *masks = [empty; SET_STATES];
-    let mut state = 0;
-    while state < states {
-        masks[state] = row_of(table, states, state);
-        state += 1;
-    }
-}
-
-// THE SETS
 
 // I, the states whose flags are 1 or 3, and F, those whose flags are 2 or 3.
 #[derive(Clone, Copy)]
@@ -103,72 +36,110 @@ struct Flagged {
     accepting: u32,
 }
 
-// Both sets, in one walk over the states: each flag is the bit of its state.
-fn flagged_states(table: &[u16]) -> Flagged
-    requires { table_refusal pattern_range table.now ≡ 0 }
-    ensures initial { result.initial ≡ initial_states (meaning table.now) }
-    ensures accepting { result.accepting ≡ accepting_states (meaning table.now) }
-{
-    let states = states_of(table);
-    let mut initial: u32 = 0;
-    let mut accepting: u32 = 0;
-    let mut state = 0;
-    while state < states {
-        let flags = flags_of(table, state) as u32;
-        initial = initial | ((flags % 2) << state);
-        accepting = accepting | ((flags / 2) << state);
-        state += 1;
+impl<'a> Pattern<'a> {
+    // The pattern of these words, or the first of refusals 2 to 9 that they meet.
+    #[tactic(auto, unfolding(tables::specs::Table::pattern_range))]
+    fn checked(words: &'a [u16]) -> Result<Pattern<'a>, Refusal>
+        ensures refusal { refused result ≡ table_refusal pattern_range words.now }
+        ensures pattern { IfOk result (λ p. p.table.words ≡ words.entry) }
+    {
+        let table = Table::checked(words, PATTERN_STATES, PATTERN_RECORDS)?;
+        Ok(Pattern { table })
     }
-    Flagged { initial, accepting }
+
+    // The targets of one state, by letter: one walk along its chain. A record that repeats an edge adds nothing.
+    fn row(self, state: usize) -> [u32; ROW_LETTERS]
+        requires { state < self.table.states }
+        ensures { result ≡ row_of (moves (meaning self.entry.table.words.now)) state }
+    {
+        let mut row = [0u32; ROW_LETTERS];
+        let mut at = self.table.head(state);
+        while at != 0 {
+            // The next record is read before the set is stored: the walk need not wait for that.
+            let letter = self.table.letter(at);
+            let target = self.table.target(at);
+            at = self.table.next(at);
+            row[letter] |= 1 << target;
+        }
+        row
+    }
+
+    // THE TABLE BY STATE AND BY LETTER OF TARGET SETS: lays out the rows of all states. Each chain is walked once; every later test and step
+    // reads these sets alone.
+    #[tactic(auto, using(crate::proofs::Masks::pattern_few))]
+    fn spread_out(self, masks: &mut TargetSets)
+        ensures { masks.new ≡ masks_of (moves (meaning self.entry.table.words.now)) }
+    {
+        *masks = [[0u32; ROW_LETTERS]; SET_STATES];
+        for state in 0..self.table.states {
+            masks[state] = self.row(state);
+        }
+    }
+
+    // I and F, in one walk over the states: each flag is the bit of its state.
+    #[tactic(auto, using(crate::proofs::Masks::pattern_few))]
+    fn flagged(self) -> Flagged
+        ensures initial { result.initial ≡ initial_states (meaning self.entry.table.words.now) }
+        ensures accepting { result.accepting ≡ accepting_states (meaning self.entry.table.words.now) }
+    {
+        let mut initial: u32 = 0;
+        let mut accepting: u32 = 0;
+        for state in 0..self.table.states {
+            let flags = self.table.flags(state) as u32;
+            initial |= (flags % 2) << state;
+            accepting |= (flags / 2) << state;
+        }
+        Flagged { initial, accepting }
+    }
+
+    // All that the step reads beside the masks. Q2 is what the accepting states reach in n rounds.
+    fn shape(self, masks: &TargetSets) -> Shape
+        requires { masks.now ≡ masks_of (moves (meaning self.table.words.now)) }
+        ensures { result ≡ shape_of (moves (meaning self.entry.table.words.now)) }
+    {
+        let states = self.table.states;
+        let letters = self.table.letters();
+        let flagged = self.flagged();
+        let inner = closure(*masks, letters, states, flagged.accepting);
+        Shape {
+            states,
+            letters,
+            starts: flagged.initial,
+            marks: flagged.accepting & inner,
+            inner,
+        }
+    }
 }
 
+// Q2
+
 // One round of the closure: the set joined with its targets on each letter.
+#[tactic(auto, unfolding(crate::specs::Masks::joined))]
 fn grown(masks: &TargetSets, letters: usize, set: u32) -> u32
-    requires { Narrow masks.now }
     ensures { result ≡ joined letters masks.now set }
 {
     let mut all = set;
-    let mut letter = 0;
-    while letter < letters {
-        all = all | targets(masks, letter, set);
-        letter += 1;
+    for letter in 0..letters {
+        all |= targets(masks, letter, set);
     }
     all
 }
 
-// All that a set reaches in so many rounds. Once a round adds nothing, no later one does.
+// All that a set reaches in so many rounds. Once a round adds nothing, no later one does. The masks come by value (docs/DECISIONS.md,
+// "Forms") and are lent on.
+#[tactic(auto, unfolding(crate::specs::Masks::joined_in))]
 fn closure(masks: TargetSets, letters: usize, rounds: usize, set: u32) -> u32
     ensures { result ≡ joined_in rounds letters masks set }
 {
     let mut reached = set;
-    let mut round = 0;
-    while round < rounds {
+    for _ in 0..rounds {
         let next = grown(&masks, letters, reached);
         if next == reached {
             return reached;
         }
         reached = next;
-        round += 1;
     }
     reached
-}
-
-// All that the step reads beside the masks. Q2 is what the accepting states reach in n rounds.
-fn shape_of(table: &[u16], masks: &TargetSets) -> Shape
-    requires { ShapeAsks table.now masks.now }
-    ensures { result ≡ shape_of (moves (meaning table.now)) }
-{
-    let states = states_of(table);
-    let letters = letters_of(table);
-    let flagged = flagged_states(table);
-    let inner = closure(*masks, letters, states, flagged.accepting);
-    Shape {
-        states,
-        letters,
-        starts: flagged.initial,
-        marks: flagged.accepting & inner,
-        inner,
-    }
 }
 
 // SEMI-DETERMINISM
@@ -182,28 +153,21 @@ fn two_targets(set: u32) -> bool
 
 // Where the pattern forks first: the smallest state of Q2 that has two targets on one letter, and the smallest such letter. The search
 // ends at the first such pair.
-fn first_fork(masks: &TargetSets, shape: Shape) -> Fork
+fn first_fork(masks: &TargetSets, shape: Shape) -> Option<Place>
     requires { SmallShape shape }
     ensures { result ≡ masks_place masks.now shape }
 {
-    let states = shape.states as u32;
-    let letters = shape.letters as u32;
-    let inner = shape.inner;
-    let mut state: u32 = 0;
-    'search: loop {
-        if state == states {
-            break 'search Fork::Nowhere;
-        }
-        if (inner >> state) % 2 == 1 {
-            let mut letter: u32 = 0;
-            while letter < letters {
-                if two_targets(masks[state as usize][letter as usize]) {
-                    break 'search Fork::At(Place { state, letter });
+    'search: {
+        for state in 0..shape.states as u32 {
+            if (shape.inner >> state) % 2 == 1 {
+                for letter in 0..shape.letters as u32 {
+                    if two_targets(masks[state as usize][letter as usize]) {
+                        break 'search Some(Place { state, letter });
+                    }
                 }
-                letter += 1;
             }
         }
-        state += 1;
+        None
     }
 }
 
@@ -211,29 +175,28 @@ fn first_fork(masks: &TargetSets, shape: Shape) -> Fork
 
 // Reads a pattern once, for the check and for the build: the first of refusals 2 to 10 that the table meets, or the shape. Where 2 to 9
 // have passed the masks become the pattern's, also where it forks; where one of them is met the masks are left as they are.
-pub fn read_pattern(table: &[u16], masks: &mut TargetSets) -> PatternReading
-    ensures told { result ≡ reading table.now }
+#[tactic(auto, using(crate::proofs::Answers::reading_steps))]
+pub fn read_pattern(table: &[u16], masks: &mut TargetSets) -> Result<Shape, Refusal>
+    ensures told { read_as result ≡ reading table.now }
     ensures spread { masks.new ≡ masks_read table.now masks.old }
 {
-    let refusal = table_refusal(table, PATTERN_STATES, PATTERN_RECORDS);
-    if refusal != 0 {
-        return PatternReading::Refused(refusal, NO_PLACE);
-    }
-    spread_out(table, masks);
-    let shape = shape_of(table, masks);
+    let pattern = Pattern::checked(table)?;
+    pattern.spread_out(masks);
+    let shape = pattern.shape(masks);
     match first_fork(masks, shape) {
-        Fork::At(place) => PatternReading::Refused(10, place),
-        Fork::Nowhere => PatternReading::Pattern(shape),
+        Some(place) => Err(Refusal::Forks(place)),
+        None => Ok(shape),
     }
 }
 
 // Whether the table is a pattern that can be complemented: it passes, or the first of refusals 2 to 10 that it meets, and where it forks.
+#[tactic(auto, using(crate::proofs::Answers::answer_refused, crate::proofs::Answers::answer_passed))]
 pub fn check_pattern(table: &[u16]) -> Checked
     ensures { result ≡ checked table.now }
 {
     let mut masks = [[0u32; ROW_LETTERS]; SET_STATES];
     match read_pattern(table, &mut masks) {
-        PatternReading::Refused(number, place) => Checked::Refused(number, place),
-        PatternReading::Pattern(_) => Checked::Passed,
+        Ok(_) => Checked::Passed,
+        Err(refusal) => Checked::Refused(refusal.number(), refusal.place()),
     }
 }

@@ -1,104 +1,92 @@
 // The third demand on one pattern: it passes, its complement is built, and over each lasso exactly one of the two answers taken.
 use crate::draw::Draw;
-use crate::pattern::{plan_by, put_pattern, table_length};
+use crate::pattern::Plan;
 use crate::tally::Tally;
 use complement::build_complement;
-use lassos::{Decision, decide_lasso};
+use lassos::decide_lasso;
 use patterns::{Checked, check_pattern};
 use tables::table_words;
 
-// Room for 256 states and nine letters.
-fn answer(table: &[u16], prefix: &[u8], cycle: &[u8]) -> Decision {
+// Whether a table takes a lasso, or nothing where that is refused. Room for 256 states and nine letters.
+fn taken(table: &[u16], prefix: &[u8], cycle: &[u8]) -> Option<bool> {
     let mut work = [0u32; 9216];
-    decide_lasso(table, prefix, cycle, &mut work)
+    decide_lasso(table, prefix, cycle, &mut work).ok()
 }
 
-fn compare(tally: Tally, pattern: Decision, complement: Decision) -> Tally {
-    match pattern {
-        Decision::Taken => match complement {
-            Decision::NotTaken => tally.pattern_only(),
-            _ => tally.disagreed(),
-        },
-        Decision::NotTaken => match complement {
-            Decision::Taken => tally.complement_only(),
-            _ => tally.disagreed(),
-        },
-        Decision::Refused(_) => tally.disagreed(),
+fn compare(tally: &mut Tally, by_pattern: Option<bool>, by_complement: Option<bool>) {
+    match (by_pattern, by_complement) {
+        (Some(true), Some(false)) => tally.pattern_only(),
+        (Some(false), Some(true)) => tally.complement_only(),
+        _ => tally.disagreed(),
     }
 }
 
-fn put_letters(part: &mut [u8], letters: usize, draw: Draw) -> Draw {
-    let mut drawn = draw;
-    let mut i = 0;
-    while i < part.len() {
-        drawn = drawn.next();
-        part[i] = (drawn.below(letters) % 256) as u8;
-        i += 1;
+fn put_letters(part: &mut [u8], letters: usize, draw: &mut Draw) {
+    for letter in part {
+        *letter = (draw.below(letters) % 256) as u8;
     }
-    drawn
 }
 
-// Draws a prefix of up to four letters and a loop of one to five, and asks both sides.
-fn try_lasso(tally: Tally, table: &[u16], complement: &[u16], letters: usize, draw: Draw) -> Tally {
-    let mut prefix = [0u8; 5];
-    let mut cycle = [0u8; 6];
-    let first = put_letters(&mut prefix, letters, draw);
-    let second = put_letters(&mut cycle, letters, first).next();
-    let u = second.below(5);
-    let v = 1 + second.next().below(5);
-    compare(
-        tally,
-        answer(table, &prefix[0..u], &cycle[0..v]),
-        answer(complement, &prefix[0..u], &cycle[0..v]),
-    )
-}
-
-fn try_lassos(
-    start: Tally,
-    table: &[u16],
-    complement: &[u16],
+// A pattern and its complement, of so many letters.
+#[derive(Clone, Copy)]
+struct Sides<'a> {
+    pattern: &'a [u16],
+    complement: &'a [u16],
     letters: usize,
-    draw: Draw,
-) -> Tally {
-    let mut tally = start;
-    let mut drawn = draw;
-    let mut i = 0usize;
-    while i < 6 {
-        tally = try_lasso(tally, table, complement, letters, drawn);
-        drawn = drawn.apart();
-        i += 1;
+}
+
+impl Sides<'_> {
+    // Draws a prefix of up to four letters and a loop of one to five, and asks both sides.
+    fn try_lasso(self, tally: &mut Tally, mut draw: Draw) {
+        let mut prefix = [0u8; 5];
+        let mut cycle = [0u8; 6];
+        put_letters(&mut prefix, self.letters, &mut draw);
+        put_letters(&mut cycle, self.letters, &mut draw);
+        let u = &prefix[..draw.below(5)];
+        let v = &cycle[..1 + draw.below(5)];
+        compare(
+            tally,
+            taken(self.pattern, u, v),
+            taken(self.complement, u, v),
+        )
     }
-    tally
+
+    fn try_lassos(self, tally: &mut Tally, mut draw: Draw) {
+        for _ in 0..6 {
+            self.try_lasso(tally, draw);
+            draw = draw.apart();
+        }
+    }
 }
 
 // Room for 256 records and 4,096 words.
-fn try_complement(tally: Tally, table: &[u16], letters: usize, draw: Draw) -> Tally {
+fn try_complement(tally: &mut Tally, table: &[u16], letters: usize, draw: Draw) {
     let mut words = [0u16; 4096];
     let mut sets = [0u32; 1024];
-    let counts = build_complement(table, &mut words, &mut sets);
-    if counts.number != 0 {
+    let Ok(size) = build_complement(table, &mut words, &mut sets) else {
         return tally.disagreed();
-    }
-    let used = table_words(counts.states as usize, counts.edges as usize);
-    if used > 4096 {
+    };
+    let used = table_words(size.states as usize, size.edges as usize);
+    let Some(complement) = words.get(..used) else {
         return tally.disagreed();
-    }
-    try_lassos(
-        tally.built(counts.states, counts.edges),
-        table,
-        &words[0..used],
+    };
+    tally.built(size.states, size.edges);
+    let sides = Sides {
+        pattern: table,
+        complement,
         letters,
-        draw,
-    )
+    };
+    sides.try_lassos(tally, draw)
 }
 
-pub(crate) fn try_pattern(tally: Tally, draw: Draw) -> Tally {
-    let plan = plan_by(draw);
-    let mut table = [0u16; 146];
-    let drawn = put_pattern(&mut table, plan, draw);
-    let length = table_length(plan);
-    match check_pattern(&table[0..length]) {
-        Checked::Passed => try_complement(tally, &table[0..length], plan.letters, drawn),
+pub(crate) fn try_pattern(tally: &mut Tally, mut draw: Draw) {
+    let mut later = draw.next();
+    let plan = Plan::drawn(&mut draw);
+    let mut words = [0u16; 146];
+    plan.put_pattern(&mut words, &mut later);
+    let table = &words[..plan.table_length()];
+    match check_pattern(table) {
+        Checked::Passed => try_complement(tally, table, plan.letters, later),
         Checked::Refused(_, _) => tally.disagreed(),
     }
 }

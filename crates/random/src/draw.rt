@@ -1,4 +1,4 @@
-// A linear congruential generator, by value.
+// A linear congruential generator.
 ghost use Rattle.std.specs.Prelude.{◌≤◌};
 
 #[derive(Clone, Copy)]
@@ -15,19 +15,18 @@ impl Draw {
 
     // The start of another sequence, for what is drawn apart.
     pub(crate) fn apart(self) -> Draw {
-        Draw {
+        let start = Draw {
             seed: self.seed / 2 + 1,
-        }
-        .next()
+        };
+        start.next()
     }
 
-    // A number below the limit, or zero where that is zero. It comes from the upper bits: the lower ones repeat soon.
-    pub(crate) fn below(self, limit: usize) -> usize
+    // Goes on to the next number and answers it: below the limit, or zero where that is zero. It comes from the upper bits, since the
+    // lower ones repeat soon.
+    pub(crate) fn below(&mut self, limit: usize) -> usize
         ensures { result ≤ limit }
     {
-        if limit == 0 {
-            return 0;
-        }
-        self.seed / 65536 % limit
+        *self = self.next();
+        (self.seed / 65536).checked_rem(limit).unwrap_or(0)
     }
 }

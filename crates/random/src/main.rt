@@ -13,18 +13,16 @@ use std::io;
 use tally::Tally;
 
 fn try_patterns() -> Tally {
-    let mut tally = Tally::none();
-    let mut number = 0;
-    while number < 500 {
+    let mut tally = Tally::default();
+    for number in 0..500 {
         let draw = Draw {
             seed: number * 7919 + 1,
         };
-        tally = try_pattern(tally, draw.next().next());
-        number += 1;
+        try_pattern(&mut tally, draw.next());
     }
     tally
 }
 
 fn main(rt: HostRuntime) -> io::Result<()> {
-    try_patterns().print(&rt)
+    println!(rt; "{}", try_patterns())
 }

@@ -1,70 +1,53 @@
 // What is counted over all patterns and lassos.
-use std::io;
-use std::num::wrapping_add_u64;
+use std::fmt;
 
-#[derive(Drop)]
+#[derive(Default, Drop)]
 pub(crate) struct Tally {
-    pub patterns: u64,
-    pub states: u64,
-    pub edges: u64,
-    pub lassos: u64,
-    pub by_pattern: u64,
-    pub by_complement: u64,
-    pub disagreements: u64,
-}
-
-fn print_count(rt: &impl Print, name: &str, count: u64) -> io::Result<()> {
-    println!(rt; "{name} {count}")
+    patterns: u64,
+    states: u64,
+    edges: u64,
+    lassos: u64,
+    by_pattern: u64,
+    by_complement: u64,
+    disagreements: u64,
 }
 
 impl Tally {
-    pub(crate) fn none() -> Tally {
-        Tally {
-            patterns: 0,
-            states: 0,
-            edges: 0,
-            lassos: 0,
-            by_pattern: 0,
-            by_complement: 0,
-            disagreements: 0,
-        }
+    // A pattern that passed, with its complement's counts.
+    pub(crate) fn built(&mut self, states: u32, edges: u32) {
+        self.patterns = self.patterns.wrapping_add(1);
+        self.states = self.states.wrapping_add(u64::from(states));
+        self.edges = self.edges.wrapping_add(u64::from(edges));
     }
 
-    // A pattern that passed, with its complement's counts.
-    pub(crate) fn built(mut self, states: u32, edges: u32) -> Tally {
-        self.patterns = wrapping_add_u64(self.patterns, 1);
-        self.states = wrapping_add_u64(self.states, states as u64);
-        self.edges = wrapping_add_u64(self.edges, edges as u64);
-        self
-    }
+    // Two functions, whose second lines add to different counts: which of these rises would be no plainer as an argument.
 
     // A lasso that only the pattern takes.
-    pub(crate) fn pattern_only(mut self) -> Tally {
-        self.lassos = wrapping_add_u64(self.lassos, 1);
-        self.by_pattern = wrapping_add_u64(self.by_pattern, 1);
-        self
+    pub(crate) fn pattern_only(&mut self) {
+        self.lassos = self.lassos.wrapping_add(1);
+        self.by_pattern = self.by_pattern.wrapping_add(1);
     }
 
     // A lasso that only the complement takes.
-    pub(crate) fn complement_only(mut self) -> Tally {
-        self.lassos = wrapping_add_u64(self.lassos, 1);
-        self.by_complement = wrapping_add_u64(self.by_complement, 1);
-        self
+    pub(crate) fn complement_only(&mut self) {
+        self.lassos = self.lassos.wrapping_add(1);
+        self.by_complement = self.by_complement.wrapping_add(1);
     }
 
     // A refusal, or a lasso that both take or neither.
-    pub(crate) fn disagreed(mut self) -> Tally {
-        self.disagreements = wrapping_add_u64(self.disagreements, 1);
-        self
+    pub(crate) fn disagreed(&mut self) {
+        self.disagreements = self.disagreements.wrapping_add(1);
     }
+}
 
-    pub(crate) fn print(self, rt: &impl Print) -> io::Result<()> {
-        print_count(rt, "patterns", self.patterns)?;
-        print_count(rt, "states", self.states)?;
-        print_count(rt, "edges", self.edges)?;
-        print_count(rt, "lassos", self.lassos)?;
-        print_count(rt, "taken by the pattern", self.by_pattern)?;
-        print_count(rt, "taken by the complement", self.by_complement)?;
-        print_count(rt, "disagreements", self.disagreements)
+impl fmt::Display for Tally {
+    fn fmt<W: fmt::Write>(&self, f: &mut fmt::Formatter<W>) -> fmt::Result {
+        writeln!(f, "patterns {}", self.patterns)?;
+        writeln!(f, "states {}", self.states)?;
+        writeln!(f, "edges {}", self.edges)?;
+        writeln!(f, "lassos {}", self.lassos)?;
+        writeln!(f, "taken by the pattern {}", self.by_pattern)?;
+        writeln!(f, "taken by the complement {}", self.by_complement)?;
+        write!(f, "disagreements {}", self.disagreements)
     }
 }

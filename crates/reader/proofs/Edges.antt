@@ -10,9 +10,9 @@ use Rattle.basics.proofs.Booleans.{either, ne_eqb}
 use Rattle.basics.proofs.Bounded.{any_front}
 use Rattle.tables.specs.Table.{Limits, n_of, m_of, head_of, chain_has, edge, table_refusal}
 use Rattle.tables.proofs.Laws.{Valid, valid}
-use Rattle.reader.specs.declared.ChainItem.TheVariants.{End}
+use Rattle.std.specs.Prelude.{None}
 use Rattle.reader.specs.Chain.{is_record, item_at, record_after, head_record, chain_length, records_in_chain, record_nth, reads}
-use Rattle.reader.proofs.Chain_laws.{record_yes, record_from, record_to, after_record, first_head, read_end}
+use Rattle.reader.proofs.Chain_laws.{record_yes, record_from, record_to, after_record, first_head, no_edge}
 use Rattle.reader.proofs.Counting.{length_more, length_none}
 
 -- ALONG A CHAIN
@@ -92,6 +92,6 @@ reader_reads r t ok p l c q =
 
 -- AND NO EDGE IS LEFT: after that many steps the reader is at the end
 pub reader_ends : (r : Limits) (t : List ℕ) → table_refusal r t ≡ 0 → (p : ℕ)
-    → item_at t (record_nth (records_in_chain t p) t (head_record t p)) ≡ End
+    → item_at t (record_nth (records_in_chain t p) t (head_record t p)) ≡ None
 unfolding records_in_chain
-reader_ends r t ok p = sym (read_end t _ (chain_ends t r (valid r t ok) (m_of t) (head_record t p) (λ o. omega arith)))
+reader_ends r t ok p = no_edge t _ (chain_ends t r (valid r t ok) (m_of t) (head_record t p) (λ o. omega arith))

@@ -1,9 +1,9 @@
 -- Trial tables read by the reader: pattern A, and damaged links, which lead to the end or round as often as there are records. Assumes nothing.
 use mathlib.Core.Path.{◌≡◌, refl}
 use mathlib.Core.List.{[], ◌∷◌}
+use Rattle.std.specs.Prelude.{Some, None}
 use Rattle.tables.specs.Rows.{pattern_A}
 use Rattle.tables.specs.Table.{n_of, m_of, head_of, record_at, letter_of, target_of, next_of}
-use Rattle.reader.specs.declared.ChainItem.TheVariants.{Edge, End}
 use Rattle.reader.specs.Chain.{is_record, item_at, record_after, head_record, chain_length, records_in_chain, record_nth}
 
 -- the chain of pattern A's state 0 has three records and that of state 1 one; there is no state 2
@@ -20,11 +20,11 @@ unfolding records_in_chain chain_length head_record record_after is_record patte
 no_state = refl
 
 -- the third edge of state 0 is on letter 0 to state 1, and after it the chain ends
-third : item_at pattern_A (record_nth 2 pattern_A (head_record pattern_A 0)) ≡ Edge 0 1
+third : item_at pattern_A (record_nth 2 pattern_A (head_record pattern_A 0)) ≡ Some (record { letter = 0; target = 1 })
 unfolding item_at record_nth head_record record_after is_record pattern_A n_of m_of head_of record_at letter_of target_of next_of
 third = refl
 
-after_third : item_at pattern_A (record_nth 3 pattern_A (head_record pattern_A 0)) ≡ End
+after_third : item_at pattern_A (record_nth 3 pattern_A (head_record pattern_A 0)) ≡ None
 unfolding item_at record_nth head_record record_after is_record pattern_A n_of m_of head_of record_at letter_of target_of next_of
 after_third = refl
 

@@ -1,16 +1,19 @@
 -- A reader over a chained table: what stands at a record number, and what follows it, on any words, sound or damaged. Assumes nothing: these are definitions.
-use Rattle.std.specs.Prelude.{Bool, false, ◌&&◌, cond, List, ℕ, zero, suc, ltb, leb, eqb}
-use Rattle.tables.specs.Table.{n_of, m_of, head_of, letter_of, target_of, next_of}
-use Rattle.reader.specs.declared.ChainItem.{ChainItem}
-use Rattle.reader.specs.declared.ChainItem.TheVariants.{Edge, End}
+use Rattle.std.specs.Prelude.{Bool, false, ◌&&◌, cond, List, Option, Some, None, ℕ, zero, suc, ltb, leb, eqb}
+use Rattle.tables.specs.Table.{n_of, m_of, head_of, record_at, letter_of, target_of, next_of}
+use Rattle.reader.specs.declared.Edge.{Edge}
 
 -- records are numbered from 1 to m
 unfoldable pub is_record : List ℕ → (number : ℕ) → Bool
 is_record t r = leb 1 r && leb r (m_of t)
 
--- the edge of a record; elsewhere the end
-unfoldable pub item_at : List ℕ → (number : ℕ) → ChainItem
-item_at t r = cond (is_record t r) (Edge (letter_of t r) (target_of t r)) End
+-- where a record's words begin; nowhere if it is none
+abbrev pub record_place : List ℕ → (number : ℕ) → Option ℕ
+record_place t r = cond (is_record t r) (Some (record_at t r)) None
+
+-- the edge of a record; none elsewhere
+unfoldable pub item_at : List ℕ → (number : ℕ) → Option Edge
+item_at t r = cond (is_record t r) (Some (record { letter = letter_of t r; target = target_of t r })) None
 
 -- the record that follows in the chain; zero elsewhere
 unfoldable pub record_after : List ℕ → (number : ℕ) → ℕ
@@ -19,11 +22,6 @@ record_after t r = cond (is_record t r) (next_of t r) 0
 -- where a state's chain begins; zero where there is no such state
 unfoldable pub head_record : List ℕ → (state : ℕ) → ℕ
 head_record t q = cond (ltb q (n_of t)) (head_of t q) 0
-
--- a walk goes on at an edge, for as many turns as there are records
-unfoldable pub goes_on : ChainItem → (turns records : ℕ) → Bool
-goes_on (Edge c q) i m = ltb i m
-goes_on End i m = false
 
 -- how many records stand in the chain from r on, at most as many as there is fuel
 unfoldable pub chain_length : (fuel : ℕ) → List ℕ → (r : ℕ) → ℕ
@@ -40,6 +38,6 @@ record_nth zero t r = r
 record_nth (suc i) t r = record_nth i t (record_after t r)
 
 -- what is read is an edge with this letter and target
-unfoldable pub reads : ChainItem → (letter target : ℕ) → Bool
-reads (Edge c q) x y = eqb c x && eqb q y
-reads End x y = false
+unfoldable pub reads : Option Edge → (letter target : ℕ) → Bool
+reads (Some e) x y = eqb e.letter x && eqb e.target y
+reads None x y = false

@@ -10,6 +10,7 @@ use ncsb::Quadruple;
 pub const RECORD_WORDS: usize = 4;
 
 // How many full records a run of words holds.
+#[tactic(auto, unfolding(crate::specs::Record::full_records, crate::specs::Record::record_words))]
 pub fn full_records(words: &[u32]) -> usize
     ensures { result ≡ full_records words.now }
 {
@@ -17,6 +18,7 @@ pub fn full_records(words: &[u32]) -> usize
 }
 
 // The quadruple of the record with a number.
+#[tactic(auto, unfolding(crate::specs::Record::full_records, crate::specs::Record::record_words, crate::specs::Record::quadruple_at, ncsb::specs::Successors::quadruple))]
 pub fn load(words: &[u32], number: usize) -> Quadruple
     requires { number < full_records words.now }
     ensures { result ≡ quadruple_at words.now number }
@@ -31,6 +33,7 @@ pub fn load(words: &[u32], number: usize) -> Quadruple
 }
 
 // Lays a quadruple down as the record with a number.
+#[tactic(auto, using(crate::proofs::Laws::stored), unfolding(crate::specs::Record::full_records, crate::specs::Record::record_words))]
 pub fn store(words: &mut [u32], number: usize, x: Quadruple)
     requires { number < full_records words.old }
     ensures { words.new ≡ with_quadruple words.old number x }

@@ -2,8 +2,7 @@
 use mathlib.Core.Path.{◌≡◌, refl, sym, ◌∙◌}
 use mathlib.Core.List.{List}
 use mathlib.Core.Logic.{inl, inr}
-use Prim.Native.Nat.{ℕ, zero, suc, ◌+◌, ◌≤◌, ◌<◌}
-use native.Mathlib.Numerals.{add-one}
+use Prim.Native.Nat.{ℕ, zero, suc, ◌≤◌, ◌<◌}
 use native.Mathlib.Omega.{arith}
 use lib.ListN.{length, get_or, set, length-set}
 use lib.Seq.{get_or-set_same, get_or-set_other, ext_get_or}
@@ -21,10 +20,6 @@ module _ (xs ys : List Quadruple) where
   pub laid_length : (k : ℕ) → length (laid xs ys k) ≡ length ys
   laid_length zero = refl
   laid_length (suc k) = length-set (laid xs ys k) k (get_or xs k blank) ∙ laid_length k
-
-  -- one more
-  pub laid_next : (k : ℕ) {x : Quadruple} → x ≡ get_or xs k blank → set (laid xs ys k) k x ≡ laid xs ys (k + 1)
-  laid_next k e = rw (add-one k, e) refl
 
   laid_at : (k i : ℕ) → k ≤ length ys → i < k → get_or (laid xs ys k) i blank ≡ get_or xs i blank
   laid_at zero i l m = absurd (omega arith)

@@ -1,4 +1,5 @@
-// A lent run of records, a quadruple each, and thin functions over it (docs/RULES.md, "Numbering and result").
+// A lent run of records, a quadruple each, and thin functions over it (docs/RULES.md, "Numbering and result"). Over plain words the same
+// stands in `record_words`: both are asked for (docs/DECISIONS.md, "Forms").
 #![tactic(auto)]
 
 ghost use Rattle.std.specs.Prelude.{◌≡◌, ◌<◌, length, get_or, set, take};
@@ -8,6 +9,14 @@ ghost use Rattle.records.specs.Records.{blank, records_in, fitted};
 
 use ncsb::Quadruple;
 use record_words::full_records;
+
+// What stands where no record is: four empty sets.
+const BLANK: Quadruple = Quadruple {
+    N: 0,
+    C: 0,
+    S: 0,
+    B: 0,
+};
 
 // How many records are lent.
 pub fn count(records: &[Quadruple]) -> usize
@@ -33,68 +42,47 @@ pub fn store(records: &mut [Quadruple], number: usize, x: Quadruple)
 }
 
 // The record with a number of a run of words, and four empty sets where the words make no full record.
+#[tactic(auto, using(crate::proofs::Words::record_read, crate::proofs::Words::record_blank))]
 fn record_in(sets: &[u32], number: usize) -> Quadruple
     ensures { result ≡ get_or (records_in sets.now) number blank }
 {
     if number < full_records(sets) {
-        return record_words::load(sets, number);
-    }
-    Quadruple {
-        N: 0,
-        C: 0,
-        S: 0,
-        B: 0,
+        record_words::load(sets, number)
+    } else {
+        BLANK
     }
 }
 
 // Fills the lent records from the sets words of a build, and clears the rest.
+#[tactic(auto, using(crate::proofs::Laid::laid_all))]
 pub fn fill(records: &mut [Quadruple], sets: &[u32])
     ensures { records.new ≡ fitted (length records.old) (records_in sets.now) }
 {
-    let mut number = 0;
-    while number < records.len() {
+    for number in 0..records.len() {
         records[number] = record_in(sets, number);
-        number += 1;
     }
 }
 
-// The place of the first record that holds a quadruple, or their count.
+// The place of the first record that holds a quadruple, or their count, as states are numbered: one not met before gets the next number.
+// So it is no `Option`: its callers would only put the count back.
 pub fn find(records: &[Quadruple], x: Quadruple) -> usize
     ensures { result ≡ number_of same x records.now }
 {
-    let mut number = 0;
-    while number < records.len() {
-        if x.equals(records[number]) {
-            return number;
-        }
-        number += 1;
-    }
-    number
-}
-
-// Looks a quadruple up in a run of four that is filled from words: its place, or four. Where the words make fewer records, the rest of
-// the run is blank, and a blank quadruple is found there.
-fn find_in_four(sets: &[u32], x: Quadruple) -> usize
-    ensures { result ≡ number_of same x (fitted 4 (records_in sets.now)) }
-{
-    let mut records = [Quadruple {
-        N: 0,
-        C: 0,
-        S: 0,
-        B: 0,
-    }; 4];
-    fill(&mut records, sets);
-    find(&records, x)
+    records
+        .iter()
+        .position(|&y| x == y)
+        .unwrap_or(records.len())
 }
 
 // Looks a quadruple up among the first four records of words: its place, or how many of them there are. What the words do not make is
-// no record, so a place behind them is none.
+// no record, so it is not searched. No `Option`, likewise.
 pub fn find_in_words(sets: &[u32], x: Quadruple) -> usize
     ensures { result ≡ number_of same x (take 4 (records_in sets.now)) }
 {
-    let place = find_in_four(sets, x);
-    let held = full_records(sets);
-    if place < held { place } else { held }
+    let mut records = [BLANK; 4];
+    fill(&mut records, sets);
+    let held = full_records(sets).min(4);
+    find(&records[..held], x)
 }
 
 // The call for C as a function (the crate `records_c` exports it): fills the lent records from the sets words of a build, and clears the rest.

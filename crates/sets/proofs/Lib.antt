@@ -1,4 +1,3 @@
-pub mod Grid
 pub mod Lowest
 pub mod Members
 pub mod Size

@@ -8,7 +8,6 @@ use native.Mathlib.Nat.{pow-suc}
 use lib.Bits.{bit_and, and_step, and_self}
 use lib.Count.{count_trailing_zeros}
 use lib.Dec.{eqb, eqb-suc-zero, eqb-suc-suc}
-use lib.Pow.{pow_pos}
 use Rattle.basics.proofs.Booleans.{either, and_l, and_false_r, not_true, eqb_self, ne_eqb}
 use Rattle.sets.specs.Sets.{has, size}
 use Rattle.basics.proofs.Counting.{count_one}
@@ -20,7 +19,6 @@ pub record Lowest (s t rest : ℕ) : Type 0 where
   pub member : has s t ≡ true
   pub below : (q : ℕ) → q < t → has s q ≡ false
   pub others : (q : ℕ) → has rest q ≡ (has s q && not (eqb q t))
-  pub weight : s ≡ 2 ^ t + rest
 
 -- an odd number: state 0
 lowest_odd : (s r : ℕ) → s % 2 ≡ 1 → r ≡ s - 1 → Lowest s 0 r
@@ -28,7 +26,6 @@ lowest_odd s r d e = record {
   member = first_made s d;
   below = λ q l. absurd (omega arith);
   others = others;
-  weight = omega arith;
 }
   where
     others : (q : ℕ) → has r q ≡ (has s q && not (eqb q 0))
@@ -44,7 +41,6 @@ lowest_even s t r u d w e = record {
   member = has_half s t ∙ w.member;
   below = below;
   others = others;
-  weight = let p = pow-suc 2 t in let w' = w.weight in omega arith;
 }
   where
     below : (q : ℕ) → q < suc t → has s q ≡ false
@@ -88,9 +84,6 @@ lowest (suc k) s l n =
 -- where the lowest state stands, and what is left
 pub lowest_lt : (k s : ℕ) → s < 2 ^ k → (s ≡ 0 → ⊥) → count_trailing_zeros k s < k
 lowest_lt k s l n = has_lt k s (count_trailing_zeros k s) l (lowest k s l n).member
-
-pub lowest_less : {s t rest : ℕ} → Lowest s t rest → rest < s
-lowest_less {s} {t} {rest} w = let e = w.weight in let p = pow_pos t in omega arith
 
 -- the rest is a part of the set, above t
 pub lowest_part : {s t rest : ℕ} → Lowest s t rest → (q : ℕ) → has rest q ≡ true → has s q ≡ true

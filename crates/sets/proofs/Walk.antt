@@ -12,11 +12,11 @@ use lib.Dec.{eqb}
 use lib.ListN.{get_or}
 use lib.Pow.{pow_pos, pow-lt}
 use Rattle.basics.specs.Bounded.{any}
-use Rattle.basics.proofs.Booleans.{and_false_l, and_l, and_make, and_r, either, eqb_eq, eqb_self, not_false, or_assoc as or_assoc_bool, or_l, or_r, or_true, same_truth, eqb_ne}
+use Rattle.basics.proofs.Booleans.{and_false_l, and_l, and_make, and_r, either, eqb_eq, eqb_self, not_false, or_assoc as or_assoc_bool, or_l, or_r, or_true, same_truth}
 use Rattle.basics.proofs.Bounded.{any_find, any_make, any_none}
 use Rattle.basics.proofs.Packed.{shift_one}
 use Rattle.sets.specs.Sets.{has, size, subsets, union, without}
-use Rattle.sets.proofs.Lowest.{Lowest, lowest, lowest_less, lowest_lt, lowest_part}
+use Rattle.sets.proofs.Lowest.{Lowest, lowest, lowest_lt, lowest_part}
 use Rattle.sets.proofs.Members.{ext, ext_all, first_made, first_unmade, has_and, has_lt, has_or, has_single, has_union, has_without, has_zero, without_lt}
 use Rattle.sets.proofs.Subsets.{spread, spread_lt, spread_mod, spread_turn, spread_zero, subsets_nth}
 
@@ -101,14 +101,6 @@ module _ (k s : ℕ) (f : ℕ → Bool) (l : s < 2 ^ k) where
   unfolding some_member
   member_none z = rw z (any_none k (λ q. has 0 q && f q) (λ q m. and_false_l (f q) (has_zero q)))
 
-  -- a test that all pass
-  pub member_all : ((q : ℕ) → f q ≡ true) → not (eqb s 0) ≡ some_member k s f
-  member_all all =
-      elim (either (eqb s 0)) [
-        | inl e ↦ let z = member_none (eqb_eq s 0 e) in cc
-        | inr e ↦ let z = member_hit (eqb_ne s 0 e) (all (count_trailing_zeros k s)) in cc
-      ]
-
 -- THE UNION over a set is the row of its lowest state joined with the union over the rest
 pub union_zero : (k : ℕ) (row : ℕ → ℕ) → union k 0 row ≡ 0
 unfolding union
@@ -135,9 +127,6 @@ union_none (suc k) s row h =
     elim (either (has s k)) [ inl y ↦ rw (y, ih, e) | inr y ↦ rw (y, ih) ]
 
 -- one turn of a walk: s & (s - 1) is what is left
-pub clear_less : (k s : ℕ) → s < 2 ^ k → (s ≡ 0 → ⊥) → bit_and s (s - 1) < s
-clear_less k s l n = lowest_less (lowest k s l n)
-
 pub clear_lt : (k s : ℕ) → s < 2 ^ k → bit_and s (s - 1) < 2 ^ k
 clear_lt k s l = lt_of_le_of_lt (and_le_l s (s - 1)) l
 

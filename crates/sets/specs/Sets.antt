@@ -1,6 +1,6 @@
 -- Sets of states, written as numbers: state q adds 2^q (docs/RULES.md, "The quadruple and its step"). Assumes nothing: these are definitions.
 -- Meet and join of two sets are the numbers' bit_and and bit_or.
-use Rattle.std.specs.Prelude.{Bool, cond, List, [], ◌∷◌, ◌++◌, map, ℕ, zero, suc, ◌+◌, ◌-◌, ◌/◌, ◌%◌, ◌^◌, ◌≤◌, eqb, length, get_or}
+use Rattle.std.specs.Prelude.{Bool, cond, List, [], ◌∷◌, ◌++◌, map, ℕ, zero, suc, ◌+◌, ◌-◌, ◌/◌, ◌%◌, ◌^◌, eqb, get_or}
 use Rattle.std.specs.Int.Bits.{bit_and, bit_or}
 use Rattle.basics.specs.Bounded.{count}
 
@@ -42,7 +42,3 @@ subsets (suc q) s = let r = subsets q s in cond (has s q) (r ++ map (λ x. 2 ^ q
 -- the part of a set that a choice names, by rising number; choices beyond the last begin anew
 unfoldable pub nth_subset : (set choice : ℕ) → ℕ
 nth_subset s i = get_or (subsets set_states s) (i % 2 ^ size set_states s) 0
-
--- no row of a table by state and by letter is longer than its letters
-pub record Narrow (table : List (List ℕ)) : Type 0 where
-  pub width : (q : ℕ) → length (get_or table q []) ≤ row_letters

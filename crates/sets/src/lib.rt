@@ -3,7 +3,7 @@
 #![tactic(auto)]
 
 ghost use Rattle.std.specs.Prelude.{◌≡◌, [], ◌^◌, length, get_or};
-ghost use Rattle.sets.specs.Sets.{set_states, size, subsets, nth_subset, union, without, Narrow};
+ghost use Rattle.sets.specs.Sets.{set_states, size, subsets, nth_subset, union, without};
 
 // A set holds states 0 to 31.
 pub const SET_STATES: usize = 32;
@@ -21,21 +21,27 @@ pub fn without(a: u32, b: u32) -> u32
     a & !b
 }
 
-// The targets of the members of a set on a letter, by a table of target sets for each state and letter.
-// The members are walked from the lowest one up. A letter beyond those of the table has no target.
+// The targets of a state on a letter, by a table of target sets. What lies beyond the table's states and letters has no target.
+pub fn targets_of(moves: &TargetSets, state: usize, letter: usize) -> u32
+    ensures { result ≡ get_or (get_or moves.now state []) letter 0 }
+{
+    moves
+        .get(state)
+        .and_then(|row| row.get(letter))
+        .copied()
+        .unwrap_or(0)
+}
+
+// The targets of the members of a set on a letter, by a table of target sets. The members are walked from the lowest one up.
 // The table is lent: a function that indexes an array given by value first copies all of it.
 pub fn targets(moves: &TargetSets, letter: usize, set: u32) -> u32
-    requires { Narrow moves.now }
     ensures { result ≡ union set_states set (λ q. get_or (get_or moves.now q []) letter 0) }
 {
-    if letter >= ROW_LETTERS {
-        return 0;
-    }
     let mut left = set;
     let mut all: u32 = 0;
     while left != 0 {
         let state = u32::trailing_zeros(left) as usize;
-        all |= moves[state][letter];
+        all |= targets_of(moves, state, letter);
         left &= left - 1;
     }
     all

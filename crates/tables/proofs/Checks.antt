@@ -5,8 +5,8 @@ use mathlib.Core.List.{List}
 use Prim.Native.Nat.{ℕ, suc, ◌+◌, ◌≤◌, ◌<◌}
 use native.Mathlib.Numerals.{add-one}
 use lib.Dec.{ltb, eqb}
-use Rattle.basics.proofs.Booleans.{and_make, and_l, leb_le, and_false_l, and_false_r, true_not, false_not, le_leb, gt_leb, eq_eqb, ne_eqb}
-use Rattle.basics.proofs.Scans.{scan_fails, read_lt, read_ge}
+use Rattle.basics.proofs.Booleans.{and_l, leb_le, and_false_l, and_false_r, true_not, false_not}
+use Rattle.basics.proofs.Scans.{scan_fails, read_ge}
 use Rattle.tables.specs.Table.{n_of, k_of, m_of, letter_of, target_of, next_of, record_good, records_good, leads_on, next_good}
 
 module _ (t : List ℕ) (i : ℕ) {n k a : ℕ} (pn : n ≡ n_of t) (pk : k ≡ k_of t) (pa : a ≡ letter_of t (i + 1)) where
@@ -22,9 +22,6 @@ module _ (t : List ℕ) (i : ℕ) {n k a : ℕ} (pn : n ≡ n_of t) (pk : k ≡ 
       scan_fails (record_good t) (m_of t) i l
       (and_false_r (ltb (letter_of t (suc i)) (k_of t)) (read_ge (rw add-one at pb) pn h))
 
-  pub record_passes : {b : ℕ} → a < k → b ≡ target_of t (i + 1) → b < n → record_good t i ≡ true
-  record_passes la pb lb = and_make (read_lt (rw add-one at pa) pk la) (read_lt (rw add-one at pb) pn lb)
-
 -- the test of a next, answered for what was read
 module _ (t : List ℕ) (i : ℕ) {m a : ℕ} {b : Bool} (pm : m ≡ m_of t) (pa : a ≡ next_of t (i + 1)) where
   next_read : b ≡ leads_on m (i + 1) a → b ≡ next_good t i
@@ -38,14 +35,3 @@ module _ (t : List ℕ) (i : ℕ) {m a : ℕ} {b : Bool} (pm : m ≡ m_of t) (pa
 
   pub next_small : b ≡ leads_on m (i + 1) a → not b ≡ false → a ≤ m_of t
   next_small e h = rw (← pm) (leb_le a m (and_l (eqb a 0 || ltb (i + 1) a) (sym e ∙ false_not b h)))
-
--- the three ways out of the test of one next
-module _ {next m : ℕ} (number : ℕ) where
-  pub next_far : m < next → false ≡ leads_on m number next
-  next_far l = sym (and_false_l (eqb next 0 || ltb number next) (gt_leb l))
-
-  pub next_none : next ≤ m → next ≡ 0 → true ≡ leads_on m number next
-  next_none l z = let a = le_leb l in let b = eq_eqb z in cc
-
-  pub next_link : next ≤ m → (next ≡ 0 → ⊥) → ltb number next ≡ leads_on m number next
-  next_link l z = let a = le_leb l in let b = ne_eqb next 0 z in cc

@@ -4,7 +4,7 @@ use mathlib.Core.Path.{◌≡◌, refl, sym, ◌∙◌}
 use mathlib.Core.Bool.{Bool, true, false, ◌&&◌, ◌||◌, not}
 use mathlib.Core.List.{List}
 use mathlib.Core.Logic.{◌⊎◌, inl, inr}
-use Prim.Native.Nat.{ℕ, zero, suc, ◌+◌, ◌-◌, ◌^◌, ◌≤◌, ◌<◌}
+use Prim.Native.Nat.{ℕ, zero, suc, ◌-◌, ◌^◌, ◌≤◌, ◌<◌}
 use native.Mathlib.Omega.{arith}
 use lib.Dec.{ltb, leb, eqb}
 use lib.ListN.{length, get_or, get_or-eq_default}
@@ -17,7 +17,6 @@ use Rattle.basics.proofs.Bounded.{each_all, each_make}
 use Rattle.basics.proofs.Refusing.{passed, or_else_none}
 use Rattle.basics.proofs.Upward.{from_one}
 use Rattle.automata.specs.Automaton.{Closed}
-use Rattle.tables.specs.Access.{Sized, StateAsks, RecordAsks}
 use Rattle.tables.proofs.Places.{WordPlace, states_place, letters_place, records_place, flags_place, head_place, letter_place, target_place, next_place, beyond_place, place_of, letter_at, target_at, next_at}
 use Rattle.tables.specs.Table.{most_letters, Limits, Wider, RangeFits, pattern_range, wide_range, table_words, n_of, k_of, m_of, flags_of, head_of, letter_of, target_of, next_of, is_initial, chain_has, edge, meaning, sizes_refusal, flag_good, flags_good, records_good, named, head_good, heads_good, leads_on, nexts_good, chains_good, table_refusal}
 
@@ -194,20 +193,6 @@ pattern_is_wide t = passes_wider pattern_range wide_range t wide_patterns
 pub wide_fits : RangeFits word_bits wide_range
 unfolding wide_range
 wide_fits = record { states_fit = omega arith; records_fit = omega arith; letters_fit = omega arith }
-
--- a record that a loop from 0 on has come to
-pub record_inside : {t : List ℕ} {states i : ℕ} → states ≡ n_of t → Sized t → i < m_of t → RecordAsks t states (i + 1)
-record_inside e sized l = record { counted = e; from_one = omega arith; number_to = omega arith; sized = sized }
-
--- what reading a state or a record of a table that passes asks
-module _ (r : Limits) (t : List ℕ) (passes : table_refusal r t ≡ 0) where
-  pub state_asked : {q : ℕ} → q < n_of t → StateAsks t q
-  state_asked l = let whole = (valid r t passes).whole in record { inside = l; sized = omega arith }
-
-  pub record_asked : {states x : ℕ} → states ≡ n_of t → 1 ≤ x → x ≤ m_of t → RecordAsks t states x
-  record_asked e o l =
-      let whole = (valid r t passes).whole in
-      record { counted = e; from_one = o; number_to = l; sized = omega arith }
 
 -- zero ends a chain, with any fuel
 pub chain_ends : (fuel : ℕ) (t : List ℕ) (c q : ℕ) → chain_has fuel t 0 c q ≡ false

@@ -2,6 +2,7 @@
 use mathlib.Core.Path.{◌≡◌, refl, sym, ◌∙◌}
 use mathlib.Core.Bool.{Bool, true, false, ◌&&◌, cond}
 use mathlib.Core.List.{List}
+use Rattle.std.proofs.Common.{Option, Some, None}
 use mathlib.Core.Logic.{inl, inr}
 use Prim.Native.Nat.{ℕ, zero, suc, ◌+◌, ◌*◌, ◌/◌, ◌%◌, ◌^◌, ◌≤◌, ◌<◌}
 use native.Mathlib.Omega.{arith}
@@ -100,34 +101,36 @@ raised_counts {k} {j} {w} asks clear m l few =
 
 -- ONE LINK: what it adds to a record's mark, and to how many are marked
 mark_adds :
-    {k link new : ℕ} {before after : List ℕ} → MarkAsks k link before → Mark k link before after new → new ≤ 1 → (x : ℕ) →
+    {k link new : ℕ} {before after : List ℕ} → MarkAsks k link before → Mark k link before after (Some new) → (x : ℕ) →
     1 ≤ x → x < mark_bits * k → mark_of k after x ≡ mark_of k before x + cond (eqb link x) 1 0
-mark_adds {k} {link} asks (nothing z e) y x o few = rw (e, ne_eqb link x (λ q. omega arith)) (omega arith)
-mark_adds {k} {link} {before = before} asks (first p z e) y x o few =
+mark_adds {k} {link} asks (nothing z e) x o few = rw (e, ne_eqb link x (λ q. omega arith)) (omega arith)
+mark_adds {k} {link} {before = before} asks (first p z e) x o few =
     elim (either (eqb link x)) [
       | inl q ↦ rw (e, q, ← eqb_eq link x q, here asks z, z)
       | inr q ↦ rw (e, q, elsewhere asks z x few (λ h. eqb_ne link x q (sym h))) (omega arith)
     ]
-mark_adds asks (again p g e) y x o few = absurd (omega arith)
 
 mark_counts :
-    {k : ℕ} (link m : ℕ) {new : ℕ} {before after : List ℕ} → MarkAsks k link before → m < mark_bits * k → Mark k link before after new →
-    new ≤ 1 → link ≤ m → marks k m after ≡ marks k m before + new
-mark_counts link m asks few (nothing z e) y l = rw e (omega arith)
-mark_counts zero m asks few (first p z e) y l = absurd (omega arith)
-mark_counts (suc j) m asks few (first p z e) y l = rw (e, raised_counts asks z m l few) (omega arith)
-mark_counts link m asks few (again p g e) y l = absurd (omega arith)
+    {k : ℕ} (link m : ℕ) {new : ℕ} {before after : List ℕ} → MarkAsks k link before → m < mark_bits * k →
+    Mark k link before after (Some new) → link ≤ m → marks k m after ≡ marks k m before + new
+mark_counts link m asks few (nothing z e) l = rw e (omega arith)
+mark_counts zero m asks few (first p z e) l = absurd (omega arith)
+mark_counts (suc j) m asks few (first p z e) l = rw (e, raised_counts asks z m l few) (omega arith)
 
-mark_kept : {k link new : ℕ} {before after : List ℕ} → Mark k link before after new → length after ≡ length before
+mark_kept : {k link : ℕ} {new : Option ℕ} {before after : List ℕ} → Mark k link before after new → length after ≡ length before
 mark_kept (nothing z e) = rw e
 mark_kept {k} {link} {before = before} (first p z e) = rw e (raised_length 2 (omega arith) mark_bits before (mark_place k link) 1)
 mark_kept (again p g e) = rw e
 
-mark_again :
-    {k link new : ℕ} {before after : List ℕ} → Mark k link before after new → 1 < new → (1 ≤ link) × (mark_of k before link ≡ 1)
-mark_again (nothing z e) n = absurd (omega arith)
-mark_again (first p z e) n = absurd (omega arith)
-mark_again (again p g e) n = (p, g)
+-- one record, or none
+pub mark_most :
+    {k link more : ℕ} {new : Option ℕ} {before after : List ℕ} → Mark k link before after new → new ≡ Some more → more ≤ 1
+mark_most {more = more} (nothing z e) is = let some : 0 ≡ more = cc in omega arith
+mark_most {more = more} (first p z e) is = let some : 1 ≡ more = cc in omega arith
+mark_most (again p g e) is = absurd cc
+
+mark_again : {k link : ℕ} {before after : List ℕ} → Mark k link before after None → (1 ≤ link) × (mark_of k before link ≡ 1)
+mark_again (again p g e) = (p, g)
 
 -- a link that was read has its bit among the words of marks
 pub markable :
@@ -148,47 +151,46 @@ marked_few {k} {m = m} {after = after} s =
     let e = s.counted in omega arith
 
 -- one turn: a is the link that was read
-module _ {k : ℕ} {link : ℕ → ℕ} {i m names a new : ℕ} {before seen after : List ℕ} (s : Marked k link i m names before seen) (read : a ≡ link i) (one : Mark k a seen after new) where
-  pub marked_more : MarkAsks k a seen → m < mark_bits * k → a ≤ m → new ≤ 1 → Marked k link (i + 1) m (names + new) before after
+module _ {k : ℕ} {link : ℕ → ℕ} {i m names a : ℕ} {new : Option ℕ} {before seen after : List ℕ} (s : Marked k link i m names before seen) (read : a ≡ link i) (one : Mark k a seen after new) where
+  pub marked_more : {more : ℕ} → new ≡ Some more → MarkAsks k a seen → m < mark_bits * k → a ≤ m → Marked k link (i + 1) m (names + more) before after
   unfolding count
-  marked_more asks few small y =
+  marked_more is asks few small =
+      let this_one : Mark k a seen after (Some _) = rw is at one in
       record {
         kept = mark_kept one ∙ s.kept;
         adds =
             λ x o l.
-            let this : mark_of k after x ≡ mark_of k seen x + cond (eqb (link i) x) 1 0 = rw read at (mark_adds asks one y x o (omega arith)) in
+            let this : mark_of k after x ≡ mark_of k seen x + cond (eqb (link i) x) 1 0 = rw read at (mark_adds asks this_one x o (omega arith)) in
             let earlier = s.adds x o l in rw (add-one i) (omega arith);
-        counted = let this = mark_counts a m asks few one y small in let earlier = s.counted in omega arith;
+        counted = let this = mark_counts a m asks few this_one small in let earlier = s.counted in omega arith;
       }
 
-  pub marked_twice :
-      (good : ℕ → Bool) (links : ℕ) {answer : ℕ} → i < links → a ≤ m → 1 < new → answer ≡ m + 1 → Names k good link links m before after answer
-  marked_twice good links l small h far =
-      let g = rw read at (mark_again one h) in
+  pub marked_twice : new ≡ None → (good : ℕ → Bool) (links : ℕ) → i < links → a ≤ m → Names k good link links m before after None
+  marked_twice is good links l small =
+      let g = rw read at (mark_again (rw is at one)) in
       let inside : link i ≤ m = rw read at small in
       let earlier = s.adds (link i) g.0 inside in
       let more = count_hit i links (λ j. eqb (link j) (link i)) l (eq_eqb {m = link i} refl) in
-      twice far (link i) g.0 inside (omega arith)
+      twice (link i) g.0 inside (omega arith)
 
--- a link that fails its test, all links, and how large the answer can be
+-- a link that fails its test, and all links
 pub names_wrong :
-    {k : ℕ} (good : ℕ → Bool) {link : ℕ → ℕ} {links m answer : ℕ} {before after : List ℕ} (i : ℕ) → i < links → good i ≡ false →
-    answer ≡ m + 1 → Names k good link links m before after answer
-names_wrong good {links = links} i l e far = wrong far (sym (scan_fails good links i l e))
+    {k : ℕ} (good : ℕ → Bool) {link : ℕ → ℕ} {links m : ℕ} {before after : List ℕ} (i : ℕ) → i < links → good i ≡ false →
+    Names k good link links m before after None
+names_wrong good {links = links} i l e = wrong (sym (scan_fails good links i l e))
 
 pub names_all :
     {k : ℕ} {good : ℕ → Bool} {link : ℕ → ℕ} {i links m names : ℕ} {before after : List ℕ} → Scan true good links i →
-    Marked k link i m names before after → links ≤ i → Names k good link links m before after names
+    Marked k link i m names before after → links ≤ i → Names k good link links m before after (Some names)
 names_all {i = i} {links = links} s p l =
     let upto = s.upto in
     let e : i ≡ links = omega arith in all (sym (scan_done s l)) (rw e at p)
 
+-- as many as there are records, or fewer
 pub names_few :
-    {k : ℕ} {good : ℕ → Bool} {link : ℕ → ℕ} {links m answer : ℕ} {before after : List ℕ} → Names k good link links m before after answer →
-    answer ≤ m + 1
-names_few (all g p) = let few = marked_few p in omega arith
-names_few (wrong a g) = omega arith
-names_few (twice a x o l g) = omega arith
+    {k : ℕ} {good : ℕ → Bool} {link : ℕ → ℕ} {links m names : ℕ} {before after : List ℕ} →
+    Names k good link links m before after (Some names) → names ≤ m
+names_few (all g p) = marked_few p
 
 -- NAMED EXACTLY ONCE, from clear bits on
 clear : (k long x : ℕ) → mark_of k (replicate long 0) x ≡ 0
@@ -226,22 +228,21 @@ module _ (t : List ℕ) where
   all_good h n = cc
 
   -- the heads, from clear bits on
-  module _ (k long : ℕ) {heads : List ℕ} {h : ℕ} where
-    pub heads_fail : HeadsNamed k t (replicate long 0) heads h → m_of t < h → false ≡ chains_good t
+  module _ (k long : ℕ) {heads : List ℕ} where
+    pub heads_fail : HeadsNamed k t (replicate long 0) heads None → false ≡ chains_good t
     unfolding heads_good named
-    heads_fail (all g s) l = let few = marked_few s in absurd (omega arith)
-    heads_fail (wrong a g) l = sym (heads_bad g)
-    heads_fail (twice a x o b g) l =
+    heads_fail (wrong g) = sym (heads_bad g)
+    heads_fail (twice x o b g) =
         let c = clear k long x in
         let n : 2 ≤ named t x = omega arith in sym (names_bad x o b n)
 
     -- and then the nexts
-    module _ {nexts : List ℕ} {x : ℕ} where
+    module _ {h : ℕ} {nexts : List ℕ} where
       names_right :
-          Marked k (head_of t) (n_of t) (m_of t) h (replicate long 0) heads →
+          {x : ℕ} → Marked k (head_of t) (n_of t) (m_of t) h (replicate long 0) heads →
           Marked k (λ i. next_of t (suc i)) (m_of t) (m_of t) x heads nexts → eqb (h + x) (m_of t) ≡ once
       unfolding named marks
-      names_right p q =
+      names_right {x} p q =
           let start = none_marked k long (m_of t) in
           let a = p.counted in
           let b = q.counted in
@@ -256,15 +257,16 @@ module _ (t : List ℕ) where
           let d = q.adds (suc i) o l in
           let same : mark_of k nexts (suc i) ≡ named t (suc i) = omega arith in rw same))
 
-      pub chains_answer :
-          {m : ℕ} → m ≡ m_of t → HeadsNamed k t (replicate long 0) heads h → h ≤ m → NextsNamed k t heads nexts x →
-          eqb (h + x) m ≡ chains_good t
-      unfolding heads_good nexts_good named
-      chains_answer e (wrong a g) l q = absurd (omega arith)
-      chains_answer e (twice a y o b g) l q = absurd (omega arith)
-      chains_answer {m} e (all g p) l (wrong a n) = ne_eqb (h + x) m (λ r. omega arith) ∙ sym (nexts_bad n)
-      chains_answer {m} e (all g p) l (twice a y o b n) =
+      pub nexts_fail : HeadsNamed k t (replicate long 0) heads (Some h) → NextsNamed k t heads nexts None → false ≡ chains_good t
+      unfolding nexts_good named
+      nexts_fail (all g p) (wrong n) = sym (nexts_bad n)
+      nexts_fail (all g p) (twice y o b n) =
           let none = clear k long y in
           let c = p.adds y o b in
-          let two : 2 ≤ named t y = omega arith in ne_eqb (h + x) m (λ r. omega arith) ∙ sym (names_bad y o b two)
-      chains_answer e (all g p) l (all n q) = rw e (names_right p q ∙ all_good g n)
+          let two : 2 ≤ named t y = omega arith in sym (names_bad y o b two)
+
+      pub chains_answer :
+          {m x : ℕ} → m ≡ m_of t → HeadsNamed k t (replicate long 0) heads (Some h) → NextsNamed k t heads nexts (Some x) →
+          eqb (h + x) m ≡ chains_good t
+      unfolding heads_good nexts_good
+      chains_answer e (all g p) (all n q) = rw e (names_right p q ∙ all_good g n)

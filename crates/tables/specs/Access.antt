@@ -1,5 +1,5 @@
 -- What the reading functions ask and answer. Assumes nothing: these are definitions.
-use Rattle.std.specs.Prelude.{◌≡◌, List, ℕ, ◌≤◌, ◌<◌, length}
+use Rattle.std.specs.Prelude.{◌≡◌, List, ℕ, ◌≤◌, length}
 use Rattle.basics.specs.Words.{largest_word}
 use Rattle.tables.specs.Table.{Limits, table_words, n_of, m_of}
 
@@ -12,17 +12,10 @@ pub record Word (bits answer word : ℕ) : Type 0 where
 abbrev pub Sized : (table : List ℕ) → Type 0
 Sized t = table_words (n_of t) (m_of t) ≤ length t
 
--- one of the table's states
-pub record StateAsks (table : List ℕ) (state : ℕ) : Type 0 where
-  pub inside : state < n_of table
-  pub sized : Sized table
-
--- the table's state count is handed on, with the number of one of its records; they are numbered from 1
-pub record RecordAsks (table : List ℕ) (states number : ℕ) : Type 0 where
-  pub counted : states ≡ n_of table
+-- one of the table's records; they are numbered from 1
+pub record Numbered (table : List ℕ) (number : ℕ) : Type 0 where
   pub from_one : 1 ≤ number
   pub number_to : number ≤ m_of table
-  pub sized : Sized table
 
 -- a range, from its two numbers
 abbrev pub limits : (states records : ℕ) → Limits

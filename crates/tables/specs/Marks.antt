@@ -1,6 +1,6 @@
 -- Naming records, for refusal 9: one pass over the links, with a bit for each record that was named already. What the functions answer.
 -- Assumes nothing: these are definitions.
-use Rattle.std.specs.Prelude.{◌≡◌, Bool, true, false, List, ℕ, suc, ◌+◌, ◌*◌, ◌/◌, ◌%◌, ◌^◌, ◌≤◌, ◌<◌, eqb, length}
+use Rattle.std.specs.Prelude.{◌≡◌, Option, Some, None, Bool, true, false, List, ℕ, suc, ◌+◌, ◌*◌, ◌/◌, ◌%◌, ◌^◌, ◌≤◌, ◌<◌, eqb, length}
 use Rattle.basics.specs.Bounded.{each, count}
 use Rattle.basics.specs.Packed.{packed, raised}
 use Rattle.basics.specs.Words.{word_bits}
@@ -29,11 +29,13 @@ pub record MarkAsks (words link : ℕ) (seen : List ℕ) : Type 0 where
   pub long : words ≤ length seen
   pub inside : link < mark_bits * words
 
--- one link, and how many records it marks: zero names nothing, a record not named so far is marked; 2 refuses one that was named already
-pub data Mark (words link : ℕ) (before after : List ℕ) : ℕ → Type 0 where
-  nothing : link ≡ 0 → after ≡ before → Mark words link before after 0
-  first : 1 ≤ link → mark_of words before link ≡ 0 → after ≡ raised 2 mark_bits before (mark_place words link) 1 → Mark words link before after 1
-  again : 1 ≤ link → mark_of words before link ≡ 1 → after ≡ before → Mark words link before after 2
+-- one link, and how many records it marks: zero names nothing, a record not named so far is marked; one that was named already is refused
+pub data Mark (words link : ℕ) (before after : List ℕ) : Option ℕ → Type 0 where
+  nothing : link ≡ 0 → after ≡ before → Mark words link before after (Some 0)
+  first :
+      1 ≤ link → mark_of words before link ≡ 0 → after ≡ raised 2 mark_bits before (mark_place words link) 1 →
+      Mark words link before after (Some 1)
+  again : 1 ≤ link → mark_of words before link ≡ 1 → after ≡ before → Mark words link before after None
 
 -- after k links: each mark has grown by how often they name its record, and so many records more are marked
 pub record Marked (words : ℕ) (link : ℕ → ℕ) (k m names : ℕ) (before after : List ℕ) : Type 0 where
@@ -42,19 +44,19 @@ pub record Marked (words : ℕ) (link : ℕ → ℕ) (k m names : ℕ) (before a
   pub counted : marks words m after ≡ marks words m before + names
 
 -- k links, each of which must pass a test: all do, each names a record that no other names, and the answer is how many are named;
--- or one fails, or some record is named a second time, and the answer is m + 1
-pub data Names (words : ℕ) (good : ℕ → Bool) (link : ℕ → ℕ) (k m : ℕ) (before after : List ℕ) (answer : ℕ) : Type 0 where
-  all : each k good ≡ true → Marked words link k m answer before after → Names words good link k m before after answer
-  wrong : answer ≡ m + 1 → each k good ≡ false → Names words good link k m before after answer
+-- or one fails, or some record is named a second time, and there is no answer
+pub data Names (words : ℕ) (good : ℕ → Bool) (link : ℕ → ℕ) (k m : ℕ) (before after : List ℕ) : Option ℕ → Type 0 where
+  all : {names : ℕ} → each k good ≡ true → Marked words link k m names before after → Names words good link k m before after (Some names)
+  wrong : each k good ≡ false → Names words good link k m before after None
   twice :
-      answer ≡ m + 1 → (x : ℕ) → 1 ≤ x → x ≤ m → 2 ≤ mark_of words before x + count k (λ i. eqb (link i) x) →
-      Names words good link k m before after answer
+      (x : ℕ) → 1 ≤ x → x ≤ m → 2 ≤ mark_of words before x + count k (λ i. eqb (link i) x) →
+      Names words good link k m before after None
 
 -- the heads of a table, and its nexts
-abbrev pub HeadsNamed : (words : ℕ) → (table before after : List ℕ) → (answer : ℕ) → Type 0
+abbrev pub HeadsNamed : (words : ℕ) → (table before after : List ℕ) → (answer : Option ℕ) → Type 0
 HeadsNamed k t = Names k (head_good t) (head_of t) (n_of t) (m_of t)
 
-abbrev pub NextsNamed : (words : ℕ) → (table before after : List ℕ) → (answer : ℕ) → Type 0
+abbrev pub NextsNamed : (words : ℕ) → (table before after : List ℕ) → (answer : Option ℕ) → Type 0
 NextsNamed k t = Names k (next_good t) (λ i. next_of t (suc i)) (m_of t) (m_of t)
 
 -- as many words as give each record of a 16-bit table its bit

@@ -14,9 +14,7 @@ use Rattle.basics.proofs.Lists.{all_same, get_d_map}
 use Rattle.basics.proofs.Refusing.{written_number, written_count, written_none}
 use Rattle.tables.specs.Table.{Limits, n_of, k_of, table_refusal}
 use Rattle.tables.proofs.Refusals.{table_most}
-use Rattle.lassos.specs.Decision.{decision}
-use Rattle.lassos.specs.declared.Decision.{Decision}
-use Rattle.lassos.specs.declared.Decision.TheVariants.{Taken, NotTaken, Refused}
+use Rattle.lassos.specs.Decision.{Decision, Taken, NotTaken, Refused, decision}
 use Rattle.lassos.proofs.Answers.{decision_says, says_refused}
 use Rattle.lassos.proofs.Decides.{decided_refused}
 use Rattle.lassos.proofs.Parts.{parts_least, parts_own, table_first}

@@ -47,7 +47,7 @@ module _ (p l : ℕ) (t : List ℕ) where
   tray_cut short = rw (gt_leb short)
 
 -- WRITTEN AND READ. The words of a lasso are read as that lasso
-tray_lasso : (x : Parts) (t : List ℕ) → tray (lasso_words x ++ t) ≡ led_by x (tray t)
+pub tray_lasso : (x : Parts) (t : List ℕ) → tray (lasso_words x ++ t) ≡ led_by x (tray t)
 unfolding lasso_words lasso_of
 tray_lasso x t =
     let u = x.prefix in

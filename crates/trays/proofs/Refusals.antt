@@ -5,8 +5,13 @@ use mathlib.Core.List.{List, map}
 use Prim.Native.Nat.{ℕ}
 use lib.Dec.{eqb}
 use lib.ListN.{length, replicate}
+use Rattle.std.specs.Prelude.{Ok, Err}
 use Rattle.basics.specs.Buffers.{as_written, zeros}
+use Rattle.basics.specs.Refusals.{number, written}
+use Rattle.basics.specs.declared.Refusal.{Refusal}
 use Rattle.basics.proofs.Booleans.{false_not, eq_eqb, ne_eqb, eqb_eq}
+use native.Mathlib.Omega.{arith}
+use Rattle.basics.proofs.Refusals.{numbered}
 use Rattle.basics.proofs.Refusing.{passed, or_else_none, or_else_first, or_else_second, written_refused}
 use Rattle.tables.specs.Table.{Limits, table_refusal}
 use Rattle.trays.specs.Answers.{list_refusal, tray_refusal, byte_of, tray_bytes, TraySays}
@@ -73,43 +78,40 @@ module _ (range : Limits) (t s a : List ℕ) (work : ℕ) where
 
 -- what it says is said of the work words as they will be cleared
 module _ (range : Limits) (t s a w : List ℕ) where
-  module _ {x : ℕ} (is_list : x ≡ list_refusal s (length a)) where
-    pub answers_list :
-        (x ≡ 0 → ⊥) → {a_now : List ℕ} → a_now ≡ replicate (length a) 0 →
-        TraySays range t s (record { number = x; count = 0 }) a a_now w (zeros w)
-    unfolding zeros
-    answers_list met cleared =
-        let far : list_refusal s (length a) ≡ 0 → ⊥ = λ z. met (is_list ∙ z) in
+  pub answers_list :
+      (r : Refusal) → number r ≡ list_refusal s (length a) → {a_now : List ℕ} → a_now ≡ replicate (length a) 0 →
+      TraySays range t s (written (Err r)) a a_now w (zeros w)
+  unfolding zeros
+  answers_list r is_list cleared =
+      let met : number r ≡ 0 → ⊥ = λ z. let some = numbered r in omega arith in
+      let far : list_refusal s (length a) ≡ 0 → ⊥ = λ z. met (is_list ∙ z) in
+      record {
+        answer = written_refused (number r) _ (is_list ∙ sym (by_list range t s (length a) far)) met (length (tray s).lassos);
+        bytes = cleared ∙ sym (bytes_list range t s a (length w) far);
+        work = refl;
+      }
+
+  module _ (near : list_refusal s (length a) ≡ 0) where
+    pub answers_table :
+        (r : Refusal) → number r ≡ table_refusal range t → {a_now : List ℕ} → a_now ≡ replicate (length a) (number r) →
+        TraySays range t s (written (Err r)) a a_now w (zeros w)
+    answers_table r is_table all =
+        let met : number r ≡ 0 → ⊥ = λ z. let some = numbered r in omega arith in
+        let far : table_refusal range t ≡ 0 → ⊥ = λ z. met (is_table ∙ z) in
         record {
-          answer = written_refused x _ (is_list ∙ sym (by_list range t s (length a) far)) met (length (tray s).lassos);
-          bytes = cleared ∙ sym (bytes_list range t s a (length w) far);
+          answer = written_refused (number r) _ (is_table ∙ sym (by_table range t s (length a) near)) met (length (tray s).lassos);
+          bytes = all ∙ (ap (λ (n : ℕ). replicate (length a) n) is_table ∙ sym (bytes_table range t s a (length w) near far));
           work = refl;
         }
 
-    module _ (fine : x ≡ 0) {y : ℕ} (is_table : y ≡ table_refusal range t) where
-      near : list_refusal s (length a) ≡ 0
-      near = sym is_list ∙ fine
-
-      pub answers_table :
-          (y ≡ 0 → ⊥) → {a_now : List ℕ} → a_now ≡ replicate (length a) y →
-          TraySays range t s (record { number = y; count = 0 }) a a_now w (zeros w)
-      answers_table met all =
-          let far : table_refusal range t ≡ 0 → ⊥ = λ z. met (is_table ∙ z) in
-          record {
-            answer = written_refused y _ (is_table ∙ sym (by_table range t s (length a) near)) met (length (tray s).lassos);
-            bytes = all ∙ (ap (λ (n : ℕ). replicate (length a) n) is_table ∙ sym (bytes_table range t s a (length w) near far));
-            work = refl;
-          }
-
-      pub answers_each :
-          y ≡ 0 → {a_now : List ℕ} → a_now ≡ map (byte_of range t (length w)) (tray s).lassos → {n : ℕ} → n ≡ length a →
-          TraySays range t s (record { number = 0; count = n }) a a_now w (zeros w)
-      unfolding as_written
-      answers_each none each counted =
-          let none' : table_refusal range t ≡ 0 = sym is_table ∙ none in
-          let count = (list_fits s (length a) near).counted in
-          record {
-            answer = rw (by_table range t s (length a) near ∙ none', count, counted);
-            bytes = each ∙ sym (bytes_each range t s a (length w) near none');
-            work = refl;
-          }
+    pub answers_each :
+        table_refusal range t ≡ 0 → {a_now : List ℕ} → a_now ≡ map (byte_of range t (length w)) (tray s).lassos → {n : ℕ} → n ≡ length a →
+        TraySays range t s (written (Ok n)) a a_now w (zeros w)
+    unfolding as_written
+    answers_each none each counted =
+        let count = (list_fits s (length a) near).counted in
+        record {
+          answer = rw (by_table range t s (length a) near ∙ none, count, counted);
+          bytes = each ∙ sym (bytes_each range t s a (length w) near none);
+          work = refl;
+        }

@@ -1,174 +1,132 @@
--- Laws of walking through a list by index: what is read at a place, and the two loops, which count its lassos and decide them.
+-- Laws of reading a list from its front: the first lasso that it holds, and the two loops, which count its lassos and decide them.
 -- Assumes nothing.
-use borrow.Rule.Slice.PartMut.{mid_len}
-use mathlib.Core.Path.{◌≡◌, refl, sym, ap, ◌∙◌}
-use mathlib.Core.List.{List, [], ◌∷◌, ◌++◌, append-nil, map}
+use mathlib.Core.Path.{◌≡◌, refl, ap, ◌∙◌}
+use mathlib.Core.List.{List, [], ◌∷◌, ◌++◌, append_assoc, append-nil, map}
 use mathlib.Core.Logic.{inl, inr}
-use Prim.Native.Nat.{ℕ, suc, ◌+◌, ◌-◌, ◌≤◌, ◌<◌}
+use Prim.Native.Nat.{ℕ, zero, suc, ◌+◌, ◌-◌, ◌≤◌, ◌<◌}
 use native.Mathlib.Omega.{arith}
 use native.Mathlib.Numerals.{add-one}
-use lib.ListN.{length, get_or, set, take, drop, length-set, length-drop, drop_of_length-le}
-use lib.Seq.{drop-cons, drop-drop, take_all, take-suc-set, append_snoc}
-use Rattle.basics.proofs.Booleans.{below_or}
-use Rattle.trays.specs.Steps.{longest_lasso, lasso_end}
-use Rattle.trays.specs.Tray.{Parts, lasso_of, no_more, led_by, tray}
-use Rattle.trays.proofs.Reading.{tray_none, tray_single, tray_whole, tray_cut}
+use lib.Dec.{leb}
+use lib.ListN.{length, get_or, set, take, drop, length-drop, length-set, take-append-drop}
+use lib.Seq.{take_all, take-suc-set, append_snoc}
+use Rattle.std.specs.List.{IsSplitAt}
+use Rattle.basics.proofs.Booleans.{either}
+use Rattle.trays.specs.Tray.{Parts, lasso_words, no_more, led_by, tray_in, tray}
+use Rattle.trays.proofs.Reading.{tray_none, tray_single, tray_cut, tray_lasso}
 
--- A LASSO AT A PLACE of a list, where both its lengths are
-module _ (s : List ℕ) (i : ℕ) (both : i + 1 < length s) where
-  -- the list from the place on: both lengths, then the letters and the rest
-  lengths_first : drop i s ≡ get_or s i 0 ∷ (get_or s (i + 1) 0 ∷ drop (i + 2) s)
-  lengths_first =
-      let first : drop i s ≡ get_or s i 0 ∷ drop (suc i) s = drop-cons s i 0 (omega arith) in
-      let second : drop (suc i) s ≡ get_or s (suc i) 0 ∷ drop (suc (suc i)) s = drop-cons s (suc i) 0 (omega arith) in
-      let one : i + 1 ≡ suc i = omega arith in
-      let two : i + 2 ≡ suc (suc i) = omega arith in rw (one, two) (first ∙ ap (λ (t : List ℕ). get_or s i 0 ∷ t) second)
-
-  -- a whole lasso, then what follows it
-  whole_at :
-      lasso_end s i ≤ length s →
-      tray (drop i s) ≡ led_by (lasso_of (get_or s i 0) (take (lasso_end s i - (i + 2)) (drop (i + 2) s))) (tray (drop (lasso_end s i) s))
-  unfolding lasso_end
-  whole_at inside =
-      let p = get_or s i 0 in
-      let l = get_or s (i + 1) 0 in
-      let left = length-drop (i + 2) s in
-      let n : i + 2 + p + l - (i + 2) ≡ p + l = omega arith in
-      let after : i + 2 + (p + l) ≡ i + 2 + p + l = omega arith in
-      let behind : drop (p + l) (drop (i + 2) s) ≡ drop (i + 2 + p + l) s =
-      drop-drop (p + l) (i + 2) s ∙ ap (λ (k : ℕ). drop k s) after in
-      ap tray lengths_first ∙ (tray_whole p l (drop (i + 2) s) (omega arith) ∙ rw (n, behind))
-
-  -- one that is cut short is left
-  cut_at : length s < lasso_end s i → tray (drop i s) ≡ no_more (drop i s)
-  unfolding lasso_end
-  cut_at over =
-      let left = length-drop (i + 2) s in
-      ap tray lengths_first
-      ∙ (tray_cut (get_or s i 0) (get_or s (i + 1) 0) (drop (i + 2) s) (omega arith) ∙ ap no_more (sym lengths_first))
-
--- it ends behind its place
-pub end_further : (s : List ℕ) (i : ℕ) → i + 2 ≤ lasso_end s i
-unfolding lasso_end
-end_further s i = omega arith
-
--- fewer than two words hold no lasso
-few_words : (s : List ℕ) → length s ≤ 1 → tray s ≡ no_more s
+-- THE FIRST LASSO of a list. Fewer than two words hold none
+pub few_words : (s : List ℕ) → length s < 2 → tray s ≡ no_more s
 few_words [] l = tray_none
 few_words (x ∷ []) l = tray_single x
 few_words (x ∷ (y ∷ s)) l = absurd (omega arith)
 
--- COUNTING: so many lassos were passed, up to a place
-pub record Counting (s : List ℕ) (at lassos : ℕ) : Type 0 where
-  pub upto : at ≤ length s
-  pub few : lassos ≤ at
-  pub rest : lassos + length (tray (drop at s)).lassos ≡ length (tray s).lassos
-  pub left : (tray (drop at s)).left ≡ (tray s).left
+-- behind both lengths stands the rest
+behind_lengths : (s : List ℕ) → take (length s - 2) (drop 2 s) ≡ drop 2 s
+behind_lengths s = take_all (length s - 2) (drop 2 s) (let d = length-drop 2 s in omega arith)
 
-pub counting_start : (s : List ℕ) → Counting s 0 0
-counting_start s = record { upto = omega arith; few = omega arith; rest = omega arith; left = refl }
+-- one that is cut short is none
+pub cut_first :
+    (s : List ℕ) → 2 ≤ length s → length (take (length s - 2) (drop 2 s)) < get_or s 0 0 + get_or s 1 0 → tray s ≡ no_more s
+cut_first [] l short = absurd (omega arith)
+cut_first (x ∷ []) l short = absurd (omega arith)
+cut_first (p ∷ (q ∷ t)) l short = tray_cut p q t (let e = ap length (behind_lengths (p ∷ (q ∷ t))) in omega arith)
 
-module _ {s : List ℕ} {at lassos : ℕ} (h : Counting s at lassos) where
-  -- where no more lassos are read, all words from the place on are left
-  counting_left : tray (drop at s) ≡ no_more (drop at s) → length (tray s).left ≡ length s - at
-  unfolding no_more
-  counting_left e = rw (sym h.left, e) (length-drop at s)
+-- a whole one, then what follows it
+pub whole_first :
+    (s u v behind rest : List ℕ) → 2 ≤ length s → IsSplitAt (take (length s - 2) (drop 2 s)) (get_or s 0 0) u behind →
+    IsSplitAt behind (get_or s 1 0) v rest → tray s ≡ led_by (record { prefix = u; loop = v }) (tray rest)
+unfolding lasso_words
+whole_first [] u v behind rest l first second = absurd (omega arith)
+whole_first (x ∷ []) u v behind rest l first second = absurd (omega arith)
+whole_first (p ∷ (q ∷ t)) u v behind rest l first second =
+    let (fits, front, back, long, more) = rw (behind_lengths (p ∷ (q ∷ t))) at first in
+    let (fits', front', back', long', more') = second in
+    let later : v ++ rest ≡ behind = rw (front', back') (take-append-drop q behind) in
+    let letters : u ++ behind ≡ t = rw (front, back) (take-append-drop p t) in
+    let joined : (u ++ v) ++ rest ≡ t = append_assoc u v rest ∙ (ap (λ (x : List ℕ). u ++ x) later ∙ letters) in
+    let words : p ∷ (q ∷ t) ≡ lasso_words (record { prefix = u; loop = v }) ++ rest = rw (long, long', joined) refl in
+    ap tray words ∙ tray_lasso (record { prefix = u; loop = v }) rest
 
-  module _ (both : at + 1 < length s) {end : ℕ} (is_end : end ≡ lasso_end s at) where
-    pub counting_turn : end ≤ length s → Counting s end (lassos + 1)
-    unfolding led_by lasso_end
-    counting_turn inside =
-        let whole = whole_at s at both (omega arith) in
-        let few = h.few in
-        let count = rw whole at h.rest in
-        record { upto = inside; few = omega arith; rest = rw is_end (omega arith); left = rw is_end (rw whole at h.left) }
+-- which are fewer
+pub fewer : (x : Parts) (s t : List ℕ) → tray s ≡ led_by x (tray t) → length (tray t).lassos < length (tray s).lassos
+unfolding led_by
+fewer x s t e = rw e (omega arith)
 
-    pub counting_cut : length s < end → length (tray s).left ≡ 0 → ⊥
-    counting_cut over none = let left = counting_left (cut_at s at both (omega arith)) in omega arith
+-- COUNTING: so many lassos were passed, and this list is left of the whole one
+pub record Counting (s rest : List ℕ) (count : ℕ) : Type 0 where
+  pub passed : count + length (tray rest).lassos ≡ length (tray s).lassos
+  pub left : (tray rest).left ≡ (tray s).left
 
-  module _ (done : length s ≤ at + 1) where
-    few_left : tray (drop at s) ≡ no_more (drop at s)
-    few_left = few_words (drop at s) (let d = length-drop at s in omega arith)
+pub counting_start : (s : List ℕ) → Counting s s 0
+counting_start s = record { passed = omega arith; left = refl }
 
-    pub counting_over : (at ≡ length s → ⊥) → length (tray s).left ≡ 0 → ⊥
-    counting_over ne none =
-        let left = counting_left few_left in
-        let upto = h.upto in omega arith
+-- a list has no more lassos than words
+lassos_to : (f : ℕ) (s : List ℕ) → length (tray_in f s).lassos ≤ f
+unfolding tray_in no_more led_by
+lassos_to zero s = omega arith
+lassos_to (suc f) [] = omega arith
+lassos_to (suc f) (p ∷ []) = omega arith
+lassos_to (suc f) (p ∷ (q ∷ t)) =
+    elim (either (leb (p + q) (length t))) [
+      | inl fits ↦ rw fits (let few = lassos_to f (drop (p + q) t) in omega arith)
+      | inr short ↦ rw short (omega arith)
+    ]
 
-    -- at the end all lassos are counted, and nothing is left
-    module _ (exact : at ≡ length s) where
-      pub counting_exact : length (tray s).left ≡ 0
-      counting_exact = let left = counting_left few_left in omega arith
+lassos_few : (s : List ℕ) → length (tray s).lassos ≤ length s
+unfolding tray
+lassos_few s = lassos_to (length s) s
 
-      pub counting_all : lassos ≡ length (tray s).lassos
-      unfolding no_more
-      counting_all = let count = rw few_left at h.rest in omega arith
+module _ {s rest : List ℕ} {count : ℕ} (h : Counting s rest count) where
+  pub counting_few : count ≤ length s
+  counting_few = let few = lassos_few s in let passed = h.passed in omega arith
 
--- DECIDING: the first i bytes are those of the lassos before a place
+  pub counting_turn : (x : Parts) (t : List ℕ) → tray rest ≡ led_by x (tray t) → Counting s t (count + 1)
+  unfolding led_by
+  counting_turn x t e = let passed = rw e at h.passed in record { passed = omega arith; left = rw e at h.left }
+
+  -- where no lasso follows, all are counted, and what is left is what the list leaves
+  module _ (none : tray rest ≡ no_more rest) where
+    pub counting_all : count ≡ length (tray s).lassos
+    unfolding no_more
+    counting_all = let passed = rw none at h.passed in omega arith
+
+    pub counting_left : length rest ≡ length (tray s).left
+    unfolding no_more
+    counting_left = ap length (rw none at h.left)
+
+-- DECIDING: the first i bytes are those of the lassos that were passed, and this list is left of the whole one
 module _ (f : Parts → ℕ) (s a : List ℕ) (work : ℕ) where
-  pub record Deciding (a_now w_now letters : List ℕ) (at i : ℕ) : Type 0 where
+  pub record Deciding (a_now w_now rest : List ℕ) (i : ℕ) : Type 0 where
     pub same : length a_now ≡ length a
     pub room : length w_now ≡ work
-    pub copies : length letters ≡ longest_lasso
-    pub count : i + length (tray (drop at s)).lassos ≡ length a
-    pub bytes : take i a_now ++ map f (tray (drop at s)).lassos ≡ map f (tray s).lassos
+    pub count : i + length (tray rest).lassos ≡ length a
+    pub bytes : take i a_now ++ map f (tray rest).lassos ≡ map f (tray s).lassos
 
 module _ {f : Parts → ℕ} {s a : List ℕ} {work : ℕ} where
-  pub deciding_start :
-      {w letters : List ℕ} → length w ≡ work → length letters ≡ longest_lasso → length (tray s).lassos ≡ length a →
-      Deciding f s a work a w letters 0 0
-  deciding_start room copies count = record { same = refl; room = room; copies = copies; count = omega arith; bytes = refl }
+  pub deciding_start : {w : List ℕ} → length w ≡ work → length (tray s).lassos ≡ length a → Deciding f s a work a w s 0
+  deciding_start room count = record { same = refl; room = room; count = omega arith; bytes = refl }
 
-  module _ {a1 w1 letters : List ℕ} {at i : ℕ} (h : Deciding f s a work a1 w1 letters at i) where
-    some_left : i < length a1 → 1 ≤ length (tray (drop at s)).lassos
-    some_left l = let same = h.same in let count = h.count in omega arith
+  module _ {a1 w1 rest : List ℕ} {i : ℕ} (h : Deciding f s a work a1 w1 rest i) where
+    -- a lasso is there, so a byte is too
+    module _ (x : Parts) (t : List ℕ) (first : tray rest ≡ led_by x (tray t)) where
+      pub deciding_inside : i < length a1
+      deciding_inside = let few = fewer x rest t first in let same = h.same in let count = h.count in omega arith
 
-    -- there is a byte to fill, so there is a lasso: both its lengths, and all of its letters
-    pub next_lengths : i < length a1 → at + 1 < length s
-    unfolding no_more
-    next_lengths l =
-        elim (below_or (at + 1) (length s)) [
-          | inl both ↦ both
-          | inr few ↦
-              let d = length-drop at s in
-              let none = rw (few_words (drop at s) (omega arith)) at (some_left l) in absurd (omega arith)
-        ]
-
-    module _ (more : i < length a1) {end : ℕ} (is_end : end ≡ lasso_end s at) where
-      pub next_inside : end ≤ length s
-      unfolding no_more
-      next_inside =
-          elim (below_or (length s) end) [
-            | inl over ↦ let none = rw (cut_at s at (next_lengths more) (omega arith)) at (some_left more) in absurd (omega arith)
-            | inr inside ↦ inside
-          ]
-
-      -- its letters hold its prefix
-      pub next_prefix : get_or s at 0 ≤ length (take (end - (at + 2)) (drop (at + 2) s))
-      unfolding lasso_end
-      next_prefix = let long = mid_len (at + 2) end s next_inside in omega arith
-
-      pub deciding_turn :
-          {w2 letters2 : List ℕ} → length w2 ≡ length w1 → length letters2 ≡ length letters → {b : ℕ} →
-          b ≡ f (lasso_of (get_or s at 0) (take (end - (at + 2)) (drop (at + 2) s))) →
-          Deciding f s a work (set a1 i b) w2 letters2 end (i + 1)
+      pub deciding_turn : {w2 : List ℕ} → length w2 ≡ length w1 → {b : ℕ} → b ≡ f x → Deciding f s a work (set a1 i b) w2 t (i + 1)
       unfolding led_by
-      deciding_turn kept copied {b} is_byte_lem =
-          let inside = next_inside in
-          let whole = whole_at s at (next_lengths more) (omega arith) in
-          let count = rw whole at h.count in
-          let bytes = rw whole at h.bytes in
-          let rest = map f (tray (drop end s)).lassos in
+      deciding_turn kept {b} is_byte =
+          let count = rw first at h.count in
+          let bytes = rw first at h.bytes in
           record {
             same = length-set a1 i b ∙ h.same;
             room = kept ∙ h.room;
-            copies = copied ∙ h.copies;
-            count = rw is_end (omega arith);
-            bytes = rw (add-one i, take-suc-set a1 i b more, append_snoc (take i a1) b rest, is_byte_lem, is_end) bytes;
+            count = omega arith;
+            bytes =
+                rw (add-one i, take-suc-set a1 i b deciding_inside, append_snoc (take i a1) b (map f (tray t).lassos), is_byte) bytes;
           }
 
-    pub deciding_end : length a1 ≤ i → a1 ≡ map f (tray s).lassos
-    deciding_end over =
+    pub deciding_end : tray rest ≡ no_more rest → a1 ≡ map f (tray s).lassos
+    unfolding no_more
+    deciding_end none =
         let same = h.same in
-        let count = h.count in
-        let none = drop_of_length-le (tray (drop at s)).lassos {i = 0} (omega arith) in rw (none, append-nil, take_all i a1 over) at h.bytes
+        let count = rw none at h.count in rw (append-nil, take_all i a1 (omega arith)) at (rw none at h.bytes)

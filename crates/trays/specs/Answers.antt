@@ -4,9 +4,7 @@ use Rattle.std.specs.Prelude.{◌≡◌, cond, not, List, map, ℕ, eqb, length,
 use Rattle.basics.specs.Buffers.{or_else, as_written, zeros}
 use Rattle.basics.specs.declared.Written.{Written}
 use Rattle.tables.specs.Table.{Limits, table_refusal}
-use Rattle.lassos.specs.Decision.{decision}
-use Rattle.lassos.specs.declared.Decision.{Decision}
-use Rattle.lassos.specs.declared.Decision.TheVariants.{Taken, NotTaken, Refused}
+use Rattle.lassos.specs.Decision.{Decision, Taken, NotTaken, Refused, decision}
 use Rattle.trays.specs.Tray.{Parts, tray}
 
 -- 17: the list does not end exactly at a lasso's end; 18: the answer bytes are not as many as the lassos

@@ -1,4 +1,4 @@
 pub mod Answers
+pub mod List
 pub mod Rows
-pub mod Steps
 pub mod Tray

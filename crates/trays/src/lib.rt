@@ -1,158 +1,145 @@
 // A tray of lassos: one table is asked for each lasso of a list of words.
 #![tactic(auto)]
 
-ghost use Rattle.std.specs.Prelude.{◌≡◌, map, ◌+◌, ◌^◌, ◌<◌, length};
+ghost use Rattle.std.specs.Prelude.{◌≡◌, cond, map, ◌^◌, ◌<◌, ◌≤◌, length, IfOk};
 ghost use Rattle.basics.specs.Buffers.{zeros};
 ghost use Rattle.basics.specs.Words.{byte_bits};
+ghost use Rattle.basics.specs.Refusals.{refused, written};
+ghost use Rattle.automata.specs.Lasso.{all_below};
 ghost use Rattle.tables.specs.Table.{wide_range};
+ghost use Rattle.lassos.specs.Decision.{decided, decision};
 ghost use Rattle.trays.specs.Answers.{list_refusal, as_byte, byte_of, TraySays};
-ghost use Rattle.trays.specs.Steps.{lasso_end, CopyAsks, Copied, ByteAsks, EachAsks};
-ghost use Rattle.trays.specs.Tray.{lasso_of, tray};
+ghost use Rattle.trays.specs.Tray.{tray};
 
-use basics::{Written, clear32, fill8};
-use lassos::{Decision, PART_LETTERS, decide_checked, lengths_refusal};
-use tables::{WIDE_RECORDS, WIDE_STATES, letters_of, table_refusal};
+use crate::list::{Lasso, Lassos};
+use basics::{Refusal, fill};
+use lassos::{PART_LETTERS, WideTable, decide_checked, lengths_refusal};
 
-// The letters of the longest lasso that is not refused: a prefix and a loop.
-const LASSO_LETTERS: usize = 2 * PART_LETTERS;
+mod list;
 
-// Decides on a table for each lasso of a list, and fills a byte for each: 1 taken, 0 not, or the refusal's number. The table is checked once,
-// and the work words are cleared once, behind the last lasso: nothing is asked of them at entry, and they are all zero afterwards.
-pub fn decide_tray(table: &[u16], list: &[u16], answers: &mut [u8], work: &mut [u32]) -> Written
-    ensures { TraySays wide_range table.now list.now result answers.old answers.new work.old work.new }
+// Decides on a table for each lasso of a list, and fills a byte for each: 1 taken, 0 not, or the refusal's number. Answers how many. The
+// table is checked once, and the work words are cleared once, behind the last lasso: nothing is asked of them at entry, and they are all zero
+// afterwards.
+#[tactic(auto, unfolding(basics::specs::Buffers::zeros))]
+pub fn decide_tray(
+    table: &[u16],
+    list: &[u16],
+    answers: &mut [u8],
+    work: &mut [u32],
+) -> Result<usize, Refusal>
+    ensures { TraySays wide_range table.now list.now (written result) answers.old answers.new work.old work.new }
 {
     let written = fill_answers(table, list, answers, work);
-    clear32(work);
+    fill(work, 0);
     written
 }
 
 // Refuses by 17 and 18, then by 2 to 9, or decides each lasso. The work words are left as the searches leave them: it says what the call
 // will say that clears them.
-fn fill_answers(table: &[u16], list: &[u16], answers: &mut [u8], work: &mut [u32]) -> Written
-    ensures { TraySays wide_range table.now list.now result answers.old answers.new work.old (zeros work.old) }
-{
-    let of_list = list_refusal(list, answers.len());
-    if of_list != 0 {
-        fill8(answers, 0);
-        return Written {
-            number: of_list,
-            count: 0,
-        };
-    }
-    let of_table = table_refusal(table, WIDE_STATES, WIDE_RECORDS);
-    if of_table != 0 {
-        fill8(answers, of_table as u8);
-        return Written {
-            number: of_table,
-            count: 0,
-        };
-    }
-    decide_each(table, list, answers, work);
-    Written {
-        number: 0,
-        count: answers.len(),
-    }
-}
-
-// Refusal 17 or 18 of a list and so many answer bytes, or zero.
-fn list_refusal(list: &[u16], bytes: usize) -> u32
-    ensures { result ≡ list_refusal list.now bytes }
-{
-    let mut at = 0;
-    let mut lassos = 0;
-    while at + 1 < list.len() {
-        let end = lasso_end(list, at);
-        if end > list.len() {
-            return 17;
-        }
-        at = end;
-        lassos += 1;
-    }
-    if at != list.len() {
-        return 17;
-    }
-    if lassos != bytes {
-        return 18;
-    }
-    0
-}
-
-// Where the lasso at a place of a list ends, by its two lengths; beyond the list's end where it is cut short.
-fn lasso_end(list: &[u16], at: usize) -> usize
-    requires { at + 1 < length list.now }
-    ensures { result ≡ lasso_end list.now at }
-{
-    let prefix = list[at] as usize;
-    let cycle = list[at + 1] as usize;
-    at + 2 + prefix + cycle
-}
-
-// Decides each lasso of a list, where neither the list nor the table is refused.
-fn decide_each(table: &[u16], list: &[u16], answers: &mut [u8], work: &mut [u32])
-    requires { EachAsks wide_range table.now list.now answers.old }
-    ensures { answers.new ≡ map (byte_of wide_range table.now (length work.old)) (tray list.now).lassos }
-{
-    let mut letters = [0u8; LASSO_LETTERS];
-    let mut at = 0;
-    let mut filled = 0;
-    while filled < answers.len() {
-        let end = lasso_end(list, at);
-        let prefix = list[at] as usize;
-        answers[filled] = lasso_byte(table, &list[at + 2..end], prefix, &mut letters, work);
-        at = end;
-        filled += 1;
-    }
-}
-
-// The byte of one lasso, whose letters are 16-bit words, the first of them its prefix. The search reads bytes: letters below k are copied.
-fn lasso_byte(
+fn fill_answers(
     table: &[u16],
-    words: &[u16],
-    prefix: usize,
-    letters: &mut [u8],
+    list: &[u16],
+    answers: &mut [u8],
     work: &mut [u32],
-) -> u8
-    requires { ByteAsks wide_range table.now words.now prefix letters.old }
-    ensures { result ≡ byte_of wide_range table.now (length work.old) (lasso_of prefix words.now) }
+) -> Result<usize, Refusal>
+    ensures { TraySays wide_range table.now list.now (written result) answers.old answers.new work.old (zeros work.old) }
 {
-    let refusal = lengths_refusal(prefix, words.len() - prefix);
-    if refusal != 0 {
-        return refusal as u8;
+    if let Err(of_list) = list_refusal(list, answers.len()) {
+        fill(answers, 0);
+        return Err(of_list);
     }
-    if !copy_letters(words, letters_of(table), letters) {
-        return 15;
-    }
-    // Lent as a whole first: two parts of what may be written cannot be lent to one call.
-    let whole = &letters[..];
-    let end = words.len();
-    in_byte(decide_checked(table, &whole[..prefix], &whole[prefix..end], work))
-}
-
-// Copies words into bytes while they are letters below k, and answers whether all are.
-fn copy_letters(words: &[u16], k: usize, letters: &mut [u8]) -> bool
-    requires { CopyAsks words.now k letters.old }
-    ensures { Copied words.now k result letters.new }
-{
-    let mut i = 0;
-    while i < words.len() {
-        let letter = words[i] as usize;
-        if letter >= k {
-            return false;
+    let wide = match WideTable::check(table) {
+        Ok(wide) => wide,
+        Err(of_table) => {
+            fill(answers, in_byte(Err(of_table)));
+            return Err(of_table);
         }
-        letters[i] = letter as u8;
-        i += 1;
-    }
-    true
+    };
+    decide_each(wide, list, answers, work);
+    Ok(answers.len())
 }
 
-// A decision as a byte.
-fn in_byte(decision: Decision) -> u8
-    requires { as_byte decision < 2 ^ byte_bits }
-    ensures { result ≡ as_byte decision }
+// Refusal 17 or 18 of a list and so many answer bytes.
+fn list_refusal(list: &[u16], bytes: usize) -> Result<(), Refusal>
+    ensures { refused result ≡ list_refusal list.now bytes }
+{
+    let mut lassos = Lassos { list };
+    // Counted by hand: behind `by_ref().count()` no proof knows what is left of the list.
+    let mut count = 0;
+    while let Some(_) = lassos.next() {
+        count += 1;
+    }
+    if !lassos.list.is_empty() {
+        return Err(Refusal::List);
+    }
+    if count != bytes {
+        return Err(Refusal::Answers);
+    }
+    Ok(())
+}
+
+// Decides each lasso of a list, where the list is not refused.
+fn decide_each(wide: WideTable, list: &[u16], answers: &mut [u8], work: &mut [u32])
+    requires { list_refusal list.now (length answers.old) ≡ 0 }
+    ensures { answers.new ≡ map (byte_of wide_range wide.entry.table.words.now (length work.old)) (tray list.now).lassos }
+{
+    let mut room = Room {
+        prefix: [0; PART_LETTERS],
+        cycle: [0; PART_LETTERS],
+    };
+    let lassos = Lassos { list };
+    for (i, lasso) in lassos.enumerate() {
+        answers[i] = in_byte(decide_listed(wide, lasso, &mut room, work));
+    }
+}
+
+// Room for the letters of one lasso as bytes, which the search reads.
+#[derive(Drop)]
+struct Room {
+    prefix: [u8; PART_LETTERS],
+    cycle: [u8; PART_LETTERS],
+}
+
+// Decides for one lasso of a list.
+fn decide_listed(
+    wide: WideTable,
+    lasso: Lasso,
+    room: &mut Room,
+    work: &mut [u32],
+) -> Result<bool, Refusal>
+    ensures { decided result ≡ decision wide_range wide.entry.table.words.now lasso.entry.prefix.now lasso.entry.cycle.now (length work.old) }
+{
+    lengths_refusal(lasso.prefix.len(), lasso.cycle.len())?;
+    let k = wide.table.letters();
+    let prefix = copy_letters(lasso.prefix, k, &mut room.prefix)?;
+    let cycle = copy_letters(lasso.cycle, k, &mut room.cycle)?;
+    decide_checked(wide, prefix, cycle, work)
+}
+
+// Words as bytes, where all are letters below k; refuses by 15 a word that is none.
+fn copy_letters<'a>(words: &[u16], k: usize, room: &'a mut [u8]) -> Result<&'a [u8], Refusal>
+    requires long { length words.now ≤ length room.old }
+    requires narrow { k < 2 ^ byte_bits }
+    ensures refusal { refused result ≡ cond (all_below k words.now) 0 15 }
+    ensures copied { IfOk result (λ letters. letters.now ≡ words.now) }
+{
+    for (i, word) in words.iter().enumerate() {
+        let letter = *word as usize;
+        if letter >= k {
+            return Err(Refusal::WrongLetter);
+        }
+        room[i] = letter as u8;
+    }
+    Ok(&room[..words.len()])
+}
+
+// A decision as a byte: 1 taken, 0 not, or the refusal's number. No `From`, since neither type is of this crate.
+#[tactic(auto, unfolding(crate::specs::Answers::as_byte))]
+fn in_byte(decision: Result<bool, Refusal>) -> u8
+    ensures { result ≡ as_byte (decided decision) }
 {
     match decision {
-        Decision::Taken => 1,
-        Decision::NotTaken => 0,
-        Decision::Refused(number) => number as u8,
+        Ok(taken) => u8::from(taken),
+        Err(refusal) => refusal.number() as u8,
     }
 }

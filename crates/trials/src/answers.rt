@@ -1,83 +1,92 @@
-// The end of a trial's line: the answer.
-use basics::Written;
-use complement::Counts;
-use lassos::Decision;
-use patterns::{Checked, Place};
-use std::io;
+// The end of a trial's line: the answer. A refusal is printed as C gets it, by its number, and one of the check or of the build with its
+// place too.
+use basics::{Place, Refusal};
+use complement::Size;
+use patterns::Checked;
+use std::fmt;
 
-fn print_refused(rt: &impl Print, number: u32) -> io::Result<()> {
-    println!(rt; ": refused {number}")
-}
+#[derive(Clone, Copy)]
+struct Refused(Refusal);
 
-// A refusal of the check or of the build: its number, and its place as a state and a letter.
-fn print_refused_at(rt: &impl Print, number: u32, place: Place) -> io::Result<()> {
-    println!(rt; ": refused {number} ({}, {})", place.state, place.letter)
-}
-
-pub(crate) fn print_checked(rt: &impl Print, answer: Checked) -> io::Result<()> {
-    match answer {
-        Checked::Passed => println!(rt; ": passed"),
-        Checked::Refused(number, place) => print_refused_at(rt, number, place),
+impl fmt::Display for Refused {
+    fn fmt<W: fmt::Write>(&self, f: &mut fmt::Formatter<W>) -> fmt::Result {
+        write!(f, "refused {}", self.0.number())
     }
 }
 
-pub(crate) fn print_decision(rt: &impl Print, answer: Decision) -> io::Result<()> {
-    match answer {
-        Decision::Taken => println!(rt; ": taken"),
-        Decision::NotTaken => println!(rt; ": not taken"),
-        Decision::Refused(number) => print_refused(rt, number),
+// A refusal's number, and its place as a state and a letter.
+#[derive(Clone, Copy)]
+struct RefusedAt(u32, Place);
+
+impl fmt::Display for RefusedAt {
+    fn fmt<W: fmt::Write>(&self, f: &mut fmt::Formatter<W>) -> fmt::Result {
+        let RefusedAt(number, place) = *self;
+        write!(f, "refused {number} ({}, {})", place.state, place.letter)
     }
 }
 
-pub(crate) fn print_counts(rt: &impl Print, counts: Counts) -> io::Result<()> {
-    if counts.number != 0 {
-        print_refused_at(rt, counts.number, counts.place)
-    } else {
-        println!(rt; ": states {} edges {}", counts.states, counts.edges)
+// What the check answers.
+#[derive(Clone, Copy)]
+pub(crate) struct Check(pub Checked);
+
+impl fmt::Display for Check {
+    fn fmt<W: fmt::Write>(&self, f: &mut fmt::Formatter<W>) -> fmt::Result {
+        match self.0 {
+            Checked::Passed => f.write_str("passed"),
+            Checked::Refused(number, place) => write!(f, "{}", RefusedAt(number, place)),
+        }
     }
 }
 
-// Bytes, each behind a blank.
-fn print_bytes(rt: &impl Print, bytes: &[u8]) -> io::Result<()> {
-    let mut i = 0;
-    while i < bytes.len() {
-        print!(rt; " {}", bytes[i])?;
-        i += 1;
-    }
-    Ok(())
-}
+// What a decision of a lasso answers.
+#[derive(Clone, Copy)]
+pub(crate) struct Decided(pub Result<bool, Refusal>);
 
-// Words, each behind a blank.
-fn print_words(rt: &impl Print, words: &[u16]) -> io::Result<()> {
-    let mut i = 0;
-    while i < words.len() {
-        print!(rt; " {}", words[i])?;
-        i += 1;
-    }
-    Ok(())
-}
-
-// How many of these a call wrote, or the refusal's number.
-fn print_written(rt: &impl Print, answer: Written, these: &str) -> io::Result<()> {
-    if answer.number != 0 {
-        print!(rt; ": refused {}", answer.number)
-    } else {
-        print!(rt; ": {} {these}", answer.count)
+impl fmt::Display for Decided {
+    fn fmt<W: fmt::Write>(&self, f: &mut fmt::Formatter<W>) -> fmt::Result {
+        match self.0 {
+            Ok(true) => f.write_str("taken"),
+            Ok(false) => f.write_str("not taken"),
+            Err(refusal) => write!(f, "{}", Refused(refusal)),
+        }
     }
 }
 
-// What a tray's call answers, and what the answer bytes hold after it.
-pub(crate) fn print_tray(rt: &impl Print, answer: Written, bytes: &[u8]) -> io::Result<()> {
-    print_written(rt, answer, "lassos")?;
-    print!(rt; ", bytes")?;
-    print_bytes(rt, bytes)?;
-    println!(rt;)
+// What the build answers.
+#[derive(Clone, Copy)]
+pub(crate) struct Built(pub Result<Size, Refusal>);
+
+impl fmt::Display for Built {
+    fn fmt<W: fmt::Write>(&self, f: &mut fmt::Formatter<W>) -> fmt::Result {
+        match self.0 {
+            Ok(size) => write!(f, "states {} edges {}", size.states, size.edges),
+            Err(refusal) => write!(f, "{}", RefusedAt(refusal.number(), refusal.place())),
+        }
+    }
 }
 
-// What a merge answers, and what lent words hold after it.
-pub(crate) fn print_merged(rt: &impl Print, answer: Written, lent: &[u16]) -> io::Result<()> {
-    print_written(rt, answer, "words")?;
-    print!(rt; ", lent")?;
-    print_words(rt, lent)?;
-    println!(rt;)
+// How many of these a call wrote.
+#[derive(Clone, Copy)]
+pub(crate) struct Amount<'a>(pub Result<usize, Refusal>, pub &'a str);
+
+impl fmt::Display for Amount<'_> {
+    fn fmt<W: fmt::Write>(&self, f: &mut fmt::Formatter<W>) -> fmt::Result {
+        match self.0 {
+            Ok(count) => write!(f, "{count} {}", self.1),
+            Err(refusal) => write!(f, "{}", Refused(refusal)),
+        }
+    }
+}
+
+// Numbers, each behind a blank.
+#[derive(Clone, Copy)]
+pub(crate) struct Row<'a, T>(pub &'a [T]);
+
+impl<T: fmt::Display> fmt::Display for Row<'_, T> {
+    fn fmt<W: fmt::Write>(&self, f: &mut fmt::Formatter<W>) -> fmt::Result {
+        for number in self.0 {
+            write!(f, " {number}")?;
+        }
+        Ok(())
+    }
 }

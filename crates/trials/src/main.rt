@@ -2,9 +2,8 @@
 // output that was worked out apart (docs/TRIALS.md).
 #![tactic(auto)]
 
-ghost use Rattle.std.specs.Io.{ReadsAtMost};
-
 mod answers;
+mod buffer;
 mod filling;
 mod lasso;
 mod pair;
@@ -12,27 +11,14 @@ mod scan;
 mod script;
 mod tray;
 
+use filling::Table;
 use std::io;
 use std::io::Read;
 
-// Reads until there is no more room or the input ends, and answers how many bytes it put at the start.
-fn read_full<R: Read>(input: &mut R, text: &mut [u8]) -> io::Result<usize>
-    ensures { ReadsAtMost result text.new }
-{
-    let mut done = 0;
-    while done < text.len() {
-        let count = input.read(&mut text[done..])?;
-        if count == 0 {
-            break;
-        }
-        done += count;
-    }
-    Ok(done)
-}
-
 fn main(rt: HostRuntime) -> io::Result<()> {
     let mut text = [0; 65536];
-    let length = read_full(&mut rt.stdin(), &mut text)?;
-    let mut table = [0u16; 327680];
-    script::run(&rt, &text[..length], &mut table)
+    let read = io::copy(&mut rt.stdin().take(65536), &mut &mut text[..])?;
+    // No more is read than there is room for, but what `copy` promises does not say so.
+    let length = text.len().min(read as usize);
+    script::run(&rt, &text[..length], &mut Table::new(0))
 }

@@ -12,136 +12,117 @@
 //     join NAME: SIZE LENT FROM    merges the pattern of the table's first SIZE words with that of the others in so many lent words,
 //                                  of which those from a place on are printed; the merged pattern is the table from then on
 //
-// Each of the last six prints its name and the answer.
-use crate::answers::{print_checked, print_counts};
-use crate::filling::filled;
+// Each of the last six prints its name and the answer. A part that a line lacks is looked for in the lines behind it.
+use crate::answers::{Built, Check};
+use crate::filling::{Table, put_row, put_rows};
 use crate::lasso::decide;
 use crate::pair::join;
-use crate::scan::{behind, decimal};
+use crate::scan::{behind, divided, numbers};
 use crate::tray::decide_many;
-use complement::build_complement;
+use complement::{Counts, build_complement};
 use patterns::check_pattern;
 use std::io;
 use tables::table_words;
 
-// WHAT IS ASKED OF A TABLE
+// What a line asks for.
+#[derive(Clone, Copy)]
+enum Command {
+    Table,
+    Repeat,
+    Pattern,
+    Build,
+    Lasso,
+    Complement,
+    Many,
+    Join,
+}
+
+// A line that asks for nothing.
+#[derive(Clone, Copy)]
+struct Comment;
+
+impl TryFrom<u8> for Command {
+    type Error = Comment;
+
+    fn try_from(letter: u8) -> Result<Command, Comment> {
+        match letter {
+            b't' => Ok(Command::Table),
+            b'r' => Ok(Command::Repeat),
+            b'p' => Ok(Command::Pattern),
+            b'b' => Ok(Command::Build),
+            b'l' => Ok(Command::Lasso),
+            b'c' => Ok(Command::Complement),
+            b'm' => Ok(Command::Many),
+            b'j' => Ok(Command::Join),
+            _ => Err(Comment),
+        }
+    }
+}
 
 // Builds in so many table words and so many words of records, at most 64 of each.
-fn build_in(rt: &impl Print, table: &[u16], length: usize, room: usize) -> io::Result<()> {
+fn build(rt: &impl Print, table: &[u16], text: &[u8]) -> io::Result<()> {
+    let [length, room] = numbers::<2>(text);
     let mut words = [7u16; 64];
     let mut sets = [7u32; 64];
-    if length <= 64 {
-        if room <= 64 {
-            return print_counts(
-                rt,
-                build_complement(table, &mut words[0..length], &mut sets[0..room]),
-            );
-        }
-    }
-    Ok(())
+    let (Some(words), Some(sets)) = (words.get_mut(..length), sets.get_mut(..room)) else {
+        return Ok(());
+    };
+    println!(rt; ": {}", Built(build_complement(table, words, sets)))
 }
 
-fn build(rt: &impl Print, table: &[u16], text: &[u8], at: usize) -> io::Result<()> {
-    build_in(
-        rt,
-        table,
-        decimal(text, at),
-        decimal(text, behind(text, at, b' ')),
-    )
-}
-
-fn decide_over_complement(
-    rt: &impl Print,
-    table: &[u16],
-    text: &[u8],
-    at: usize,
-) -> io::Result<()> {
+// A complement that is refused has no states and no edges, as C gets it, so a lasso over it is refused too.
+fn decide_over_complement(rt: &impl Print, table: &[u16], text: &[u8]) -> io::Result<()> {
     let mut words = [7u16; 64];
     let mut sets = [7u32; 64];
-    let counts = build_complement(table, &mut words, &mut sets);
+    let counts = Counts::from(build_complement(table, &mut words, &mut sets));
     let used = table_words(counts.states as usize, counts.edges as usize);
-    if used <= 64 {
-        return decide(rt, &words[0..used], text, at);
-    }
-    Ok(())
-}
-
-fn is_command(letter: u8) -> bool {
-    match letter {
-        b'p' | b'b' | b'l' | b'c' | b'm' | b'j' => true,
-        _ => false,
+    match words.get(..used) {
+        Some(complement) => decide(rt, complement, text),
+        None => Ok(()),
     }
 }
 
-fn answer(rt: &impl Print, command: u8, table: &[u16], text: &[u8], at: usize) -> io::Result<()> {
+// Prints the name of a trial and not the colon behind it, and answers what is given behind that.
+fn named<'a>(rt: &impl Print, text: &'a [u8]) -> io::Result<&'a [u8]> {
+    let (name, given) = divided(behind(text, b' '), b':');
+    if let Some((_colon, name)) = name.split_last() {
+        rt.write_all(name)?;
+    }
+    Ok(behind(given, b' '))
+}
+
+// Does what the line asks that a text begins with. A `match`, and no table of functions: each command is given other parts of the line.
+fn obey(rt: &impl Print, command: Command, text: &[u8], table: &mut Table) -> io::Result<()> {
+    let (line, _) = divided(text, b'\n');
     match command {
-        b'p' => print_checked(rt, check_pattern(table)),
-        b'b' => build(rt, table, text, at),
-        b'l' => decide(rt, table, text, at),
-        b'm' => decide_many(rt, table, text, at),
-        _ => decide_over_complement(rt, table, text, at),
-    }
-}
-
-// LINES
-
-// Prints a name and not the colon behind it.
-fn print_name(rt: &impl Print, text: &[u8], from: usize, to: usize) -> io::Result<()> {
-    if to <= text.len() {
-        if from < to {
-            return rt.write_all(&text[from..to - 1]);
+        Command::Table => {
+            table.clear();
+            put_row(table, line, 1, 0);
+            Ok(())
         }
+        Command::Repeat => {
+            put_rows(table, line);
+            Ok(())
+        }
+        Command::Pattern => {
+            named(rt, text)?;
+            println!(rt; ": {}", Check(check_pattern(table.as_slice())))
+        }
+        Command::Build => build(rt, table.as_slice(), named(rt, text)?),
+        Command::Lasso => decide(rt, table.as_slice(), named(rt, text)?),
+        Command::Complement => decide_over_complement(rt, table.as_slice(), named(rt, text)?),
+        Command::Many => decide_many(rt, table.as_slice(), named(rt, text)?),
+        Command::Join => join(rt, table, named(rt, text)?),
     }
-    Ok(())
 }
 
-// Does what a line asks of a table's words in use, and answers how many these then are: only a join changes them.
-fn answer_over(
-    rt: &impl Print,
-    command: u8,
-    table: &mut [u16],
-    used: usize,
-    text: &[u8],
-    at: usize,
-) -> io::Result<usize> {
-    if command == b'j' {
-        return join(rt, table, used, text, at);
-    }
-    if used <= table.len() {
-        answer(rt, command, &table[0..used], text, at)?;
-    }
-    Ok(used)
-}
-
-// Does what a line asks of a table: a name, and behind a colon what is given. Answers how many words the table then has.
-fn ask(
-    rt: &impl Print,
-    text: &[u8],
-    from: usize,
-    table: &mut [u16],
-    used: usize,
-) -> io::Result<usize> {
-    if from >= text.len() {
-        return Ok(used);
-    }
-    let command = text[from];
-    if !is_command(command) {
-        return Ok(used);
-    }
-    let name = behind(text, from, b' ');
-    let colon = behind(text, name, b':');
-    print_name(rt, text, name, colon)?;
-    answer_over(rt, command, table, used, text, behind(text, colon, b' '))
-}
-
-pub(crate) fn run(rt: &impl Print, text: &[u8], table: &mut [u16]) -> io::Result<()> {
-    let mut used = 0;
-    let mut at = 0;
-    while at < text.len() {
-        let end = behind(text, at, b'\n');
-        used = filled(text, at, end, table, used);
-        used = ask(rt, text, at, table, used)?;
-        at = end;
+pub(crate) fn run(rt: &impl Print, text: &[u8], table: &mut Table) -> io::Result<()> {
+    let mut left = text;
+    while let [letter, ..] = left {
+        if let Ok(command) = Command::try_from(*letter) {
+            obey(rt, command, left, table)?;
+        }
+        left = behind(left, b'\n');
     }
     Ok(())
 }

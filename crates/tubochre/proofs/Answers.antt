@@ -6,9 +6,8 @@ use Prim.Native.Nat.{ℕ, zero, suc}
 use lib.ListN.{length}
 use Rattle.automata.specs.Decision.{takes?}
 use Rattle.tables.specs.Table.{Limits, meaning}
-use Rattle.lassos.specs.Decision.{as_decision, decision, LassoSays}
+use Rattle.lassos.specs.Decision.{Decision, as_decision, decision, LassoSays}
 use Rattle.lassos.specs.Refusals.{lasso_refusal}
-use Rattle.lassos.specs.declared.Decision.{Decision}
 use Rattle.lassos.proofs.Answers.{says_taken, says_not_taken, says_refused}
 use Rattle.lassos.proofs.Parts.{accepted}
 use Rattle.tubochre.specs.Demand.{LassoDemand, NotRefused}

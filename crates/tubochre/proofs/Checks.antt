@@ -9,7 +9,7 @@ use Rattle.tables.specs.Table.{pattern_range, table_refusal, meaning}
 use Rattle.tables.proofs.Laws.{valid, meaning_closed}
 use Rattle.patterns.specs.Check.{check_refusal, no_place, check_place, as_checked, checked}
 use Rattle.patterns.specs.Forks.{SomeFork, ForksFirst}
-use Rattle.patterns.specs.declared.Place.{Place}
+use Rattle.basics.specs.declared.Place.{Place}
 use Rattle.patterns.proofs.Answers.{CheckCase, by_table, by_fork, by_none, check_cases, check_most, no_fork_place, passed_no_place, fork_place_kept}
 use Rattle.patterns.proofs.Places.{uneven_place, place_right, even_right, uneven_right}
 use Rattle.tubochre.specs.Calls.{as_check_answer}

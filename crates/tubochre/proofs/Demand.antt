@@ -22,9 +22,7 @@ use Rattle.complement.specs.Build.{room_of}
 use Rattle.complement.specs.Complement.{system_of, complement, complement_words}
 use Rattle.complement.proofs.Second.{Fits, pattern_exactly, few_states, words_mean, words_letters, words_valid, build_number, build_place, build_passed, build_fits, build_states, build_edges, build_used, build_sets}
 use Rattle.complement.proofs.Third.{Parted, parted_words}
-use Rattle.lassos.specs.Decision.{decision, LassoSays}
-use Rattle.lassos.specs.declared.Decision.{Decision}
-use Rattle.lassos.specs.declared.Decision.TheVariants.{Taken, NotTaken, Refused}
+use Rattle.lassos.specs.Decision.{Decision, Taken, NotTaken, Refused, decision, LassoSays}
 use Rattle.lassos.proofs.Answers.{says_taken, says_not_taken, says_refused, lasso_refused}
 use Rattle.tubochre.specs.Calls.{as_answer, LassoAnswers}
 use Rattle.tubochre.specs.declared.Answer.{Answer}

@@ -13,9 +13,7 @@ use Rattle.patterns.specs.Check.{as_checked, checked}
 use Rattle.patterns.specs.declared.Checked.TheVariants.{Passed}
 use Rattle.complement.specs.Build.{Lent, BuildSays, used}
 use Rattle.complement.specs.declared.Counts.{Counts}
-use Rattle.lassos.specs.Decision.{LassoSays}
-use Rattle.lassos.specs.declared.Decision.{Decision}
-use Rattle.lassos.specs.declared.Decision.TheVariants.{Taken, NotTaken, Refused}
+use Rattle.lassos.specs.Decision.{Decision, Taken, NotTaken, Refused, LassoSays}
 use Rattle.lassos.proofs.Answers.{says_taken, says_not_taken}
 use Rattle.merge.specs.Merged.{merged_words}
 use Rattle.merge.proofs.Answers.{says_number, refused_count, refused_words, merged_count, merged_left, merged_used}

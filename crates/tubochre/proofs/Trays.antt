@@ -14,9 +14,8 @@ use Rattle.tables.specs.Table.{Limits, Wider, pattern_range, k_of, meaning, tabl
 use Rattle.patterns.proofs.Passed.{checked_wider}
 use Rattle.complement.specs.Build.{used}
 use Rattle.complement.proofs.Second.{words_letters, words_valid, build_passed, build_fits, build_used}
-use Rattle.lassos.specs.Decision.{decision, LassoSays}
+use Rattle.lassos.specs.Decision.{Decision, decision, LassoSays}
 use Rattle.lassos.specs.Refusals.{lasso_refusal}
-use Rattle.lassos.specs.declared.Decision.{Decision}
 use Rattle.lassos.proofs.Answers.{decision_says, says_taken, says_not_taken, says_refused}
 use Rattle.lassos.proofs.Parts.{lasso_alike, accepted}
 use Rattle.trays.specs.Answers.{byte_of}

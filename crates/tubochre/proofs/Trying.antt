@@ -10,10 +10,10 @@ use Rattle.basics.proofs.Booleans.{either, eqb_eq, eqb_ne}
 use Rattle.basics.proofs.Clears.{zeros_length, zeros_same}
 use Rattle.patterns.specs.Check.{as_checked, checked}
 use Rattle.patterns.specs.declared.Checked.TheVariants.{Passed}
-use Rattle.complement.specs.Build.{Lent, BuildSays}
+use Rattle.complement.specs.Build.{Lent, BuildSays, counted}
 use Rattle.complement.proofs.Second.{build_passed}
 use Rattle.tables.specs.Table.{wide_range}
-use Rattle.lassos.specs.Decision.{LassoSays}
+use Rattle.lassos.specs.Decision.{LassoSays, decided}
 use Rattle.tubochre.specs.Trying.{DecidedBuilt, TrialSays}
 use Rattle.tubochre.specs.Demand.{ThirdDemand}
 use Rattle.tubochre.specs.declared.Trial.{Trial}
@@ -22,23 +22,23 @@ use Rattle.tubochre.proofs.Demands.{wide_demands}
 module _
     {t u v w between w_now : List ℕ}
     {before after : Lent}
-    {r : Trial}
+    (r : Trial)
     (check : r.checked ≡ checked t)
-    (build : BuildSays wide_range t r.counts before after)
-    (pattern : LassoSays wide_range t u v r.pattern w between)
-    (built : DecidedBuilt r.counts after.words u v r.complement between w_now)
+    (build : BuildSays wide_range t (counted r.built) before after)
+    (pattern : LassoSays wide_range t u v (decided r.pattern) w between)
+    (built : DecidedBuilt (counted r.built) after.words u v (decided r.complement) between w_now)
   where
     same_work : length between ≡ length w
     same_work = ap length pattern.work ∙ zeros_length w
 
     cleared : w_now ≡ zeros w
     cleared =
-        elim (either (eqb r.counts.number 0)) [
-          | inl e ↦ built.work (eqb_eq r.counts.number 0 e) ∙ zeros_same w between same_work
-          | inr e ↦ built.kept (eqb_ne r.counts.number 0 e) ∙ pattern.work
+        elim (either (eqb (counted r.built).number 0)) [
+          | inl e ↦ built.work (eqb_eq (counted r.built).number 0 e) ∙ zeros_same w between same_work
+          | inr e ↦ built.kept (eqb_ne (counted r.built).number 0 e) ∙ pattern.work
         ]
 
-    passes : r.counts.number ≡ 0 → Passed ≡ checked t
+    passes : (counted r.built).number ≡ 0 → Passed ≡ checked t
     unfolding checked as_checked
     passes z = rw (build_passed build z)
 
@@ -52,5 +52,5 @@ module _
           complement = λ z. rw same_work at (built.built z);
           unbuilt = built.unbuilt;
           work = cleared;
-          compared = λ z lasso. wide_demands.third t Passed r.counts before after u v (passes z) refl build z lasso;
+          compared = λ z lasso. wide_demands.third t Passed (counted r.built) before after u v (passes z) refl build z lasso;
         }

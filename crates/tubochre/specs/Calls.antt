@@ -1,13 +1,11 @@
 -- What the check and the lasso call for C answer, and what the latter leaves. Assumes nothing: these are definitions.
 use Rattle.std.specs.Prelude.{◌≡◌, List, ℕ, length}
 use Rattle.basics.specs.Buffers.{zeros}
+use Rattle.basics.specs.Refusals.{no_place}
 use Rattle.tables.specs.Table.{Limits}
-use Rattle.patterns.specs.Check.{no_place}
 use Rattle.patterns.specs.declared.Checked.{Checked}
 use Rattle.patterns.specs.declared.Checked.TheVariants as checks
-use Rattle.lassos.specs.Decision.{decision}
-use Rattle.lassos.specs.declared.Decision.{Decision}
-use Rattle.lassos.specs.declared.Decision.TheVariants.{Taken, NotTaken, Refused}
+use Rattle.lassos.specs.Decision.{Decision, Taken, NotTaken, Refused, decision}
 use Rattle.tubochre.specs.declared.Answer.{Answer}
 use Rattle.tubochre.specs.declared.CheckAnswer.{CheckAnswer}
 

@@ -16,14 +16,12 @@ use Rattle.patterns.specs.Forks.{SomeFork, ForksFirst}
 use Rattle.patterns.specs.Pattern.{moves}
 use Rattle.patterns.specs.declared.Checked.{Checked}
 use Rattle.patterns.specs.declared.Checked.TheVariants.{Passed}
-use Rattle.patterns.specs.declared.Place.{Place}
+use Rattle.basics.specs.declared.Place.{Place}
 use Rattle.complement.specs.Build.{Lent, Room, room_of, BuildSays, used, used_sets}
 use Rattle.complement.specs.Complement.{system_of, complement, complement_automaton, complement_words, sets_words}
 use Rattle.complement.specs.declared.Counts.{Counts}
-use Rattle.lassos.specs.Decision.{LassoSays}
+use Rattle.lassos.specs.Decision.{Decision, Taken, NotTaken, Refused, LassoSays}
 use Rattle.lassos.specs.Refusals.{lasso_refusal}
-use Rattle.lassos.specs.declared.Decision.{Decision}
-use Rattle.lassos.specs.declared.Decision.TheVariants.{Taken, NotTaken, Refused}
 use Rattle.trays.specs.Answers.{TraySays}
 use Rattle.trays.specs.Tray.{Parts, no_lasso, list_of}
 use Rattle.tubochre.specs.Calls.{as_check_answer, LassoAnswers}

@@ -11,9 +11,7 @@ use Rattle.patterns.specs.Check.{check_refusal, checked}
 use Rattle.patterns.specs.declared.Checked.TheVariants.{Passed}
 use Rattle.complement.specs.Build.{Lent, BuildSays, used}
 use Rattle.complement.specs.declared.Counts.{Counts}
-use Rattle.lassos.specs.Decision.{LassoSays}
-use Rattle.lassos.specs.declared.Decision.{Decision}
-use Rattle.lassos.specs.declared.Decision.TheVariants.{Taken}
+use Rattle.lassos.specs.Decision.{Decision, Taken, LassoSays}
 use Rattle.merge.specs.Merge.{merged_size, BothPass, SameLetters, FewStates, FewRecords, MergeSays}
 use Rattle.merge.specs.Merged.{merged_words}
 use Rattle.tubochre.specs.Calls.{LassoAnswers}

@@ -4,11 +4,9 @@ use Rattle.basics.specs.Buffers.{zeros}
 use Rattle.automata.specs.Lasso.{Lasso}
 use Rattle.tables.specs.Table.{table_words, wide_range, k_of}
 use Rattle.patterns.specs.Check.{checked}
-use Rattle.complement.specs.Build.{Lent, BuildSays, used}
+use Rattle.complement.specs.Build.{Lent, BuildSays, used, counted}
 use Rattle.complement.specs.declared.Counts.{Counts}
-use Rattle.lassos.specs.Decision.{decision}
-use Rattle.lassos.specs.declared.Decision.{Decision}
-use Rattle.lassos.specs.declared.Decision.TheVariants.{Refused}
+use Rattle.lassos.specs.Decision.{Decision, Refused, decided, decision}
 use Rattle.tubochre.specs.Demand.{Compared}
 use Rattle.tubochre.specs.declared.Trial.{Trial}
 
@@ -26,11 +24,14 @@ pub record DecidedBuilt (r : Counts) (o u v : List ℕ) (d : Decision) (w w_now 
 -- A TRIAL: check, build, decide on the pattern, decide on the used part of the words
 pub record TrialSays (t u v : List ℕ) (r : Trial) (before after : Lent) (w w_now : List ℕ) : Type 0 where
   pub check : r.checked ≡ checked t
-  pub build : BuildSays wide_range t r.counts before after
-  pub pattern : r.pattern ≡ decision wide_range t u v (length w)
+  pub build : BuildSays wide_range t (counted r.built) before after
+  pub pattern : decided r.pattern ≡ decision wide_range t u v (length w)
   -- the complement is decided where it was built, and else carries the build's refusal
-  pub complement : r.counts.number ≡ 0 → r.complement ≡ decision wide_range (used r.counts after.words) u v (length w)
-  pub unbuilt : (r.counts.number ≡ 0 → ⊥) → r.complement ≡ Refused r.counts.number
+  pub complement :
+      (counted r.built).number ≡ 0 → decided r.complement ≡ decision wide_range (used (counted r.built) after.words) u v (length w)
+  pub unbuilt : ((counted r.built).number ≡ 0 → ⊥) → decided r.complement ≡ Refused (counted r.built).number
   pub work : w_now ≡ zeros w
   -- the third demand
-  pub compared : r.counts.number ≡ 0 → Lasso (k_of t) u v → Compared wide_range t (used r.counts after.words) u v r.counts.states
+  pub compared :
+      (counted r.built).number ≡ 0 → Lasso (k_of t) u v →
+      Compared wide_range t (used (counted r.built) after.words) u v (counted r.built).states

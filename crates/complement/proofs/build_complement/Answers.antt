@@ -1,34 +1,13 @@
--- `build_complement` answers and leaves what the definitions say: what its one reading of the table refuses, or what is built from what it
--- read. Assumes nothing.
-use mathlib.Core.Path.{sym}
-use Rattle.tables.specs.Table.{wide_range}
-use Rattle.patterns.proofs.Answers.{reading_refused, reading_place, reading_met, reading_passed, reading_shape, reading_masks}
-use Rattle.complement.specs.Build.{lent}
-use Rattle.complement.specs.Found.{ReadOff}
-use Rattle.complement.proofs.Answers.{refused_check}
+-- `build_complement` answers and leaves what the definitions say: an accepted try as it is, and after a refused one nothing. Assumes nothing.
+use Rattle.std.proofs.Common.{ℕ, replicate, sym, ◌∙◌, ap}
+use Rattle.complement.proofs.Answers.{says_tried, says_cleared}
 use Rattle.complement.proofs.build_complement.Goals as goal
-use Rattle.complement.proofs.build_complement.Goals.{In-Pattern}
 
--- it is a pattern
-module _ (c : In-Pattern) where
-  read_off : ReadOff c.args.table.now c.read_pattern.new.masks c.in-Pattern.shape
-  read_off =
-      let told = c.in-Pattern.ensures.told in
-      record {
-        passed = sym (reading_passed _ _ told);
-        masked = reading_masks _ _ told _ _ c.in-Pattern.ensures.spread;
-        shaped = reading_shape _ _ told;
-      }
+pub returns-then-is_err : goal.returns-then-is_err
+returns-then-is_err c =
+    says_cleared _ c.try_build-built.ensures (sym c.is_err.ensures.value ∙ c.if-is_err.true)
+    (c.fill.ensures ∙ ap (λ (n : ℕ). replicate n 0) c.try_build-built.auto.words)
+    (c.fill-then-is_err.ensures ∙ ap (λ (n : ℕ). replicate n 0) c.try_build-built.auto.sets)
 
-pub build_pattern-requires : goal.build_pattern-requires
-build_pattern-requires c = record { table = c.args.table.now; read_off = read_off (goal.at.build_pattern-requires c).In-Pattern }
-
-pub returns-in-Refused : goal.returns-in-Refused
-returns-in-Refused c =
-    let told = c.in-Refused.ensures.told in
-    refused_check wide_range c.args.table.now (lent c.args.words.now c.args.sets.now) (reading_refused _ _ _ told)
-    (reading_met _ _ _ told)
-    (reading_place _ _ _ told) c.refuse.ensures
-
-pub returns-in-Pattern : goal.returns-in-Pattern
-returns-in-Pattern c = c.build_pattern.ensures.says c.args.table.now (read_off (goal.at.returns-in-Pattern c).In-Pattern)
+pub returns-else-is_err : goal.returns-else-is_err
+returns-else-is_err c = says_tried _ c.try_build-built.ensures (sym c.is_err.ensures.value ∙ c.if-is_err.false)

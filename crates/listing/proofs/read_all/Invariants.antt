@@ -3,4 +3,4 @@ use Rattle.decimal.specs.Reading.{Ready}
 use Rattle.listing.proofs.read_all.Given as goal
 
 abbrev pub invariant-loop : goal.invariant-loop
-invariant-loop g l = Ready l.so_far l.table
+invariant-loop g l = Ready l.reading l.table

@@ -7,4 +7,10 @@ use Rattle.listing_text.proofs.list.Goals as goal
 
 pub returns : goal.returns
 unfolding listing_bounds pattern_range
-returns c = record { listed = c.list_read.ensures; of_input = listing_right (omega arith) }
+returns c =
+    let made = c.new-listing.ensures in
+    let read = c.list_read.ensures in
+    record {
+      listed = record { ended_table = read.ended_table; text = rw (made.as_lent, made.at_start) at read.text.put };
+      of_input = listing_right (omega arith);
+    }

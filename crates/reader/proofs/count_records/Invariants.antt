@@ -1,16 +1,11 @@
--- The loop of `reader::count_records`: the reader is over the table passed, and what is counted and what is left make up the
--- whole (`Counted`). Its measure: the number of records less the count.
-use Rattle.std.proofs.Common.{◌≡◌, ◌-◌}
+-- The loop of `reader::count_records`: the reader is over the table passed, and what is counted and what is left make up the whole.
+use Rattle.std.proofs.Common.{◌≡◌, ◌+◌, ◌-◌}
 use Rattle.tables.specs.Table.{m_of}
-use Rattle.reader.proofs.Counting.{Counted}
+use Rattle.reader.specs.Chain.{chain_length, records_in_chain}
 use Rattle.reader.proofs.count_records.Given as goal
 
--- what a turn begins with
-abbrev pub invariant-loop-reader : goal.invariant-loop-reader
-invariant-loop-reader l = record {
+abbrev pub invariant-loop-count : goal.invariant-loop-count
+invariant-loop-count l = record {
   same : l.reader.table.now ≡ l.table;
-  counted : Counted l.table l.state l.reader.number l.count;
+  whole : l.count + chain_length (m_of l.table - l.count) l.table l.reader.number ≡ records_in_chain l.table l.state;
 }
-
-abbrev pub decreases-loop-reader : goal.decreases-loop-reader
-decreases-loop-reader l = m_of l.table - l.count

@@ -1,15 +1,17 @@
 -- `records::find` meets its contract: the first record that is x has the place asked for, and where none is, their count is.
 -- Assumes nothing.
-use Rattle.std.proofs.Common.{arith, sym, ◌∙◌}
-use Rattle.ncsb.specs.Successors.{quadruple}
-use Rattle.records.specs.Records.{blank}
-use Rattle.records.proofs.First.{scanned_met, scanned_all}
+use Rattle.std.proofs.Common.{rules, ◌≡◌, ◌∙◌, position}
+use Rattle.std.proofs.lemmas.Iterator.{YieldsList-from_slice}
+use Rattle.std.proofs.lemmas.Iterator.Search.{position_from_yields_List}
+use borrow.Author.Tests.{tests}
+use Rattle.ncsb.specs.Successors.{same}
+use Rattle.ncsb.proofs.Same.{equals_same}
+use Rattle.records.proofs.First.{number_first}
 use Rattle.records.proofs.find.Goals as goal
 
-pub returns-then-equals : goal.returns-then-equals
-unfolding blank quadruple
-returns-then-equals c =
-    scanned_met _ _ _ c.loop-number-test.true c.loop-number.invariant (sym c.equals.ensures ∙ c.if-equals.true)
-
 pub returns : goal.returns
-returns c = scanned_all _ _ _ (omega arith) c.loop-number.invariant
+returns c =
+    let first : c.position.result ≡ position (same c.args.x) c.args.records.now =
+    position_from_yields_List (same c.args.x) _ _ c.position.result c.position.ensures.ran (YieldsList-from_slice c.args.records.now cc)
+    (λ y b q k. search (rules, tests, equals_same)) in
+    c.unwrap_or.ensures ∙ rw first (number_first _ _)

@@ -14,12 +14,6 @@ power : (s : ℕ) → s < 2 ^ set_states → 1 * 2 ^ ones s % 2 ^ 64 ≡ 2 ^ siz
 power s l =
     let b = ones-le set_states s l in shift_one 64 (ones s) (omega arith) ∙ ap (λ (n : ℕ). 2 ^ n) (sym (size_ones set_states s l))
 
-pub overflow_cast-result : goal.overflow_cast-result
-overflow_cast-result c = let b = ones-le set_states c.args.set c.ranges.set.fits in omega arith
-
-pub overflow_shl-result : goal.overflow_shl-result
-overflow_shl-result c = let b = ones-le set_states c.args.set c.ranges.set.fits in omega arith
-
 pub returns : goal.returns
 returns c =
     let e = power c.args.set c.ranges.set.fits in record { number = e; listed = e ∙ sym (subsets_length set_states c.args.set) }

@@ -1,7 +1,6 @@
 use native.Mathlib.Omega.{arith}
 use Rattle.sets.specs.Sets.{set_states, nth_subset}
-use Rattle.sets.proofs.Lowest.{lowest_lt}
-use Rattle.sets.proofs.Walk.{clear_less, clear_lt, leave_turn, take_fits, take_turn, choose_end}
+use Rattle.sets.proofs.Walk.{clear_lt, leave_turn, take_fits, take_turn, choose_end}
 use Rattle.sets.proofs.nth_subset.Goals as goal
 use Rattle.sets.proofs.nth_subset.Goals.{then-digits-eq1, else-digits-eq1}
 
@@ -24,10 +23,6 @@ loop-members-preserved c =
       ],
     )
 
-pub overflow_shl-part : goal.overflow_shl-part
-overflow_shl-part c =
-    lowest_lt set_states c.loop-members.members c.loop-members.invariant.0 c.loop-members-test.true
-
 pub overflow_add-part : goal.overflow_add-part
 overflow_add-part c =
     let at = c.loop-members in
@@ -37,10 +32,6 @@ overflow_add-part c =
           take_fits set_states at.members at.digits at.part args.set args.choice at.invariant.0
           c.loop-members-test.true at.invariant.1 c.if-digits-eq1.true;
     }
-
-pub loop-members-smaller : goal.loop-members-smaller
-loop-members-smaller c =
-    clear_less set_states c.loop-members.members c.loop-members.invariant.0 c.loop-members-test.true
 
 pub returns : goal.returns
 unfolding nth_subset

@@ -1,54 +1,40 @@
-use mathlib.Core.Path.{◌≡◌}
+-- `list_refusal` meets its contract: where no lasso follows, those of the list are counted. Assumes nothing.
+use borrow.Author.Tests.{eqb-true, eqb-false}
+use mathlib.Core.Path.{◌≡◌, sym, ◌∙◌}
 use native.Mathlib.Omega.{arith}
 use lib.ListN.{length}
 use Rattle.trays.specs.Tray.{tray}
 use Rattle.trays.proofs.Refusals.{list_17, list_18, list_passes}
-use Rattle.trays.proofs.Walking.{end_further, counting_start, counting_turn, counting_cut, counting_over, counting_exact, counting_all}
+use Rattle.trays.proofs.Walking.{counting_few, counting_turn, counting_all, counting_left}
 use Rattle.trays.proofs.list_refusal.Goals as goal
-use Rattle.trays.proofs.list_refusal.Goals.{Else-at-list}
+use Rattle.trays.proofs.list_refusal.Goals.{After-is_empty}
 
-pub loop-at-init : goal.loop-at-init
-loop-at-init c = counting_start _
+pub loop-count-preserved : goal.loop-count-preserved
+loop-count-preserved c = counting_turn c.loop-count.invariant _ _ c.in-Some.ensures.steps
 
-pub lasso_end-end-requires : goal.lasso_end-end-requires
-lasso_end-end-requires c = c.loop-at-test.true
+pub overflow_add-count : goal.overflow_add-count
+overflow_add-count c =
+    record { fits = omega (arith, counting_few (counting_turn c.loop-count.invariant _ _ c.in-Some.ensures.steps)) }
 
-pub returns-then-end-list : goal.returns-then-end-list
-returns-then-end-list c =
-    let upto = c.loop-at.invariant.upto in
+-- where no lasso follows: what is left, and that all are counted
+module _ (c : After-is_empty) where
+  left : length c.next.new.self.list.now ≡ length (tray c.args.list.now).left
+  left = let (none, same) = c.in_default.ensures.steps in rw same (counting_left c.loop-count.invariant none)
+
+  all : c.loop-count.count ≡ length (tray c.args.list.now).lassos
+  all = let (none, same) = c.in_default.ensures.steps in counting_all c.loop-count.invariant none
+
+pub returns-then-not-is_empty : goal.returns-then-not-is_empty
+returns-then-not-is_empty c =
     list_17 _ _
-    (counting_cut c.loop-at.invariant c.loop-at-test.true c.lasso_end-end.ensures (omega (arith, c.if-end-list.true)))
+    (λ z. eqb-false _ _ (sym c.if-not-is_empty.ensures) (left (goal.at.returns-then-not-is_empty c).After-is_empty ∙ z))
 
-pub loop-at-smaller : goal.loop-at-smaller
-loop-at-smaller c =
-    let on = end_further c.args.list.now c.loop-at.at in
-    omega (arith, c.lasso_end-end.ensures, c.loop-at-test.true)
-
-pub loop-at-preserved : goal.loop-at-preserved
-loop-at-preserved c =
-    counting_turn c.loop-at.invariant c.loop-at-test.true c.lasso_end-end.ensures (omega (arith, c.if-end-list.false))
-
-pub returns-then-at-list : goal.returns-then-at-list
-returns-then-at-list c =
-    list_17 _ _ (counting_over c.loop-at.invariant c.loop-at-test.false (λ e. omega (arith, c.if-at-list.true)))
-
--- where the walk has ended at the list's end: nothing is left, and all lassos are counted
-module _ (c : Else-at-list) where
-  at_end : c.loop-at.at ≡ length c.args.list.now
-  at_end = let upto = c.loop-at.invariant.upto in omega (arith, c.loop-at-test.false, c.if-at-list.false)
-
-  nothing_left : length (tray c.args.list.now).left ≡ 0
-  nothing_left = counting_exact c.loop-at.invariant c.loop-at-test.false at_end
-
-  all_counted : c.loop-at.lassos ≡ length (tray c.args.list.now).lassos
-  all_counted = counting_all c.loop-at.invariant c.loop-at-test.false at_end
-
-pub returns-then-lassos-bytes : goal.returns-then-lassos-bytes
-returns-then-lassos-bytes c =
-    list_18 _ _ (nothing_left (goal.at.returns-then-lassos-bytes c).Else-at-list)
-    (all_counted (goal.at.returns-then-lassos-bytes c).Else-at-list) (λ e. omega (arith, c.if-lassos-bytes.true))
+pub returns-then-count-bytes : goal.returns-then-count-bytes
+returns-then-count-bytes c =
+    let at = (goal.at.returns-then-count-bytes c).After-is_empty in
+    list_18 _ _ (sym (left at) ∙ eqb-true _ _ (sym c.if-not-is_empty.ensures)) (all at) c.if-count-bytes.true
 
 pub returns : goal.returns
 returns c =
-    list_passes _ _ (nothing_left (goal.at.returns c).Else-at-list) (all_counted (goal.at.returns c).Else-at-list)
-    (omega (arith, c.if-lassos-bytes.false))
+    let at = (goal.at.returns c).After-is_empty in
+    list_passes _ _ (sym (left at) ∙ eqb-true _ _ (sym c.if-not-is_empty.ensures)) (all at) c.if-count-bytes.false

@@ -1,11 +1,7 @@
 -- `store_initials` stores the initial quadruples, by rising choice. The invariant: so many are stored. Assumes nothing.
-use Prim.Native.Nat.{◌≤◌, ◌-◌}
 use Rattle.tables.specs.Table.{wide_range}
 use Rattle.complement.proofs.Starting.{Storing}
 use Rattle.complement.proofs.explore.store_initials.Given as goal
 
 abbrev pub invariant-loop-choice : goal.invariant-loop-choice
-invariant-loop-choice l = (l.choice ≤ l.choices) × Storing wide_range l.shape l.initial.sets l.sets l.choice
-
-abbrev pub decreases-loop-choice : goal.decreases-loop-choice
-decreases-loop-choice l = l.choices - l.choice
+invariant-loop-choice l = Storing wide_range l.shape l.initial.sets l.sets l.choice

@@ -1,19 +1,6 @@
-use native.Mathlib.Omega.{arith}
-use Rattle.decimal.proofs.Digits.{counting_start, counting_small, counting_turn, counting_end}
+-- `places` counts a number's digits by its largest power of ten. Assumes nothing.
+use Rattle.decimal.proofs.Digits.{places_of}
 use Rattle.decimal.proofs.lines.places.Goals as goal
 
-pub loop-left-init : goal.loop-left-init
-loop-left-init c = counting_start c.args.n (omega arith)
-
-pub overflow_add-count : goal.overflow_add-count
-overflow_add-count c =
-    record { fits = omega (arith, counting_small c.loop-left-test.true c.loop-left.invariant) }
-
-pub loop-left-smaller : goal.loop-left-smaller
-loop-left-smaller c = omega (arith, c.loop-left-test.true)
-
-pub loop-left-preserved : goal.loop-left-preserved
-loop-left-preserved c = counting_turn c.loop-left-test.true c.loop-left.invariant
-
 pub returns : goal.returns
-returns c = counting_end c.loop-left-test.false c.loop-left.invariant
+returns c = let h = c.checked_ilog10.ensures in rw c.unwrap_or.ensures (places_of c.args.n _ h.none h.power_le h.next_power_gt h.bound)

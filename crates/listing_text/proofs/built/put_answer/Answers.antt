@@ -1,16 +1,23 @@
--- `put_answer` writes the refusal or the whole text, by the answer's number. Assumes nothing.
+-- `put_answer` writes the refusal or the whole text. Assumes nothing.
+use mathlib.Core.Path.{refl}
+use native.Mathlib.Omega.{arith}
+use Rattle.std.proofs.Common.{Ok, Err}
+use Rattle.basics.proofs.Refusals.{numbered}
+use Rattle.complement.specs.Build.{counted}
 use Rattle.listing_text.proofs.Printing.{answer_accepted, answer_refused}
 use Rattle.listing_text.proofs.built.put_answer.Goals as goal
 
-pub returns-then-answer-ne0 : goal.returns-then-answer-ne0
-returns-then-answer-ne0 c = answer_refused c.args.answer _ _ c.if-answer-ne0.true c.put_refused.ensures
+pub returns-in-Err : goal.returns-in-Err
+returns-in-Err c =
+    let from_one = (numbered c.in-Err.refusal).from_one in
+    rw c.in-Err.is
+    (answer_refused (counted (Err c.in-Err.refusal)) _ _ (λ none. omega (arith, from_one, none)) c.put_refused.ensures)
 
-pub put_accepted-requires : goal.put_accepted-requires
-put_accepted-requires c =
-    record {
-      printable = c.requires.printable_answer.accepted c.if-answer-ne0.false;
-      output_bytes_in_bounds = c.requires.output_bytes_in_bounds;
-    }
+pub put_accepted-requires-clause-printable : goal.put_accepted-requires-clause-printable
+put_accepted-requires-clause-printable c =
+    let answer = rw c.in-Ok.is at c.requires.printable_answer in (answer.accepted refl).printable
 
-pub returns : goal.returns
-returns c = answer_accepted c.args.answer _ _ c.if-answer-ne0.false c.put_accepted.ensures
+pub returns-in-Ok : goal.returns-in-Ok
+returns-in-Ok c =
+    let answer = rw c.in-Ok.is at c.requires.printable_answer in
+    rw c.in-Ok.is (answer_accepted (counted (Ok c.in-Ok.size)) _ _ refl (answer.accepted refl) c.put_accepted.ensures)

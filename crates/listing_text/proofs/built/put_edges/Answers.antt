@@ -1,54 +1,41 @@
 use native.Mathlib.Omega.{arith}
-use Rattle.decimal.proofs.Placing.{same_length as same_length_of, rowing_room}
-use Rattle.listing_text.proofs.Printing.{sourcing_start, record_asked, sourcing_small, sourcing_turn, sourcing_end}
+use Rattle.std.proofs.Common.{◌≡◌, ◌+◌, ◌-◌}
+use Rattle.listing_text.specs.Output.{edge_bytes}
+use Rattle.listing_text.proofs.Printing.{sourcing_start, sourcing_small, row_room, sourcing_turn, sourcing_end}
 use Rattle.listing_text.proofs.built.put_edges.Goals as goal
 
-pub first_source-source-requires : goal.first_source-source-requires
-first_source-source-requires c = c.requires.sourced.asks
+pub loop-number-init : goal.loop-number-init
+loop-number-init c = sourcing_start _ (omega (arith, c.requires.room)) c.first_source-next.ensures
 
-pub loop-written-init : goal.loop-written-init
-loop-written-init c =
-    let asked = c.requires in
-    let room = asked.edges_in_bounds in sourcing_start (omega arith) c.first_source-source.ensures
+pub put_edge-requires-clause-source_lt_most_states : goal.put_edge-requires-clause-source_lt_most_states
+put_edge-requires-clause-source_lt_most_states c =
+    let few = c.requires.sourced.few in
+    let small = sourcing_small c.loop-number.invariant c.unwrap-source.ensures in omega arith
 
-pub overflow_add-written : goal.overflow_add-written
-overflow_add-written c = record { fits = omega (arith, c.loop-written-test.true) }
+pub put_edge-requires-clause-room : goal.put_edge-requires-clause-room
+put_edge-requires-clause-room c =
+    let edges = c.records-number-end.ensures.is in
+    row_room edge_bytes c.requires.room (omega arith) c.loop-number.invariant.written
 
-pub put_edge-place-requires : goal.put_edge-place-requires
-put_edge-place-requires c =
-    let asked = c.requires in
-    let inside = c.loop-written-test.true in
-    let so_far = c.loop-written.invariant in
-    record {
-      record_asks = record_asked asked.sourced inside;
-      source_lt_most_states = sourcing_small so_far asked.sourced inside;
-      edge_bytes_in_bounds = rowing_room _ so_far.written asked.edges_in_bounds inside;
-    }
+pub source_behind-next-requires-clause-source_lt_states : goal.source_behind-next-requires-clause-source_lt_states
+source_behind-next-requires-clause-source_lt_states c =
+    let small = sourcing_small c.loop-number.invariant c.unwrap-source.ensures in omega arith
 
-pub overflow_add-written-in-loop-written : goal.overflow_add-written-in-loop-written
-overflow_add-written-in-loop-written c = record { fits = omega (arith, c.loop-written-test.true) }
-
-pub source_behind-source-requires : goal.source_behind-source-requires
-source_behind-source-requires c =
-    let asked = c.requires in
-    let inside = c.loop-written-test.true in
-    record {
-      record_asks = record_asked asked.sourced inside;
-      source_lt_most_states = sourcing_small c.loop-written.invariant asked.sourced inside;
-    }
-
-pub overflow_add-written-in-loop-written-2 : goal.overflow_add-written-in-loop-written-2
-overflow_add-written-in-loop-written-2 c = record { fits = omega (arith, c.loop-written-test.true) }
-
-pub loop-written-smaller : goal.loop-written-smaller
-loop-written-smaller c = omega (arith, c.loop-written-test.true)
-
-pub loop-written-preserved : goal.loop-written-preserved
-loop-written-preserved c =
-    sourcing_turn c.loop-written.invariant c.loop-written-test.true c.put_edge-place.ensures c.source_behind-source.ensures
-
-pub shape_of-output : goal.shape_of-output
-shape_of-output c = same_length_of c.loop-written.invariant.written.put
+pub loop-number-preserved : goal.loop-number-preserved
+loop-number-preserved c =
+    let edges = c.records-number-end.ensures.is in
+    let e : (c.loop-number.number + 1) - 1 ≡ c.loop-number.number = omega arith in
+    rw e
+    (sourcing_turn c.loop-number.invariant c.unwrap-source.ensures (omega arith) (omega arith) c.put_edge.ensures
+    c.source_behind-next.ensures)
 
 pub returns : goal.returns
-returns c = sourcing_end c.loop-written.invariant c.loop-written-test.false
+returns c = let edges = c.records-number-end.ensures.is in sourcing_end c.loop-number.invariant (omega arith)
+
+pub returns-2 : goal.returns-2
+returns-2 c =
+    let edges = c.records-number-end.ensures.is in
+    sourcing_end
+    (sourcing_turn c.loop-number.invariant c.unwrap-source.ensures (omega arith) (omega arith) c.put_edge.ensures
+    c.source_behind-next.ensures)
+    (omega arith)

@@ -1,11 +1,8 @@
--- `put_edges` writes one record behind the other. The invariant: the records passed are written, and `source` is that of the
--- next. Assumes nothing.
-use Prim.Native.Nat.{◌-◌}
+-- `put_edges` writes one record behind the other. The invariant: the records before `number` are written, and `next` is the source
+-- of this one. Assumes nothing.
+use Rattle.std.proofs.Common.{◌-◌}
 use Rattle.listing_text.proofs.Printing.{Sourcing}
 use Rattle.listing_text.proofs.built.put_edges.Given as goal
 
-abbrev pub invariant-loop-written : goal.invariant-loop-written
-invariant-loop-written l = Sourcing l.words l.edges l.initial.output l.at l.written l.source l.place l.output
-
-abbrev pub decreases-loop-written : goal.decreases-loop-written
-decreases-loop-written l = l.edges - l.written
+abbrev pub invariant-loop-number : goal.invariant-loop-number
+invariant-loop-number l = Sourcing l.table.words.now l.initial.output (l.number - 1) l.next l.output

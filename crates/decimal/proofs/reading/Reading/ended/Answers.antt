@@ -1,16 +1,9 @@
 -- `Reading::ended` stores the number under way behind the others, if one is. Assumes nothing.
-use Rattle.basics.proofs.Booleans.{true_not, false_not}
-use Rattle.decimal.proofs.Scanning.{ended_none, one_stored, fits16}
+use Rattle.decimal.proofs.Scanning.{none_under_way, ended_none, one_stored}
 use Rattle.decimal.proofs.reading.Reading.ended.Goals as goal
 
-pub returns-then-not-self : goal.returns-then-not-self
-returns-then-not-self c = ended_none c.requires (true_not _ c.if-not-self.true)
-
-pub overflow_cast-words : goal.overflow_cast-words
-overflow_cast-words c = fits16 c.requires
-
-pub bounds-words-count : goal.bounds-words-count
-bounds-words-count c = c.requires.placed (false_not _ c.if-not-self.false)
+pub returns-in_default : goal.returns-in_default
+returns-in_default c = ended_none c.requires (none_under_way c.args.self.state c.in_default.not-Within)
 
 pub returns : goal.returns
-returns c = one_stored c.requires (false_not _ c.if-not-self.false)
+returns c = one_stored c.in-Within.value c.requires c.in-Within.is
