@@ -8,8 +8,8 @@
 # prints behind its name, is judged here, by a list of what IS about a fact; a kind of error that is not on the list is never passed
 # over. rt cuts a line off behind some 200 characters, so a kind is known by how it begins. An edit is good if its first error
 #
-#   - stands in proofs/, or says of a function that it is not proved to give what it ensures or what it calls asks: an error in src/ or
-#     specs/ means that the edited line itself makes no sense;
+#   - stands in proofs/, or says of a function that it is not proved to give what it ensures, what it calls asks, or what a type says of
+#     its values: an error in src/ or specs/ means that the edited line itself makes no sense;
 #   - names a goal of its own, and does not miss one that a proof file has a name for;
 #   - is in no goal of the form LOOP-smaller, which asks that a loop ends;
 #   - does not ask that a number fits its word (a goal of the form overflow_…) or is below a power of 2, as a set of so many states is:
@@ -18,9 +18,10 @@
 #       two types, or the two sides of an equation, differ (what is to be proved, and what the proof proves);
 #       an equation that had to wait for an argument does not hold (rt prints a long error's beginning: of such a one its first term);
 #       omega, by itself or for search: the goal fails at numbers that it names;
+#       search, in an answer: it has no proof of a fact that it names;
 #       rw or simp without a last argument: two ends are left, and they differ;
 #       cc: the two sides are not equal by the equations at hand (not: it met a bound of its own before it knew);
-#       no proof is found of what a function ensures when it returns, or of what a call requires.
+#       no proof is found of what a function ensures when it returns, of what a call requires, or of what a value's ghost fields say.
 #
 # A further kind is added only after reading a log that has it.
 set -eu
@@ -37,6 +38,7 @@ judge() {
             if (told !~ /^refused, as it must be: /) return "a proof file has a name for what the edit took away"
             if (text ~ /^note: src\/[a-z_]+\.rt:[0-9:]+ it is not proved that what the function ensures holds when it returns/) return ""
             if (text ~ /^note: src\/[a-z_]+\.rt:[0-9:]+ it is not proved that what `[a-z_0-9:]+` requires holds at this call/) return ""
+            if (text ~ /^note: src\/[a-z_]+\.rt:[0-9:]+ `search` found no proof \(`invariant_of-/) return ""
             if (place !~ /^\.\/proofs\//) return "its first error is not in a proof"
             if (name ~ /-smaller(-[0-9]+)?$/) return "its first error is about the end of a loop"
             if (name ~ /^overflow_/ || text ~ /expected type `[^`]*(Fits |(<|≤|◌<◌|◌≤◌) [^`]*2 \^ )/) return "its first error is about the width of a number"
@@ -45,6 +47,7 @@ judge() {
             if (text ~ /^expected type `/) return ""
             if (text ~ /^`[^`]*` .*does not hold \(this comparison/ || text ~ /^`[^`]*$/) return ""
             if (text ~ /^(`search`: no proof of `.* )?`omega`: the goal does not follow from what it read/) return ""
+            if (text ~ /^`search`: no proof of `/) return ""
             if (text ~ /^give a proof of that as the last argument/) return ""
             if (text ~ /^list the missing equation/ && text !~ /bound of its own/) return ""
             return "its first error is of a kind that is not about a fact"
