@@ -18,10 +18,11 @@
 #       two types, or the two sides of an equation, differ (what is to be proved, and what the proof proves);
 #       an equation that had to wait for an argument does not hold (rt prints a long error's beginning: of such a one its first term);
 #       omega, by itself or for search: the goal fails at numbers that it names;
-#       search, in an answer: it has no proof of a fact that it names;
+#       search or grind, in an answer: it has no proof of the goal, which it proves without the edit;
 #       rw or simp without a last argument: two ends are left, and they differ;
 #       cc: the two sides are not equal by the equations at hand (not: it met a bound of its own before it knew);
-#       no proof is found of what a function ensures when it returns, of what a call requires, or of what a value's ghost fields say.
+#       no proof is found of what a function ensures when it returns, of what a call requires, of what a value's ghost fields say,
+#       or that a loop's invariant lasts.
 #
 # A further kind is added only after reading a log that has it.
 set -eu
@@ -39,6 +40,7 @@ judge() {
             if (text ~ /^note: src\/[a-z_]+\.rt:[0-9:]+ it is not proved that what the function ensures holds when it returns/) return ""
             if (text ~ /^note: src\/[a-z_]+\.rt:[0-9:]+ it is not proved that what `[a-z_0-9:]+` requires holds at this call/) return ""
             if (text ~ /^note: src\/[a-z_]+\.rt:[0-9:]+ `search` found no proof \(`invariant_of-/) return ""
+            if (text ~ /^note: src\/[a-z_]+\.rt:[0-9:]+ it is not proved that the invariant of the loop holds/) return ""
             if (place !~ /^\.\/proofs\//) return "its first error is not in a proof"
             if (name ~ /-smaller(-[0-9]+)?$/) return "its first error is about the end of a loop"
             if (name ~ /^overflow_/ || text ~ /expected type `[^`]*(Fits |(<|≤|◌<◌|◌≤◌) [^`]*2 \^ )/) return "its first error is about the width of a number"
@@ -48,6 +50,7 @@ judge() {
             if (text ~ /^`[^`]*` .*does not hold \(this comparison/ || text ~ /^`[^`]*$/) return ""
             if (text ~ /^(`search`: no proof of `.* )?`omega`: the goal does not follow from what it read/) return ""
             if (text ~ /^`search`: no proof of `/) return ""
+            if (text ~ /^`grind` (found no proof|stopped at its own limit)/) return ""
             if (text ~ /^give a proof of that as the last argument/) return ""
             if (text ~ /^list the missing equation/ && text !~ /bound of its own/) return ""
             return "its first error is of a kind that is not about a fact"
