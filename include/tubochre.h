@@ -76,7 +76,7 @@
 
 /* The version of this header, of the archives and of the programs. */
 #define TUBOCHRE_VERSION_MAJOR 0
-#define TUBOCHRE_VERSION_MINOR 4
+#define TUBOCHRE_VERSION_MINOR 5
 #define TUBOCHRE_VERSION_PATCH 0
 #define TUBOCHRE_VERSION_TEXT(major, minor, patch) #major "." #minor "." #patch
 #define TUBOCHRE_VERSION_OF(major, minor, patch) TUBOCHRE_VERSION_TEXT(major, minor, patch)

@@ -12,8 +12,8 @@ use Rattle.automata.specs.System.{add_edge, add_all}
 use Rattle.automata.proofs.Exploring.{add_all_more, grows_more}
 use Rattle.sets.specs.Sets.{set_states, size}
 use Rattle.tables.specs.Table.{Limits}
-use Rattle.ncsb.specs.Array.{from_array, asks, blocked_by, nth_successor}
-use Rattle.ncsb.specs.Successors.{quadruple, same, blocked, successors}
+use Rattle.ncsb.specs.Array.{from_array, nth_successor}
+use Rattle.ncsb.specs.Successors.{quadruple, same, asks, blocked_by, blocked, successors}
 use Rattle.ncsb.specs.declared.Asked.{Asked}
 use Rattle.ncsb.specs.declared.Quadruple.{Quadruple}
 use Rattle.ncsb.proofs.Choices.{blocked_same, choices_count, choice_successor}

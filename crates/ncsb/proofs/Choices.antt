@@ -9,11 +9,12 @@ use lib.ListN.{length, get_or}
 use lib.Pow.{pow_mono}
 use Rattle.sets.specs.Sets.{set_states, size}
 use Rattle.sets.proofs.Size.{size_le}
-use Rattle.ncsb.specs.Array.{from_array, nth_initial, asks, blocked_by, nth_successor}
-use Rattle.ncsb.specs.Successors.{quadruple, initial_for, initial_free, initials, dead_end, blocked, free, successor_for, successors}
+use Rattle.ncsb.specs.Array.{from_array, nth_initial, nth_successor}
+use Rattle.ncsb.specs.Lines.{no_dead_end}
+use Rattle.ncsb.specs.Successors.{quadruple, initial_for, initial_free, initials, free, asks, blocked_by, blocked, successor_for, successors}
 use Rattle.ncsb.specs.declared.Asked.{Asked}
 use Rattle.ncsb.specs.declared.Quadruple.{Quadruple}
-use Rattle.ncsb.proofs.Array.{blocked_asked, nth_initial_at, nth_successor_at}
+use Rattle.ncsb.proofs.Array.{nth_initial_at, nth_successor_at}
 use Rattle.ncsb.proofs.Initials.{initials_length}
 use Rattle.ncsb.proofs.Parting.{choices_length, choice_there}
 use Rattle.ncsb.proofs.Successors.{successors_some, successors_length}
@@ -26,8 +27,8 @@ module _ (m : List (List ℕ)) (f q2 : ℕ) (x : Quadruple) (c : ℕ) where
   pub blocked_same :
       {a : Asked} → a ≡ asks (from_array m 0 f q2) x c →
       blocked_by (from_array m 0 f 0) x c a ≡ blocked (from_array m 0 f q2) x c
-  unfolding from_array blocked_by dead_end
-  blocked_same e = rw e (blocked_asked (from_array m 0 f q2) x c)
+  unfolding from_array blocked blocked_by no_dead_end
+  blocked_same e = rw e refl
 
   pub choices_count :
       {a : Asked} → a ≡ asks (from_array m 0 f q2) x c → blocked (from_array m 0 f q2) x c ≡ false →

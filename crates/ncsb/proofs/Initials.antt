@@ -76,6 +76,12 @@ module _ {a : Automaton} {d : Moves} (sp : Spread a d) {s : ℕ} (choice : Choic
   first_start =
       record {
         small = first_small;
+        unmarked =
+            λ q.
+            rw (first_S d s)
+            (not_both (has s q && has d.marks q)
+            (λ h.
+            clash (and_r (has s q) h) (initial_free_unmarked d q (choice.within q (and_l (has d.marks q) h)))));
         initial_N =
             λ q. (
               (λ h.
@@ -95,12 +101,6 @@ module _ {a : Automaton} {d : Moves} (sp : Spread a d) {s : ℕ} (choice : Choic
         disjoint =
             λ q.
             cc (has_first_C d q s, first_S d s, parted_apart (has d.starts q && has d.inner q) (has s q));
-        unmarked =
-            λ q.
-            rw (first_S d s)
-            (not_both (has s q && has d.marks q)
-            (λ h.
-            clash (and_r (has s q) h) (initial_free_unmarked d q (choice.within q (and_l (has d.marks q) h)))));
         breakpoint = first_B d s;
       }
 

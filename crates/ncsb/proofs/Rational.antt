@@ -263,10 +263,10 @@ module _ {a : Automaton} {d : Moves} (spread : Spread a d) (split : Split a d) (
       go zero = m
       go (suc k) = rw (trace_target i p q k t e) (h k)
 
-  only_leaving :
+  not_leaving :
       (i p q : ℕ) → has (C_at i) p ≡ true → has d.marks p ≡ false → a.edge p (w i) q ≡ true →
       has (C_at (suc i)) q ≡ true
-  only_leaving i p q h m e =
+  not_leaving i p q h m e =
       let (x, t, s) = C_back i p h in
       let y = reached_on closed w i p q x e in
       let r = split.closed p (w i) q t e in
@@ -290,6 +290,7 @@ module _ {a : Automaton} {d : Moves} (spread : Spread a d) (split : Split a d) (
   rational_start =
       record {
         small = rational_small 0;
+        unmarked = rational_unmarked 0;
         initial_N = λ q. (
           (λ h. let (x, t) = N_back 0 q h in (t, x)),
           (λ h. N_make 0 q h.1 h.0),
@@ -299,7 +300,6 @@ module _ {a : Automaton} {d : Moves} (spread : Spread a d) (split : Split a d) (
           (λ h. CS_make 0 q h.1 h.0),
         );
         disjoint = rational_disjoint 0;
-        unmarked = rational_unmarked 0;
         breakpoint = refl;
       }
 
@@ -308,6 +308,7 @@ module _ {a : Automaton} {d : Moves} (spread : Spread a d) (split : Split a d) (
   rational_step i =
       record {
         small = rational_small (suc i);
+        unmarked = rational_unmarked (suc i);
         reachable_N = λ q. (
           (λ h.
               let (x, t) = N_back (suc i) q h in
@@ -317,9 +318,8 @@ module _ {a : Automaton} {d : Moves} (spread : Spread a d) (split : Split a d) (
         );
         reachable_CS = λ q. (led_back q, led_on q);
         disjoint = rational_disjoint (suc i);
-        unmarked = rational_unmarked (suc i);
         safe_stays = λ q h. safe_stays i h.0 q h.1 h.2;
-        only_leaving = only_leaving i;
+        not_leaving = not_leaving i;
         no_dead_end = no_dead_end i;
         breakpoint_empty = B_empty i;
         breakpoint_kept = B_kept i;

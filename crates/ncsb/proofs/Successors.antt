@@ -16,9 +16,10 @@ use Rattle.automata.specs.System.{Member}
 use Rattle.automata.proofs.Members.{member_index, index_member}
 use Rattle.sets.specs.Sets.{has, size, without, subsets}
 use Rattle.sets.proofs.Members.{has_and, has_or, has_without, has_lt, has_some, has_nonzero, ext, sum_join, without_lt}
+use Rattle.ncsb.specs.Lines.{targets, entering, reachable_N, reachable_CS, disjoint, safe_stays, not_leaving, followed, breakpoint}
 use Rattle.ncsb.specs.Moves.{Moves, Spread}
 use Rattle.ncsb.specs.Step.{Small, Leads, Step, RisingS}
-use Rattle.ncsb.specs.Successors.{quadruple, targets, next_N, entering, staying_safe, staying, leaving, tracked, blocked, free, next_B, successor_for, successors}
+use Rattle.ncsb.specs.Successors.{quadruple, leaving, free, asks, blocked, successor_by, successor_for, successors}
 use Rattle.ncsb.specs.declared.Quadruple.{Quadruple}
 use Rattle.ncsb.proofs.Free.{free_from, free_unmarked, free_not_safe, free_not_staying, free_make, has_tracked, Unblocked, blocked_no, no_blocked}
 use Rattle.ncsb.proofs.Parting.{Choice, choices_length, choices_rising, member_choice, choice_member, parted_all, parted_apart, rest_of, same_parts}
@@ -28,24 +29,24 @@ use Rattle.ncsb.proofs.Tracked.{safe_lead, lead_safe, staying_lead, lead_staying
 -- THE SUCCESSOR FOR A CHOICE of free targets, one state at a time
 module _ (d : Moves) (x : Quadruple) (c f q : ℕ) where
   has_new_N : has (successor_for d x c f).N q ≡ (has (targets d x.N c) q && not (has d.inner q))
-  unfolding successor_for quadruple next_N
+  unfolding successor_for successor_by asks quadruple reachable_N
   has_new_N = has_without (targets d x.N c) d.inner q
 
-  has_new_S : has (successor_for d x c f).S q ≡ (has (staying_safe d x c) q || has f q)
-  unfolding successor_for quadruple
-  has_new_S = has_or (staying_safe d x c) f q
+  has_new_S : has (successor_for d x c f).S q ≡ (has (safe_stays d x c) q || has f q)
+  unfolding successor_for successor_by asks quadruple
+  has_new_S = has_or (safe_stays d x c) f q
 
-  has_new_C : has (successor_for d x c f).C q ≡ (has (tracked d x c) q && not (has (successor_for d x c f).S q))
-  unfolding successor_for quadruple
-  has_new_C = has_without (tracked d x c) (bit_or (staying_safe d x c) f) q
+  has_new_C : has (successor_for d x c f).C q ≡ (has (reachable_CS d x c) q && not (has (successor_for d x c f).S q))
+  unfolding successor_for successor_by asks quadruple disjoint
+  has_new_C = has_without (reachable_CS d x c) (bit_or (safe_stays d x c) f) q
 
 module _ (d : Moves) (x : Quadruple) (c f : ℕ) where
   new_B_empty : x.B ≡ 0 → (successor_for d x c f).B ≡ (successor_for d x c f).C
-  unfolding successor_for quadruple next_B
+  unfolding successor_for successor_by asks quadruple followed breakpoint
   new_B_empty e = rw (eq_eqb e)
 
   new_B_kept : (x.B ≡ 0 → ⊥) → (successor_for d x c f).B ≡ bit_and (targets d x.B c) (successor_for d x c f).C
-  unfolding successor_for quadruple next_B
+  unfolding successor_for successor_by asks quadruple followed breakpoint
   new_B_kept n = rw (ne_eqb x.B 0 n)
 
 -- each choice where nothing blocks is a step
@@ -55,46 +56,46 @@ module _
   -- what is safe then was safe before, or was free
   choice_from :
       (q : ℕ) → has (successor_for d x c f).S q ≡ true →
-      (has (staying_safe d x c) q ≡ true) ⊎ (has (free d x c) q ≡ true)
+      (has (safe_stays d x c) q ≡ true) ⊎ (has (free d x c) q ≡ true)
   choice_from q h =
-      elim (or_true (has (staying_safe d x c) q) (has f q) (sym (has_new_S d x c f q) ∙ h)) [
+      elim (or_true (has (safe_stays d x c) q) (has f q) (sym (has_new_S d x c f q) ∙ h)) [
         | inl s ↦ inl s
         | inr s ↦ inr (choice.within q s)
       ]
 
-  choice_tracked : (q : ℕ) → has (successor_for d x c f).S q ≡ true → has (tracked d x c) q ≡ true
+  choice_tracked : (q : ℕ) → has (successor_for d x c f).S q ≡ true → has (reachable_CS d x c) q ≡ true
   choice_tracked q h =
       elim (choice_from q h) [
         | inl s ↦
             has_tracked d x c q
-            ∙ or_r (has (entering d x c) q || has (leaving d x c) q) (or_r (has (staying d x c) q) s)
+            ∙ or_r (has (entering d x c) q || has (leaving d x c) q) (or_r (has (not_leaving d x c) q) s)
         | inr s ↦
             has_tracked d x c q
-            ∙ or_l (has (staying d x c) q || has (staying_safe d x c) q) (free_from d x c q s)
+            ∙ or_l (has (not_leaving d x c) q || has (safe_stays d x c) q) (free_from d x c q s)
       ]
 
-  choice_all : (q : ℕ) → (has (successor_for d x c f).C q || has (successor_for d x c f).S q) ≡ has (tracked d x c) q
+  choice_all : (q : ℕ) → (has (successor_for d x c f).C q || has (successor_for d x c f).S q) ≡ has (reachable_CS d x c) q
   choice_all q =
-      let p = parted_all (has (tracked d x c) q) (has (successor_for d x c f).S q) (choice_tracked q) in
+      let p = parted_all (has (reachable_CS d x c) q) (has (successor_for d x c f).S q) (choice_tracked q) in
       cc (has_new_C d x c f q)
 
   choice_unmarked : (q : ℕ) → has (successor_for d x c f).S q ≡ true → has d.marks q ≡ false
   choice_unmarked q h = elim (choice_from q h) [ inl s ↦ u.safe_unmarked q s | inr s ↦ free_unmarked d x c q s ]
 
-  choice_not_staying : (q : ℕ) → has (successor_for d x c f).S q ≡ true → has (staying d x c) q ≡ false
+  choice_not_staying : (q : ℕ) → has (successor_for d x c f).S q ≡ true → has (not_leaving d x c) q ≡ false
   choice_not_staying q h = elim (choice_from q h) [ inl s ↦ u.apart q s | inr s ↦ free_not_staying d x c q s ]
 
-  choice_in_C : (q : ℕ) → has (staying d x c) q ≡ true → has (successor_for d x c f).C q ≡ true
+  choice_in_C : (q : ℕ) → has (not_leaving d x c) q ≡ true → has (successor_for d x c f).C q ≡ true
   choice_in_C q h =
       has_new_C d x c f q
       ∙ and_make
       (has_tracked d x c q
-      ∙ or_r (has (entering d x c) q || has (leaving d x c) q) (or_l (has (staying_safe d x c) q) h))
+      ∙ or_r (has (entering d x c) q || has (leaving d x c) q) (or_l (has (safe_stays d x c) q) h))
       (not_false (not_both (has (successor_for d x c f).S q) (λ s. clash h (choice_not_staying q s))))
 
   choice_small_C : (successor_for d x c f).C < 2 ^ d.states
-  unfolding successor_for quadruple
-  choice_small_C = without_lt d.states (tracked d x c) (bit_or (staying_safe d x c) f) (tracked_small sp x c)
+  unfolding successor_for successor_by asks quadruple disjoint
+  choice_small_C = without_lt d.states (reachable_CS d x c) (bit_or (safe_stays d x c) f) (tracked_small sp x c)
 
   -- B' is within C', whether B was empty or not
   choice_small_B : (successor_for d x c f).B < 2 ^ d.states
@@ -107,12 +108,12 @@ module _
       ]
 
   choice_small : Small d.states (successor_for d x c f)
-  unfolding successor_for quadruple next_N
+  unfolding successor_for successor_by asks quadruple reachable_N
   choice_small =
       record {
         small_N = without_lt d.states (targets d x.N c) d.inner (targets_small sp x.N c);
         small_C = choice_small_C;
-        small_S = or_lt d.states (staying_safe d x c) f (safe_small sp x c) choice.small;
+        small_S = or_lt d.states (safe_stays d x c) f (safe_small sp x c) choice.small;
         small_B = choice_small_B;
       }
 
@@ -138,6 +139,11 @@ module _
   choice_step =
       record {
         small = choice_small;
+        unmarked =
+            λ q.
+            not_both (has (successor_for d x c f).S q && has d.marks q)
+            (λ h.
+            clash (and_r (has (successor_for d x c f).S q) h) (choice_unmarked q (and_l (has d.marks q) h)));
         reachable_N =
             λ q. (
               (λ h.
@@ -157,14 +163,9 @@ module _
             );
         disjoint =
             λ q.
-            let p = parted_apart (has (tracked d x c) q) (has (successor_for d x c f).S q) in cc (has_new_C d x c f q);
-        unmarked =
-            λ q.
-            not_both (has (successor_for d x c f).S q && has d.marks q)
-            (λ h.
-            clash (and_r (has (successor_for d x c f).S q) h) (choice_unmarked q (and_l (has d.marks q) h)));
+            let p = parted_apart (has (reachable_CS d x c) q) (has (successor_for d x c f).S q) in cc (has_new_C d x c f q);
         safe_stays = λ q l. has_new_S d x c f q ∙ or_l (has f q) (lead_safe sp within c q l);
-        only_leaving = λ p q h m e. choice_in_C q (lead_staying sp within c q p h m e);
+        not_leaving = λ p q h m e. choice_in_C q (lead_staying sp within c q p h m e);
         no_dead_end =
             λ p h m.
             let on : has (without x.C d.marks) p ≡ true =
@@ -183,17 +184,17 @@ chosen d x c y = bit_and y.S (free d x c)
 module _
     {a : Automaton} {d : Moves} (sp : Spread a d) {x : Quadruple} (within : Small d.states x) (c : ℕ)
     {y : Quadruple} (s : Step a d x c y) where
-  step_safe : (q : ℕ) → has (staying_safe d x c) q ≡ true → has y.S q ≡ true
+  step_safe : (q : ℕ) → has (safe_stays d x c) q ≡ true → has y.S q ≡ true
   step_safe q h = s.safe_stays q (safe_lead sp within c q h)
 
-  step_staying : (q : ℕ) → has (staying d x c) q ≡ true → has y.C q ≡ true
+  step_staying : (q : ℕ) → has (not_leaving d x c) q ≡ true → has y.C q ≡ true
   step_staying q h =
-      let l = staying_lead sp within c q h in s.only_leaving l.0 q l.1 l.2 l.3
+      let l = staying_lead sp within c q h in s.not_leaving l.0 q l.1 l.2 l.3
 
   -- a safe state is no target of C without F
-  step_apart : (q : ℕ) → has y.S q ≡ true → has (staying d x c) q ≡ false
+  step_apart : (q : ℕ) → has y.S q ≡ true → has (not_leaving d x c) q ≡ false
   step_apart q h =
-      not_both (has (staying d x c) q) (λ t. clash (and_make (step_staying q t) h) (s.disjoint q))
+      not_both (has (not_leaving d x c) q) (λ t. clash (and_make (step_staying q t) h) (s.disjoint q))
 
   step_unmarked : (q : ℕ) → has y.S q ≡ true → has d.marks q ≡ false
   step_unmarked q h = not_both (has d.marks q) (λ m. clash (and_make h m) (s.unmarked q))
@@ -212,10 +213,10 @@ module _
         apart = λ q h. step_apart q (step_safe q h);
       }
 
-  step_all : (q : ℕ) → (has y.C q || has y.S q) ≡ has (tracked d x c) q
+  step_all : (q : ℕ) → (has y.C q || has y.S q) ≡ has (reachable_CS d x c) q
   unfolding TrackedBy
   step_all q =
-      same_truth (has y.C q || has y.S q) (has (tracked d x c) q)
+      same_truth (has y.C q || has y.S q) (has (reachable_CS d x c) q)
       (λ h. lead_tracked sp within c q ((s.reachable_CS q).0 h))
       (λ h. (s.reachable_CS q).1 (tracked_lead sp within c q h))
 
@@ -232,11 +233,11 @@ module _
       }
 
   -- what is safe and not so already was free
-  step_free : (q : ℕ) → has y.S q ≡ true → has (staying_safe d x c) q ≡ false → has (free d x c) q ≡ true
+  step_free : (q : ℕ) → has y.S q ≡ true → has (safe_stays d x c) q ≡ false → has (free d x c) q ≡ true
   step_free q h n =
       let t = sym (has_tracked d x c q) ∙ sym (step_all q) ∙ or_r (has y.C q) h in
       let apart = step_apart q h in
-      elim (or_true (has (entering d x c) q || has (leaving d x c) q) (has (staying d x c) q || has (staying_safe d x c) q) t) [
+      elim (or_true (has (entering d x c) q || has (leaving d x c) q) (has (not_leaving d x c) q || has (safe_stays d x c) q) t) [
         | inl e ↦ free_make d x c q e (step_unmarked q h) n apart
         | inr e ↦ absurd (clash e (or_false apart n))
       ]
@@ -244,16 +245,16 @@ module _
   chosen_has_S : (q : ℕ) → has (successor_for d x c (chosen d x c y)).S q ≡ has y.S q
   chosen_has_S q =
       has_new_S d x c (chosen d x c y) q
-      ∙ same_truth (has (staying_safe d x c) q || has (chosen d x c y) q) (has y.S q)
+      ∙ same_truth (has (safe_stays d x c) q || has (chosen d x c y) q) (has y.S q)
       (λ h.
-      elim (or_true (has (staying_safe d x c) q) (has (chosen d x c y) q) h) [
+      elim (or_true (has (safe_stays d x c) q) (has (chosen d x c y) q) h) [
         | inl e ↦ step_safe q e
         | inr e ↦ and_l (has (free d x c) q) (sym (has_chosen q) ∙ e)
       ])
       (λ h.
-      elim (either (has (staying_safe d x c) q)) [
+      elim (either (has (safe_stays d x c) q)) [
         | inl e ↦ or_l (has (chosen d x c y) q) e
-        | inr e ↦ or_r (has (staying_safe d x c) q) (has_chosen q ∙ and_make h (step_free q h e))
+        | inr e ↦ or_r (has (safe_stays d x c) q) (has_chosen q ∙ and_make h (step_free q h e))
       ])
 
   chosen_has_C : (q : ℕ) → has (successor_for d x c (chosen d x c y)).C q ≡ has y.C q
@@ -339,11 +340,11 @@ module _ (d : Moves) (x : Quadruple) (c : ℕ) where
 
   -- S' is d2 of S and the choice, apart
   choice_adds :
-      {f : ℕ} → Choice d.states (free d x c) f → (successor_for d x c f).S ≡ staying_safe d x c + f
-  unfolding successor_for quadruple
+      {f : ℕ} → Choice d.states (free d x c) f → (successor_for d x c f).S ≡ safe_stays d x c + f
+  unfolding successor_for successor_by asks quadruple
   choice_adds {f} choice =
       sym
-      (sum_join (staying_safe d x c) f
+      (sum_join (safe_stays d x c) f
       (λ q h. not_both (has f q) (λ g. clash h (free_not_safe d x c q (choice.within q g)))))
 
   -- successors come by rising S'
@@ -351,7 +352,7 @@ module _ (d : Moves) (x : Quadruple) (c : ℕ) where
   successors_rising blank i j l m =
       let e = successors_some (some_unblocked (omega arith)) in
       rw e
-      (choices_rising d.states (free d x c) (successor_for d x c) (staying_safe d x c) (λ f h. choice_adds h) blank i j l (rw e at m))
+      (choices_rising d.states (free d x c) (successor_for d x c) (safe_stays d x c) (λ f h. choice_adds h) blank i j l (rw e at m))
 
 -- SECTION 3.2: the list holds exactly the quadruples that follow x on the letter
 module _

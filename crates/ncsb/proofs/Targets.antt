@@ -1,15 +1,17 @@
--- The targets of a set on a letter: a state is among them exactly if an edge leads to it from the set. Assumes nothing.
+-- The targets of a set on a letter: a state is among them exactly if an edge leads to it from the set; and those of a set in two parts are
+-- those of the parts. Assumes nothing.
 use mathlib.Core.Path.{◌≡◌, sym, ◌∙◌}
-use mathlib.Core.Bool.{true, ◌&&◌}
+use mathlib.Core.Bool.{true, ◌&&◌, ◌||◌}
 use Prim.Native.Nat.{ℕ, ◌<◌, ◌^◌}
+use lib.Bits.{bit_and, bit_or}
 use Rattle.basics.proofs.Booleans.{and_l, and_r, and_make}
 use Rattle.basics.proofs.Bounded.{any_find, any_make}
 use Rattle.automata.specs.Automaton.{Automaton}
-use Rattle.sets.specs.Sets.{has}
-use Rattle.sets.proofs.Members.{has_union, has_lt, union_lt}
+use Rattle.sets.specs.Sets.{has, without}
+use Rattle.sets.proofs.Members.{has_union, has_union_or, has_lt, union_lt, within_or_without}
+use Rattle.ncsb.specs.Lines.{targets}
 use Rattle.ncsb.specs.Moves.{Moves, Spread}
 use Rattle.ncsb.specs.Step.{Leads}
-use Rattle.ncsb.specs.Successors.{targets}
 
 module _ {a : Automaton} {d : Moves} (sp : Spread a d) where
   pub targets_small : (s c : ℕ) → targets d s c < 2 ^ d.states
@@ -33,3 +35,13 @@ module _ {a : Automaton} {d : Moves} (sp : Spread a d) where
       has_union d.states s (λ p. d.move p c) q
       ∙ any_make d.states (λ p. has s p && has (d.move p c) q) p (has_lt d.states s p small h)
       (and_make h (sp.move p c q ∙ e))
+
+-- A SET IN TWO PARTS
+module _ (d : Moves) (c q : ℕ) where
+  pub targets_or : (s t : ℕ) → has (targets d (bit_or s t) c) q ≡ (has (targets d s c) q || has (targets d t c) q)
+  unfolding targets
+  targets_or s t = has_union_or d.states s t (λ p. d.move p c) q
+
+  pub targets_parts :
+      (s f : ℕ) → has (targets d s c) q ≡ (has (targets d (bit_and s f) c) q || has (targets d (without s f) c) q)
+  targets_parts s f = rw (within_or_without s f) at (targets_or (bit_and s f) (without s f))

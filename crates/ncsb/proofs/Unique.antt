@@ -52,7 +52,7 @@ module _ {a : Automaton} {d : Moves} {w : ℕ → ℕ} {f g : ℕ → Quadruple}
       (λ j p h.
       let free = not_both (has d.marks p) (λ m. clash (and_make h.1 m) (run_unmarked s j p)) in
       let (t, e) = (r.goes_on j).no_dead_end p h.0 free in
-      (t, e, ((r.goes_on j).only_leaving p t h.0 free e, (s.goes_on j).safe_stays t (p, h.1, e))))
+      (t, e, ((r.goes_on j).not_leaving p t h.0 free e, (s.goes_on j).safe_stays t (p, h.1, e))))
       i q (c, x)
 
   same_C : (i q : ℕ) → has (f i).C q ≡ true → has (g i).C q ≡ true

@@ -1,7 +1,7 @@
 -- The table by state and by letter gives the same quadruples as the pattern: the step over as many states as a set has room for and the step over
 -- the pattern's own agree on sets of its states. Assumes nothing.
 use mathlib.Core.Path.{◌≡◌, refl, ◌∙◌, ap, fun_ext}
-use mathlib.Core.Bool.{◌&&◌, cond}
+use mathlib.Core.Bool.{◌&&◌, not, cond}
 use mathlib.Core.List.{[], map}
 use Prim.Native.Nat.{ℕ, ◌^◌, ◌≤◌, ◌<◌}
 use native.Mathlib.Nat.{lt_of_le_of_lt}
@@ -13,9 +13,10 @@ use Rattle.automata.specs.Automaton.{Automaton}
 use Rattle.sets.specs.Sets.{has, without, union, subsets}
 use Rattle.sets.proofs.Members.{has_out, without_lt, union_past}
 use Rattle.sets.proofs.Subsets.{subsets_past}
+use Rattle.ncsb.specs.Lines.{targets, entering, reachable_N, reachable_CS, safe_stays, not_leaving, no_dead_end, followed}
 use Rattle.ncsb.specs.Moves.{Moves, Spread}
 use Rattle.ncsb.specs.Step.{Small}
-use Rattle.ncsb.specs.Successors.{targets, initial_for, initial_free, initials, next_N, entering, staying_safe, staying, leaving, tracked, dead_end, blocked, free, next_B, successor_for, successors}
+use Rattle.ncsb.specs.Successors.{initial_for, initial_free, initials, leaving, free, asks, blocked_by, blocked, successor_by, successor_for, successors}
 use Rattle.ncsb.specs.declared.Quadruple.{Quadruple}
 use Rattle.ncsb.proofs.Targets.{targets_small}
 
@@ -40,20 +41,20 @@ module _ {a : Automaton} {d e : Moves} (sp : Spread a d) (w : Widens d e) (x : Q
       union_past d.states e.states s (λ q. e.move q c) l w.states
       ∙ ap (union d.states s) (fun_ext (λ q. w.move q c))
 
-  next_N_same : next_N e x c ≡ next_N d x c
-  unfolding next_N
-  next_N_same = rw (targets_same x.N small.small_N, w.inner) refl
+  reachable_N_same : reachable_N e x c ≡ reachable_N d x c
+  unfolding reachable_N
+  reachable_N_same = rw (targets_same x.N small.small_N, w.inner) refl
 
   entering_same : entering e x c ≡ entering d x c
   unfolding entering
   entering_same = rw (targets_same x.N small.small_N, w.inner) refl
 
-  safe_same : staying_safe e x c ≡ staying_safe d x c
-  unfolding staying_safe
+  safe_same : safe_stays e x c ≡ safe_stays d x c
+  unfolding safe_stays
   safe_same = targets_same x.S small.small_S
 
-  staying_same : staying e x c ≡ staying d x c
-  unfolding staying targets
+  staying_same : not_leaving e x c ≡ not_leaving d x c
+  unfolding not_leaving targets
   staying_same =
       rw w.marks (targets_same (without x.C d.marks) (without_lt d.states x.C d.marks small.small_C))
 
@@ -63,9 +64,11 @@ module _ {a : Automaton} {d e : Moves} (sp : Spread a d) (w : Widens d e) (x : Q
       rw w.marks
       (targets_same (bit_and x.C d.marks) (lt_of_le_of_lt (and_le_l x.C d.marks) small.small_C))
 
-  tracked_same : tracked e x c ≡ tracked d x c
-  unfolding tracked
-  tracked_same = rw (entering_same, leaving_same, staying_same, safe_same) refl
+  tracked_same : reachable_CS e x c ≡ reachable_CS d x c
+  unfolding reachable_CS
+  tracked_same =
+      let both = or_lt d.states x.C x.S small.small_C small.small_S in
+      rw (entering_same, targets_same (bit_or x.C x.S) both) refl
 
   free_same : free e x c ≡ free d x c
   unfolding free
@@ -74,28 +77,29 @@ module _ {a : Automaton} {d e : Moves} (sp : Spread a d) (w : Widens d e) (x : Q
   free_small : free d x c < 2 ^ d.states
   unfolding free entering leaving
   free_small =
-      without_lt d.states (bit_or (entering d x c) (leaving d x c)) (bit_or d.marks (bit_or (staying_safe d x c) (staying d x c)))
+      without_lt d.states (bit_or (entering d x c) (leaving d x c)) (bit_or d.marks (bit_or (safe_stays d x c) (not_leaving d x c)))
       (or_lt d.states (entering d x c) (leaving d x c)
       (lt_of_le_of_lt (and_le_l (targets d x.N c) d.inner) (targets_small sp x.N c))
       (targets_small sp (bit_and x.C d.marks) c))
 
-  dead_end_same : dead_end e x c ≡ dead_end d x c
-  unfolding dead_end
-  dead_end_same =
+  no_dead_end_same : no_dead_end e x c ≡ no_dead_end d x c
+  unfolding no_dead_end
+  no_dead_end_same =
       let rest = without x.C d.marks in
       rw w.marks
+      (ap not
       (any_past d.states e.states (λ q. has rest q && eqb (e.move q c) 0) w.states
       (λ q l. and_false_l (eqb (e.move q c) 0) (has_out d.states rest q (without_lt d.states x.C d.marks small.small_C) l))
       ∙ any_same d.states (λ q. has rest q && eqb (e.move q c) 0) (λ q. has rest q && eqb (d.move q c) 0)
-      (λ q l. rw (w.move q c) refl))
+      (λ q l. rw (w.move q c) refl)))
 
   blocked_same : blocked e x c ≡ blocked d x c
-  unfolding blocked
-  blocked_same = rw (dead_end_same, safe_same, staying_same, w.marks) refl
+  unfolding blocked blocked_by asks
+  blocked_same = rw (no_dead_end_same, safe_same, staying_same, w.marks) refl
 
   successor_same : (f : ℕ) → successor_for e x c f ≡ successor_for d x c f
-  unfolding successor_for next_B
-  successor_same f = rw (safe_same, tracked_same, next_N_same, targets_same x.B small.small_B) refl
+  unfolding successor_for successor_by asks followed
+  successor_same f = rw (safe_same, tracked_same, reachable_N_same, targets_same x.B small.small_B) refl
 
   pub successors_same : successors e x c ≡ successors d x c
   unfolding successors

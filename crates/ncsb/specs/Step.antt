@@ -21,34 +21,35 @@ Leads a s c q = (p : ℕ) × (has s p ≡ true) × (a.edge p c q ≡ true)
 -- INITIAL: N is I in Q1; C and S part I in Q2 between them; S has nothing of F; B equals C
 pub record Start (a : Automaton) (d : Moves) (x : Quadruple) : Type 0 where
   pub small : Small d.states x
+  pub unmarked : (q : ℕ) → (has x.S q && has d.marks q) ≡ false
   pub initial_N : (q : ℕ) → (has x.N q ≡ true) ↔ ((has d.inner q ≡ false) × (a.initial q ≡ true))
   pub initial_CS : (q : ℕ) → ((has x.C q || has x.S q) ≡ true) ↔ ((has d.inner q ≡ true) × (a.initial q ≡ true))
   pub disjoint : (q : ℕ) → (has x.C q && has x.S q) ≡ false
-  pub unmarked : (q : ℕ) → (has x.S q && has d.marks q) ≡ false
   pub breakpoint : x.B ≡ x.C
 
--- THE STEP: what follows x on the letter c
+-- THE STEP: y = (N', C', S', B') follows x = (N, C, S, B) on the letter c. The set P of quadruples comes first, then the six lines of the
+-- transition function, each under the number and the name that it has in Lines.antt and in src/lines.rt
 pub record Step (a : Automaton) (d : Moves) (x : Quadruple) (c : ℕ) (y : Quadruple) : Type 0 where
+  -- P: four sets of states, and S' has nothing of F
   pub small : Small d.states y
-  -- tracing the reachable states: N' is d1 of N; C' and S' together are dt of N joined with d2 of C and S
+  pub unmarked : (q : ℕ) → (has y.S q && has d.marks q) ≡ false
+  -- 1. the reachable states are traced: N' is d1 of N, and C' and S' together are dt of N joined with d2 of C and S
   pub reachable_N : (q : ℕ) → (has y.N q ≡ true) ↔ ((has d.inner q ≡ false) × Leads a x.N c q)
   pub reachable_CS :
       (q : ℕ) →
       ((has y.C q || has y.S q) ≡ true)
       ↔ (((has d.inner q ≡ true) × Leads a x.N c q) ⊎ (Leads a x.C c q ⊎ Leads a x.S c q))
-  -- a run in Q2 is either safe or not
+  -- 2. a run in Q2 is either safe, or not
   pub disjoint : (q : ℕ) → (has y.C q && has y.S q) ≡ false
-  -- a safe run visits no accepting state
-  pub unmarked : (q : ℕ) → (has y.S q && has d.marks q) ≡ false
-  -- safe runs stay safe
+  -- 3. safe runs must stay safe: S' contains d2 of S
   pub safe_stays : (q : ℕ) → Leads a x.S c q → has y.S q ≡ true
-  -- only runs that leave an accepting state can become safe
-  pub only_leaving :
+  -- 4. only runs leaving an accepting state can become safe, so those not leaving one stay: C' contains d2 of C without F
+  pub not_leaving :
       (p q : ℕ) → has x.C p ≡ true → has d.marks p ≡ false → a.edge p c q ≡ true → has y.C q ≡ true
-  -- a run in C outside F does not end
+  -- 5. each state of C without F has a target: otherwise the run was safe already
   pub no_dead_end :
       (p : ℕ) → has x.C p ≡ true → has d.marks p ≡ false → (q : ℕ) × (a.edge p c q ≡ true)
-  -- the breakpoint: B starts anew from C' once it is empty, and else follows its runs within C'
+  -- 6. the breakpoint: if B is empty, B' is C'; otherwise d2 of B, cut to C'
   pub breakpoint_empty : x.B ≡ 0 → y.B ≡ y.C
   pub breakpoint_kept :
       (x.B ≡ 0 → ⊥) → (q : ℕ) → (has y.B q ≡ true) ↔ ((has y.C q ≡ true) × Leads a x.B c q)

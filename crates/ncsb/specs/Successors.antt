@@ -2,10 +2,11 @@
 -- successors on a letter by rising S', and the system of them. Assumes nothing: these are definitions.
 use Rattle.std.specs.Prelude.{Bool, ◌&&◌, ◌||◌, not, cond, List, [], ◌∷◌, map, ℕ, eqb}
 use Rattle.std.specs.Int.Bits.{bit_and, bit_or}
-use Rattle.basics.specs.Bounded.{any}
 use Rattle.automata.specs.System.{System}
-use Rattle.sets.specs.Sets.{has, without, union, subsets}
+use Rattle.sets.specs.Sets.{without, subsets}
+use Rattle.ncsb.specs.Lines.{targets, entering, reachable_N, reachable_CS, disjoint, safe_stays, not_leaving, no_dead_end, followed, breakpoint}
 use Rattle.ncsb.specs.Moves.{Moves}
+use Rattle.ncsb.specs.declared.Asked.{Asked}
 use Rattle.ncsb.specs.declared.Quadruple.{Quadruple}
 
 -- the quadruple (N, C, S, B) of four sets
@@ -24,10 +25,6 @@ same x y = (eqb x.N y.N && eqb x.C y.C) && (eqb x.S y.S && eqb x.B y.B)
 unfoldable pub accepting : Quadruple → Bool
 accepting x = eqb x.B 0
 
--- the targets of a set on a letter
-unfoldable pub targets : Moves → (set letter : ℕ) → ℕ
-targets d s c = union d.states s (λ q. d.move q c)
-
 -- INITIAL quadruples: S is chosen among the initial states of Q2 outside F
 unfoldable pub initial_free : Moves → ℕ
 initial_free d = without (bit_and d.starts d.inner) d.marks
@@ -41,54 +38,46 @@ initial_for d s =
 unfoldable pub initials : Moves → List Quadruple
 initials d = map (initial_for d) (subsets d.states (initial_free d))
 
--- WHAT ONE LETTER ASKS. Where N lies in Q1, and C and S in Q2, as in every reached quadruple: d1 of N
-unfoldable pub next_N : Moves → Quadruple → (letter : ℕ) → ℕ
-next_N d x c = without (targets d x.N c) d.inner
-
--- dt of N
-unfoldable pub entering : Moves → Quadruple → (letter : ℕ) → ℕ
-entering d x c = bit_and (targets d x.N c) d.inner
-
--- d2 of S
-unfoldable pub staying_safe : Moves → Quadruple → (letter : ℕ) → ℕ
-staying_safe d x c = targets d x.S c
-
--- d2 of C without F
-unfoldable pub staying : Moves → Quadruple → (letter : ℕ) → ℕ
-staying d x c = targets d (without x.C d.marks) c
-
--- d2 of C in F
+-- WHAT FOLLOWS ON A LETTER from the lines of section 3.2 (Lines.antt): which targets are free, whether the step is blocked, and the
+-- successors. d2 of C in F
 unfoldable pub leaving : Moves → Quadruple → (letter : ℕ) → ℕ
 leaving d x c = targets d (bit_and x.C d.marks) c
-
--- all of C' and S' together
-unfoldable pub tracked : Moves → Quadruple → (letter : ℕ) → ℕ
-tracked d x c = bit_or (bit_or (entering d x c) (leaving d x c)) (bit_or (staying d x c) (staying_safe d x c))
-
--- some state of C without F has no target
-unfoldable pub dead_end : Moves → Quadruple → (letter : ℕ) → Bool
-dead_end d x c = any d.states (λ q. has (without x.C d.marks) q && eqb (d.move q c) 0)
-
--- no quadruple follows: a dead end, a safe run that would meet F, or one that would be both safe and not
-unfoldable pub blocked : Moves → Quadruple → (letter : ℕ) → Bool
-blocked d x c =
-    dead_end d x c
-    || (not (eqb (bit_and (staying_safe d x c) d.marks) 0) || not (eqb (bit_and (staying_safe d x c) (staying d x c)) 0))
 
 -- the free targets: from dt of N or d2 of C in F, and neither in F, nor in d2 of S, nor in d2 of C without F
 unfoldable pub free : Moves → Quadruple → (letter : ℕ) → ℕ
 free d x c =
-    without (bit_or (entering d x c) (leaving d x c)) (bit_or d.marks (bit_or (staying_safe d x c) (staying d x c)))
+    without (bit_or (entering d x c) (leaving d x c)) (bit_or d.marks (bit_or (safe_stays d x c) (not_leaving d x c)))
 
--- if B is empty, B' is C'; otherwise d2 of B, cut to C'
-unfoldable pub next_B : Moves → Quadruple → (letter new_C : ℕ) → ℕ
-next_B d x c y = cond (eqb x.B 0) y (bit_and (targets d x.B c) y)
+-- what the lines ask of all that follows, worked out once for all choices
+unfoldable pub asks : Moves → Quadruple → (letter : ℕ) → Asked
+asks d x c =
+    record {
+      outer = reachable_N d x c;
+      tracked = reachable_CS d x c;
+      safe = safe_stays d x c;
+      staying = not_leaving d x c;
+      free = free d x c;
+      followed = followed d x c;
+    }
 
--- the successor for a choice of the free targets that become safe
+-- no quadruple follows, by what is asked: d2 of S meets F or d2 of C without F, or a state of C without F has no target
+unfoldable pub blocked_by : Moves → Quadruple → (letter : ℕ) → Asked → Bool
+blocked_by d x c a =
+    not (eqb (bit_and a.safe d.marks) 0) || (not (eqb (bit_and a.safe a.staying) 0) || not (no_dead_end d x c))
+
+-- the step is blocked: no quadruple follows on the letter
+unfoldable pub blocked : Moves → Quadruple → (letter : ℕ) → Bool
+blocked d x c = blocked_by d x c (asks d x c)
+
+-- the successor by what is asked and a choice of the free targets: S' is d2 of S and the choice, C' the rest of what is tracked
+unfoldable pub successor_by : Quadruple → Asked → (choice : ℕ) → Quadruple
+successor_by x a f =
+    let s = bit_or a.safe f in
+    let y = disjoint a.tracked s in quadruple a.outer y s (breakpoint x a.followed y)
+
+-- the successor for a choice of the free targets that become safe; where the step is blocked, what it would be without the block
 unfoldable pub successor_for : Moves → Quadruple → (letter choice : ℕ) → Quadruple
-successor_for d x c f =
-    let s = bit_or (staying_safe d x c) f in
-    let y = without (tracked d x c) s in quadruple (next_N d x c) y s (next_B d x c y)
+successor_for d x c f = successor_by x (asks d x c) f
 
 -- all of them, by rising S'; none where the step is blocked
 unfoldable pub successors : Moves → Quadruple → (letter : ℕ) → List Quadruple

@@ -3,10 +3,12 @@
 
 ghost use Rattle.std.specs.Prelude.{◌≡◌, [], ◌^◌};
 ghost use Rattle.sets.specs.Sets.{set_states, size};
-ghost use Rattle.ncsb.specs.Array.{from_array, nth_initial, asks, blocked_by, nth_successor};
-ghost use Rattle.ncsb.specs.Successors.{accepting, dead_end};
+ghost use Rattle.ncsb.specs.Array.{from_array, nth_initial, nth_successor};
+ghost use Rattle.ncsb.specs.Successors.{accepting, asks, blocked_by};
 
 use sets::TargetSets;
+
+mod lines;
 
 // What the step reads of a pattern beside the table of target sets: how many states and letters there are, and I, F in Q2 (the marks)
 // and Q2, each as a set of states.
@@ -29,20 +31,20 @@ pub struct Quadruple {
     pub B: u32,
 }
 
-// What a letter asks of a quadruple, worked out once for all choices.
+// What the lines of section 3.2 ask of all that follows a quadruple on a letter, worked out once for all choices.
 #[derive(Clone, Copy)]
 pub struct Asked {
-    // N', which is d1 of N
+    // 1. N', which is d1 of N
     pub outer: u32,
-    // C' and S' together
+    // 1. C' and S' together, which are dt of N joined with d2 of C and S
     pub tracked: u32,
-    // d2 of C without F, which stays in C'
-    pub staying: u32,
-    // d2 of S, which stays in S'
+    // 3. d2 of S, which S' contains
     pub safe: u32,
-    // the targets that may go to either
+    // 4. d2 of C without F, which C' contains
+    pub staying: u32,
+    // what these leave free: the targets that may go to C' or to S'
     pub free: u32,
-    // d2 of B
+    // 6. d2 of B, which B' is cut from unless B is empty
     pub followed: u32,
 }
 
@@ -70,76 +72,51 @@ impl Quadruple {
         self.B == 0
     }
 
-    // What the letter asks, in the order of the paper's conditions.
+    // What the letter asks, by lines 1, 3 and 4, and how line 6 follows B. They leave free what is tracked, and neither in F, nor in d2 of
+    // S, nor in d2 of C without F: these targets come from dt of N or d2 of C in F.
     pub fn on_letter(self, moves: &TargetSets, shape: Shape, letter: usize) -> Asked
         ensures { result ≡ asks (from_array moves.now 0 shape.marks shape.inner) self letter }
     {
-        // Tracing the reachable states: N' is d1 of N; C' and S' together are dt of N joined with d2 of C and S.
-        let reached = sets::targets(moves, letter, self.N);
-        let leaving = sets::targets(moves, letter, self.C & shape.marks);
-        let staying = sets::targets(moves, letter, sets::without(self.C, shape.marks));
-        let safe = sets::targets(moves, letter, self.S);
-        let moving = (reached & shape.inner) | leaving;
-        // Safe runs stay safe, and only runs that leave an accepting state or enter Q2 can become safe.
-        let bound = shape.marks | (safe | staying);
+        let reachable = lines::reachable(self, moves, shape, letter);
+        let safe = lines::safe_stays(self, moves, letter);
+        let staying = lines::not_leaving(self, moves, shape, letter);
         Asked {
-            outer: sets::without(reached, shape.inner),
-            tracked: moving | (staying | safe),
-            staying,
+            outer: reachable.outer,
+            tracked: reachable.tracked,
             safe,
-            free: sets::without(moving, bound),
-            followed: sets::targets(moves, letter, self.B),
+            staying,
+            free: sets::without(reachable.tracked, shape.marks | (safe | staying)),
+            followed: lines::followed(self, moves, letter),
         }
     }
 
-    // Some state of C without F has no target on the letter: the run that ends there was safe already. The members are walked from the
-    // lowest one up.
-    fn dead_end(self, moves: &TargetSets, shape: Shape, letter: usize) -> bool
-        ensures { result ≡ dead_end (from_array moves.now 0 shape.marks 0) self letter }
-    {
-        let mut left = sets::without(self.C, shape.marks);
-        while left != 0 {
-            let state = u32::trailing_zeros(left) as usize;
-            if sets::targets_of(moves, state, letter) == 0 {
-                return true;
-            }
-            left &= left - 1;
-        }
-        false
-    }
-
-    // No quadruple follows: a safe run would meet F or a run that has to stay in C, or one in C without F ends.
-    #[tactic(auto, unfolding(crate::specs::Array::blocked_by, crate::specs::Array::from_array))]
+    // No quadruple follows: what has to be safe by line 3 lies in F, or has to stay in C by line 4, and line 2 lets no run be both; or
+    // line 5 does not hold.
+    #[tactic(auto, unfolding(crate::specs::Successors::blocked_by, crate::specs::Array::from_array))]
     pub fn blocked(self, moves: &TargetSets, shape: Shape, letter: usize, asked: Asked) -> bool
         ensures { result ≡ blocked_by (from_array moves.now 0 shape.marks 0) self letter asked }
     {
-        if asked.safe & asked.staying != 0 {
-            return true;
-        }
         if asked.safe & shape.marks != 0 {
             return true;
         }
-        self.dead_end(moves, shape, letter)
+        if asked.safe & asked.staying != 0 {
+            return true;
+        }
+        !lines::no_dead_end(self, moves, shape, letter)
     }
 
-    // The successor for a choice of the free targets that become safe.
-    #[tactic(auto, unfolding(crate::specs::Array::nth_successor, crate::specs::Successors::quadruple))]
+    // The successor for a choice of the free targets that become safe: S' is d2 of S and the choice, and lines 2 and 6 give C' and B'.
+    #[tactic(auto, unfolding(crate::specs::Array::nth_successor, crate::specs::Successors::successor_by, crate::specs::Successors::quadruple))]
     pub fn successor(self, asked: Asked, choice: u32) -> Quadruple
         ensures { result ≡ nth_successor self asked choice }
     {
         let safe = asked.safe | sets::nth_subset(asked.free, choice);
-        let rest = sets::without(asked.tracked, safe);
-        // The breakpoint: once B is empty it starts anew from C', and else it follows its runs within C'.
-        let breakpoint = if self.B == 0 {
-            rest
-        } else {
-            asked.followed & rest
-        };
+        let rest = lines::disjoint(asked.tracked, safe);
         Quadruple {
             N: asked.outer,
             C: rest,
             S: safe,
-            B: breakpoint,
+            B: lines::breakpoint(self, asked.followed, rest),
         }
     }
 }

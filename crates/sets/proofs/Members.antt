@@ -11,8 +11,8 @@ use lib.Arith.{mod-mul}
 use lib.Pow.{pow_pos, pow_mono}
 use lib.Bits.{bit_and, bit_or, and_step, or_step, and_le_l, or_lt, or_disjoint}
 use Rattle.basics.specs.Bounded.{any}
-use Rattle.basics.proofs.Booleans.{either, and_r, and_make, clash, eqb_eq, eq_eqb, eqb_ne, ne_eqb, lt_ltb, ge_ltb, or_none, same_truth, same_or, below_or, below_suc}
-use Rattle.basics.proofs.Bounded.{search_to}
+use Rattle.basics.proofs.Booleans.{either, and_l, and_r, and_make, or_l, or_r, or_true, clash, eqb_eq, eq_eqb, eqb_ne, ne_eqb, lt_ltb, ge_ltb, or_none, same_truth, same_or, below_or, below_suc}
+use Rattle.basics.proofs.Bounded.{any_find, any_make, search_to}
 use Rattle.basics.proofs.Upward.{upward}
 use Rattle.sets.specs.Sets.{has, without, set_of, union}
 
@@ -165,6 +165,19 @@ has_nonzero s q h e = clash h (empty_no s q e)
 pub has_some : (k s : ℕ) → s < 2 ^ k → (s ≡ 0 → ⊥) → (q : ℕ) × (q < k) × (has s q ≡ true)
 has_some k s l n = elim (search_to k (has s)) [ inl r ↦ r | inr none ↦ absurd (n (empty k s l none)) ]
 
+in_or_out : (b c : Bool) → ((b && c) || (b && not c)) ≡ b
+in_or_out true true = refl
+in_or_out true false = refl
+in_or_out false c = refl
+
+-- a set is what it has within another, and what it has without it
+pub within_or_without : (a b : ℕ) → bit_or (bit_and a b) (without a b) ≡ a
+within_or_without a b =
+    ext_all (bit_or (bit_and a b) (without a b)) a
+    (λ q.
+    let both = in_or_out (has a q) (has b q) in
+    cc (has_or (bit_and a b) (without a b) q, has_and a b q, has_without a b q))
+
 -- two sets have no state in common exactly if their meet is empty
 pub apart_make : (a b : ℕ) → ((q : ℕ) → has a q ≡ true → has b q ≡ false) → bit_and a b ≡ 0
 apart_make a b apart =
@@ -275,6 +288,36 @@ has_union (suc k) s row r =
       | inl e ↦ cc
       | inr e ↦ rw e (ih ∙ sym (or_none (any k (λ q. has s q && has (row q) r))))
     ]
+
+-- of two sets joined: the rows of the one and of the other
+pub has_union_or :
+    (k s t : ℕ) (row : ℕ → ℕ) (r : ℕ) →
+    has (union k (bit_or s t) row) r ≡ (has (union k s row) r || has (union k t row) r)
+has_union_or k s t row r =
+    same_truth (has (union k (bit_or s t) row) r) (has (union k s row) r || has (union k t row) r) down up
+  where
+    from : (u : ℕ) → has (union k u row) r ≡ true → (q : ℕ) × (q < k) × (has u q ≡ true) × (has (row q) r ≡ true)
+    from u h =
+        let (q, l, e) = any_find k (λ q. has u q && has (row q) r) (sym (has_union k u row r) ∙ h) in
+        (q, l, and_l (has (row q) r) e, and_r (has u q) e)
+
+    into : (u q : ℕ) → q < k → has u q ≡ true → has (row q) r ≡ true → has (union k u row) r ≡ true
+    into u q l m e = has_union k u row r ∙ any_make k (λ q. has u q && has (row q) r) q l (and_make m e)
+
+    down : has (union k (bit_or s t) row) r ≡ true → (has (union k s row) r || has (union k t row) r) ≡ true
+    down h =
+        let (q, l, m, e) = from (bit_or s t) h in
+        elim (or_true (has s q) (has t q) (sym (has_or s t q) ∙ m)) [
+          | inl i ↦ or_l (has (union k t row) r) (into s q l i e)
+          | inr i ↦ or_r (has (union k s row) r) (into t q l i e)
+        ]
+
+    up : (has (union k s row) r || has (union k t row) r) ≡ true → has (union k (bit_or s t) row) r ≡ true
+    up h =
+        elim (or_true (has (union k s row) r) (has (union k t row) r) h) [
+          | inl i ↦ let (q, l, m, e) = from s i in into (bit_or s t) q l (has_or s t q ∙ or_l (has t q) m) e
+          | inr i ↦ let (q, l, m, e) = from t i in into (bit_or s t) q l (has_or s t q ∙ or_r (has s q) m) e
+        ]
 
 -- states beyond those that the set may have
 pub union_past : (n k s : ℕ) (row : ℕ → ℕ) → s < 2 ^ n → n ≤ k → union k s row ≡ union n s row

@@ -242,6 +242,16 @@ subsets_all k s y = (sound, complete)
 pub spread_zero : (k i : ℕ) → spread k 0 i ≡ 0
 spread_zero k i = ext_all (spread k 0 i) 0 (λ q. let z = has_zero q in elim (either (ltb q k)) [ inl e ↦ cc (has_spread k 0 i q) | inr e ↦ cc (has_spread k 0 i q) ])
 
+-- no digit is left, and none is chosen
+pub spread_none : (k s : ℕ) → spread k s 0 ≡ 0
+spread_none k s =
+    ext_all (spread k s 0) 0
+    (λ q.
+    let z = has_zero q in
+    let none = has_zero (size q s) in
+    let out = and_false_r (has s q) none in
+    elim (either (ltb q k)) [ inl e ↦ cc (has_spread k s 0 q) | inr e ↦ cc (has_spread k s 0 q) ])
+
 pub spread_turn :
     (k i : ℕ) {s t rest : ℕ} → s < 2 ^ k → Lowest s t rest →
     spread k s i ≡ cond (has i 0) (2 ^ t) 0 + spread k rest (i / 2)

@@ -18,7 +18,7 @@ use Rattle.basics.proofs.Packed.{shift_one}
 use Rattle.sets.specs.Sets.{has, size, subsets, union, without}
 use Rattle.sets.proofs.Lowest.{Lowest, lowest, lowest_lt, lowest_part}
 use Rattle.sets.proofs.Members.{ext, ext_all, first_made, first_unmade, has_and, has_lt, has_or, has_single, has_union, has_without, has_zero, without_lt}
-use Rattle.sets.proofs.Subsets.{spread, spread_lt, spread_mod, spread_turn, spread_zero, subsets_nth}
+use Rattle.sets.proofs.Subsets.{spread, spread_lt, spread_mod, spread_turn, subsets_nth}
 
 -- join is associative
 pub or_assoc : (a b c : ℕ) → bit_or (bit_or a b) c ≡ bit_or a (bit_or b c)
@@ -175,11 +175,10 @@ module _
         let t = spread_turn k digits l (lowest k left l n) in
         let t' = rw h at t in omega arith
 
+-- nothing more is chosen: no member is left, or no digit
 pub choose_end :
-    (k left digits part s i : ℕ) → left ≡ 0 → part + spread k left digits ≡ spread k s i →
+    (k left digits part s i : ℕ) → spread k left digits ≡ 0 → part + spread k left digits ≡ spread k s i →
     part ≡ get_or (subsets k s) (i % 2 ^ size k s) 0
-choose_end k left digits part s i z e =
-    let e' : part + spread k 0 digits ≡ spread k s i = rw z at e in
-    let none = spread_zero k digits in
+choose_end k left digits part s i none e =
     let p : part ≡ spread k s i = omega arith in
     p ∙ sym (spread_mod k s i) ∙ sym (subsets_nth k s (i % 2 ^ size k s) (mod-lt i (pow_pos (size k s))))

@@ -57,14 +57,15 @@ pub fn choices(set: u32) -> u64
 }
 
 // The part of a set that a choice names, by rising number; choices beyond the last begin anew.
-// The lowest digit of the choice says whether the lowest member is taken, the next digit says it of the next member.
+// The lowest digit of the choice says whether the lowest member is taken, the next digit says it of the next member. Where no digit is
+// left, no more members are taken.
 pub fn nth_subset(set: u32, choice: u32) -> u32
     ensures { result ≡ nth_subset set choice }
 {
     let mut members = set;
     let mut digits = choice;
     let mut part: u32 = 0;
-    while members != 0 {
+    while members != 0 && digits != 0 {
         if digits % 2 == 1 {
             part += 1 << u32::trailing_zeros(members);
         }

@@ -23,7 +23,8 @@ use Rattle.tables.specs.Rows.{pattern_A, pattern_B, no_initial, forked, doubled}
 use Rattle.tables.specs.Table.{pattern_range, wide_range, n_of, k_of, m_of, flags, flags_of, head_of, record_at, letter_of, target_of, next_of, is_initial, is_accepting, chain_has, edge, meaning, flags_good, records_good, named, heads_good, nexts_good, chains_good, table_refusal}
 use Rattle.tables.proofs.Laws.{valid, meaning_closed}
 use Rattle.ncsb.specs.Bound.{bound}
-use Rattle.ncsb.specs.Successors.{quadruple, four_sets, same, accepting, targets, initial_free, initial_for, initials, next_N, entering, staying_safe, staying, leaving, tracked, dead_end, blocked, free, next_B, successor_for, successors, ncsb}
+use Rattle.ncsb.specs.Lines.{targets, entering, reachable_N, reachable_CS, disjoint, safe_stays, not_leaving, no_dead_end, followed, breakpoint}
+use Rattle.ncsb.specs.Successors.{quadruple, four_sets, same, accepting, initial_free, initial_for, initials, leaving, blocked, free, successor_for, successors, ncsb, asks, blocked_by, successor_by}
 use Rattle.patterns.specs.Check.{check_refusal}
 use Rattle.patterns.specs.Pattern.{targets_of, initial_states, accepting_states, grown, reached_in, inner_of, marks_of, forks, semi_deterministic, moves}
 use Rattle.layout.specs.Chained.{first_record, next_record, flags_word, state_row, record_row, chained_words}
@@ -73,7 +74,7 @@ piece_test (complement_only t u v) = lasso_test (complement_words t) t u v
 
 -- the one computation
 pieces_pass : each (length pieces) (λ i. piece_test (piece i)) ≡ true
-unfolding same_words complement_test lasso_test piece_test each any count or_else rows has size without set_of union subsets takes? nodes product starts leads grown_nodes grow row marked tabulate on_cycle positions position_letter next_position an_edge built number_of with_state with_states add_edge add_all by_letters expand state_at explore_from begin explore edge_at listed numbered pattern_A pattern_B no_initial forked doubled pattern_range wide_range n_of k_of m_of flags flags_of head_of record_at letter_of target_of next_of is_initial is_accepting chain_has edge meaning flags_good records_good named heads_good nexts_good chains_good table_refusal quadruple four_sets same accepting targets initial_free initial_for initials next_N entering staying_safe staying leaving tracked dead_end blocked free next_B successor_for successors ncsb check_refusal targets_of initial_states accepting_states grown reached_in inner_of marks_of forks semi_deterministic moves least first_record next_record flags_word table_of state_row record_row chained_words room_refusal build_refusal bound system_of complement complement_automaton complement_words words_of sets_words digits decimal line ascii listing_bounds refused_line counts_line listing_room state_line edge_line accepted_text answered listing_of listing is_blank is_digit between under_way fault ended longer with_byte scan numbers_of read_numbers pieces piece
+unfolding same_words complement_test lasso_test piece_test each any count or_else rows has size without set_of union subsets takes? nodes product starts leads grown_nodes grow row marked tabulate on_cycle positions position_letter next_position an_edge built number_of with_state with_states add_edge add_all by_letters expand state_at explore_from begin explore edge_at listed numbered pattern_A pattern_B no_initial forked doubled pattern_range wide_range n_of k_of m_of flags flags_of head_of record_at letter_of target_of next_of is_initial is_accepting chain_has edge meaning flags_good records_good named heads_good nexts_good chains_good table_refusal quadruple four_sets same accepting initial_free initial_for initials entering leaving blocked free successor_for successors ncsb check_refusal targets_of initial_states accepting_states grown reached_in inner_of marks_of forks semi_deterministic moves least first_record next_record flags_word table_of state_row record_row chained_words room_refusal build_refusal bound system_of complement complement_automaton complement_words words_of sets_words digits decimal line ascii listing_bounds refused_line counts_line listing_room state_line edge_line accepted_text answered listing_of listing is_blank is_digit between under_way fault ended longer with_byte scan numbers_of read_numbers pieces piece targets reachable_N reachable_CS disjoint safe_stays not_leaving no_dead_end followed breakpoint asks blocked_by successor_by
 pieces_pass = refl
 
 complement_right : (t : List ℕ) (n m : ℕ) (s c : List ℕ) → complement_test t n m s c ≡ true → Gives t n m s c

@@ -5,9 +5,9 @@ use Rattle.basics.specs.Tabulate.{tabulate}
 use Rattle.sets.specs.Sets.{set_states, size}
 use Rattle.tables.specs.Rows.{pattern_A, pattern_B}
 use Rattle.tables.specs.Table.{meaning}
-use Rattle.ncsb.specs.Array.{from_array, nth_initial, asks, blocked_by, nth_successor}
+use Rattle.ncsb.specs.Array.{from_array, nth_initial, nth_successor}
 use Rattle.ncsb.specs.Moves.{Moves}
-use Rattle.ncsb.specs.Successors.{quadruple, initial_free}
+use Rattle.ncsb.specs.Successors.{quadruple, initial_free, asks, blocked_by}
 use Rattle.ncsb.specs.declared.Quadruple.{Quadruple}
 use Rattle.patterns.specs.Masks.{masks_of}
 use Rattle.patterns.specs.Pattern.{moves}

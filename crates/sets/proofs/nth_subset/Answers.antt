@@ -1,5 +1,6 @@
 use native.Mathlib.Omega.{arith}
 use Rattle.sets.specs.Sets.{set_states, nth_subset}
+use Rattle.sets.proofs.Subsets.{spread_none, spread_zero}
 use Rattle.sets.proofs.Walk.{clear_lt, leave_turn, take_fits, take_turn, choose_end}
 use Rattle.sets.proofs.nth_subset.Goals as goal
 use Rattle.sets.proofs.nth_subset.Goals.{then-digits-eq1, else-digits-eq1}
@@ -33,9 +34,20 @@ overflow_add-part c =
           c.loop-members-test.true at.invariant.1 c.if-digits-eq1.true;
     }
 
-pub returns : goal.returns
+-- no member is left
+pub returns-after-loop-members : goal.returns-after-loop-members
 unfolding nth_subset
-returns c =
+returns-after-loop-members c =
     let at = c.loop-members in
     let args = c.args in
-    choose_end set_states at.members at.digits at.part args.set args.choice c.loop-members-test.false at.invariant.1
+    choose_end set_states at.members at.digits at.part args.set args.choice
+    (rw c.loop-members-test.false (spread_zero set_states at.digits)) at.invariant.1
+
+-- no digit is left
+pub returns-else-digits-ne0 : goal.returns-else-digits-ne0
+unfolding nth_subset
+returns-else-digits-ne0 c =
+    let at = c.loop-members in
+    let args = c.args in
+    choose_end set_states at.members at.digits at.part args.set args.choice
+    (rw c.if-digits-ne0.false (spread_none set_states at.members)) at.invariant.1

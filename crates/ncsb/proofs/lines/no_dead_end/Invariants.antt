@@ -1,4 +1,4 @@
--- `Quadruple::dead_end` meets its contract. The loop's invariant: a member left has no target exactly if one of the set has none.
+-- `lines::no_dead_end` meets its contract. The loop's invariant: a member left has no target exactly if one of the set has none.
 -- The measure is the set of the members left, as a number. Assumes nothing.
 use mathlib.Core.Path.{◌≡◌}
 use mathlib.Core.Bool.{Bool}
@@ -8,7 +8,7 @@ use lib.Dec.{eqb}
 use lib.ListN.{get_or}
 use Rattle.sets.specs.Sets.{set_states}
 use Rattle.sets.proofs.Walk.{some_member}
-use Rattle.ncsb.proofs.Quadruple.dead_end.Given as goal
+use Rattle.ncsb.proofs.lines.no_dead_end.Given as goal
 
 -- the state has no target on the letter
 abbrev pub idle : List (List ℕ) → ℕ → ℕ → Bool
