@@ -87,6 +87,23 @@ module _ (d : Moves) (x : Quadruple) (c q : ℕ) where
       (targets_or d c q x.C x.S ∙ ap (λ (b : Bool). b || s) (targets_parts d c q x.C d.marks) ∙ or_assoc l t s)
       ∙ sym (or_assoc e l (t || s))
 
+-- so they are these four sets joined
+pub tracked_parts :
+    (d : Moves) (x : Quadruple) (c : ℕ) →
+    bit_or (entering d x c) (bit_or (bit_or (leaving d x c) (not_leaving d x c)) (safe_stays d x c)) ≡ reachable_CS d x c
+unfolding reachable_CS leaving not_leaving safe_stays
+tracked_parts d x c =
+    ap (bit_or (entering d x c)) (ext_all
+    (bit_or (bit_or (targets d (bit_and x.C d.marks) c) (targets d (without x.C d.marks) c)) (targets d x.S c))
+    (targets d (bit_or x.C x.S) c)
+    (λ q.
+    cc (
+      targets_or d c q x.C x.S,
+      targets_parts d c q x.C d.marks,
+      has_or (bit_or (targets d (bit_and x.C d.marks) c) (targets d (without x.C d.marks) c)) (targets d x.S c) q,
+      has_or (targets d (bit_and x.C d.marks) c) (targets d (without x.C d.marks) c) q,
+    )))
+
 one_taken_away : (m : Bool) → not (m || true) ≡ false
 one_taken_away true = refl
 one_taken_away false = refl

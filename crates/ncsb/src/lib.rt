@@ -78,14 +78,13 @@ impl Quadruple {
         ensures { result ≡ asks (from_array moves.now 0 shape.marks shape.inner) self letter }
     {
         let reachable = lines::reachable(self, moves, shape, letter);
-        let safe = lines::safe_stays(self, moves, letter);
-        let staying = lines::not_leaving(self, moves, shape, letter);
+        let bound = shape.marks | (reachable.safe | reachable.staying);
         Asked {
             outer: reachable.outer,
             tracked: reachable.tracked,
-            safe,
-            staying,
-            free: sets::without(reachable.tracked, shape.marks | (safe | staying)),
+            safe: reachable.safe,
+            staying: reachable.staying,
+            free: sets::without(reachable.tracked, bound),
             followed: lines::followed(self, moves, letter),
         }
     }

@@ -10,22 +10,32 @@ ghost use Rattle.ncsb.specs.Lines.{reachable_N, reachable_CS, disjoint, safe_sta
 use crate::{Quadruple, Shape};
 use sets::TargetSets;
 
-// The reachable states on a letter: N', and C' and S' together.
+// The reachable states on a letter: N', and C' and S' together; of these, what lines 3 and 4 are about.
 #[derive(Clone, Copy)]
 pub(crate) struct Traced {
     pub outer: u32,
     pub tracked: u32,
+    pub safe: u32,
+    pub staying: u32,
 }
 
-// 1. N' = d1(N) and C' ∪ S' = dt(N) ∪ d2(C ∪ S): the reachable states are traced.
+// 1. N' = d1(N) and C' ∪ S' = dt(N) ∪ d2(C ∪ S): the reachable states are traced. So that no state is followed twice, d2 of C and S is
+// joined from three parts: of C in F, of C without F (line 4) and of S (line 3).
 pub(crate) fn reachable(x: Quadruple, moves: &TargetSets, shape: Shape, letter: usize) -> Traced
-    ensures N { result.outer ≡ reachable_N (from_array moves.now 0 0 shape.inner) x letter }
-    ensures CS { result.tracked ≡ reachable_CS (from_array moves.now 0 0 shape.inner) x letter }
+    ensures N { result.outer ≡ reachable_N (from_array moves.now 0 shape.marks shape.inner) x letter }
+    ensures CS { result.tracked ≡ reachable_CS (from_array moves.now 0 shape.marks shape.inner) x letter }
+    ensures safe { result.safe ≡ safe_stays (from_array moves.now 0 shape.marks shape.inner) x letter }
+    ensures staying { result.staying ≡ not_leaving (from_array moves.now 0 shape.marks shape.inner) x letter }
 {
     let from_N = sets::targets(moves, letter, x.N);
+    let leaving = sets::targets(moves, letter, x.C & shape.marks);
+    let staying = not_leaving(x, moves, shape, letter);
+    let safe = safe_stays(x, moves, letter);
     Traced {
         outer: sets::without(from_N, shape.inner),
-        tracked: (from_N & shape.inner) | sets::targets(moves, letter, x.C | x.S),
+        tracked: (from_N & shape.inner) | (leaving | staying | safe),
+        safe,
+        staying,
     }
 }
 
