@@ -105,7 +105,6 @@ impl Quadruple {
     }
 
     // The successor for a choice of the free targets that become safe: S' is d2 of S and the choice, and lines 2 and 6 give C' and B'.
-    #[tactic(auto, unfolding(crate::specs::Array::nth_successor, crate::specs::Successors::successor_by, crate::specs::Successors::quadruple))]
     pub fn successor(self, asked: Asked, choice: u32) -> Quadruple
         ensures { result ≡ nth_successor self asked choice }
     {
