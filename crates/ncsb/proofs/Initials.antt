@@ -1,6 +1,6 @@
 -- The initial quadruples that the construction computes are exactly those of section 3.2, each once, by rising S. Assumes nothing.
 use mathlib.Core.Path.{◌≡◌, refl, sym, ◌∙◌, ap}
-use mathlib.Core.Bool.{true, false, ◌&&◌, ◌||◌, not}
+use mathlib.Core.Bool.{Bool, true, false, ◌&&◌, ◌||◌, not}
 use mathlib.Core.Logic.{◌↔◌}
 use Prim.Native.Nat.{ℕ, ◌<◌, ◌^◌}
 use native.Mathlib.Omega.{arith}
@@ -24,7 +24,8 @@ module _ (d : Moves) (q : ℕ) where
   has_initial_free : has (initial_free d) q ≡ ((has d.starts q && has d.inner q) && not (has d.marks q))
   unfolding initial_free
   has_initial_free =
-      cc (has_without (bit_and d.starts d.inner) d.marks q, has_and d.starts d.inner q)
+      has_without (bit_and d.starts d.inner) d.marks q
+      ∙ ap (λ (b : Bool). b && not (has d.marks q)) (has_and d.starts d.inner q)
 
   initial_free_in : has (initial_free d) q ≡ true → (has d.starts q && has d.inner q) ≡ true
   initial_free_in h = and_l (not (has d.marks q)) (sym has_initial_free ∙ h)
